@@ -1,0 +1,79 @@
+-- A call tests its conditions one after the other, lowest number first, and refuses at the first that applies: that is the
+-- lowest number that applies.
+--     refuse       refused where the test holds, else what comes after
+--     first        the first row that applies
+--     ascending    no row has a lower number than the row before it: computed, since the numbers are known
+-- Assumes nothing.
+use mathlib.Core.Path.{_≡_, refl, _∙_, ap}
+use mathlib.Core.Bool.{Bool, true, false, cond, _&&_}
+use mathlib.Core.List.{List, [], _∷_}
+use Prim.Native.Nat.{ℕ, _≤_}
+use native.Mathlib.Nat.{le-trans}
+use lib.Dec.{T, leb, leb→le}
+use borrow.Author.Tests.{le-ltb}
+use Rattle.refusal.specs.Refusal.{number}
+use Rattle.refusal.specs.Lowest.{Condition, lower, lowest}
+use Rattle.refusal.specs.declared.Refusal.{Refusal}
+use Rattle.refusal.specs.declared.Outcome.{Outcome}
+use Rattle.refusal.specs.declared.Outcome.the-variants.{Done, Refused}
+
+abbrev pub refuse : Bool → Refusal → Outcome → Outcome
+refuse true why next = Refused why
+refuse false why next = next
+
+abbrev pub first : List Condition → Outcome
+first [] = Done
+first (c ∷ rows) = refuse (c .applies) (c .why) (first rows)
+
+abbrev pub ascending : List Condition → Bool
+ascending [] = true
+ascending (c ∷ []) = true
+ascending (c ∷ d ∷ rows) = leb (number (c .why)) (number (d .why)) && ascending (d ∷ rows)
+
+-- every refusal that the outcome can be has at least the number n
+abbrev AtLeast : ℕ → Outcome → Type 0
+AtLeast n Done = Unit {0}
+AtLeast n (Refused why) = n ≤ number why
+
+and-left : (a b : Bool) → T (a && b) → T a
+and-left true b t = tt
+and-left false b t = t
+
+and-right : (a b : Bool) → T (a && b) → T b
+and-right true b t = t
+and-right false b t = absurd t
+
+weaken : {m n : ℕ} (o : Outcome) → m ≤ n → AtLeast n o → AtLeast m o
+weaken Done l h = tt
+weaken (Refused why) l h = le-trans l h
+
+later : (c : Condition) (rows : List Condition) → T (ascending (c ∷ rows)) → AtLeast (number (c .why)) (first rows)
+later c [] t = tt
+later c (d ∷ rows) t = pick (d .applies) (later d rows (and-right (leb (number (c .why)) (number (d .why))) (ascending (d ∷ rows)) t))
+  where
+    order : number (c .why) ≤ number (d .why)
+    order = leb→le _ _ (and-left (leb (number (c .why)) (number (d .why))) (ascending (d ∷ rows)) t)
+
+    pick : (b : Bool) → AtLeast (number (d .why)) (first rows) → AtLeast (number (c .why)) (refuse b (d .why) (first rows))
+    pick true h = order
+    pick false h = weaken (first rows) order h
+
+rest : (c : Condition) (rows : List Condition) → T (ascending (c ∷ rows)) → T (ascending rows)
+rest c [] t = tt
+rest c (d ∷ rows) t = and-right (leb (number (c .why)) (number (d .why))) (ascending (d ∷ rows)) t
+
+lower-first : (why : Refusal) (o : Outcome) → AtLeast (number why) o → lower why o ≡ Refused why
+unfolding lower
+lower-first why Done h = refl
+lower-first why (Refused other) h = ap (λ b. cond b (Refused other) (Refused why)) (le-ltb _ _ h)
+
+one-row : (b : Bool) (why : Refusal) (o : Outcome) → AtLeast (number why) o → cond b (lower why o) o ≡ refuse b why o
+one-row true why o h = lower-first why o h
+one-row false why o h = refl
+
+pub first-is : (rows : List Condition) → T (ascending rows) → lowest rows ≡ first rows
+unfolding lowest
+first-is [] t = refl
+first-is (c ∷ rows) t =
+    ap (λ o. cond (c .applies) (lower (c .why) o) o) (first-is rows (rest c rows t))
+    ∙ one-row (c .applies) (c .why) (first rows) (later c rows t)

@@ -1,0 +1,42 @@
+-- The refusals of document 01's table, and what a caller learns from an answer.
+--     number            document 01's number of a refusal
+--     outcomeNumber     the same of an outcome: 0 when the call completes
+--     Reply             what an answer says: its number, 0 when the call completes, and the values that it carries
+--     reply             the reply of an outcome: a refused call carries no value
+--     written           what a lent slice holds afterwards: the result, or, refused, what it held before
+-- Assumes nothing.
+use mathlib.Core.List.{List, []}
+use Prim.Native.Nat.{ℕ}
+use Rattle.refusal.specs.declared.Refusal.{Refusal}
+use Rattle.refusal.specs.declared.Refusal.the-variants.{Count, Contents, Index, Length, LooseWord, Over, Backwards, Vanishes, AllZero, Misfit, NoInverse}
+use Rattle.refusal.specs.declared.Outcome.{Outcome}
+use Rattle.refusal.specs.declared.Outcome.the-variants.{Done, Refused}
+
+abbrev pub number : Refusal → ℕ
+number Count = 1
+number Contents = 2
+number Index = 3
+number Length = 4
+number LooseWord = 5
+number Over = 6
+number Backwards = 7
+number Vanishes = 8
+number AllZero = 9
+number Misfit = 10
+number NoInverse = 11
+
+abbrev pub outcomeNumber : Outcome → ℕ
+outcomeNumber Done = 0
+outcomeNumber (Refused why) = number why
+
+pub record Reply : Type 0 where
+  pub number : ℕ
+  pub values : List ℕ
+
+abbrev pub reply : Outcome → List ℕ → Reply
+reply Done values = record { number = 0; values = values }
+reply (Refused why) values = record { number = number why; values = [] }
+
+abbrev pub written : Outcome → List ℕ → List ℕ → List ℕ
+written Done new old = new
+written (Refused why) new old = old

@@ -1,0 +1,60 @@
+// The refusals of the engine's calls, each with its number, and the limits of lists and albums.
+ghost use mathlib.Core.Path.{_≡_};
+ghost use Rattle.refusal.specs.Refusal.{number, outcomeNumber};
+
+// The longest list: 256 words, of naive degree 255.
+pub const MAX_WORDS: usize = 256;
+pub const MAX_DEGREE: usize = 255;
+
+// The largest album: 16 lists of 256 words.
+pub const MAX_LISTS: usize = 16;
+pub const MAX_BYTES: usize = 8241;
+
+pub enum Refusal {
+    Count,
+    Contents,
+    Index,
+    Length,
+    LooseWord,
+    Over,
+    Backwards,
+    Vanishes,
+    AllZero,
+    Misfit,
+    NoInverse,
+}
+
+// The answer of a call that hands back no value.
+pub enum Outcome {
+    Done,
+    Refused(Refusal),
+}
+
+// The number of a refusal.
+pub fn number_of(why: Refusal) -> u8
+    ensures { λ r. ⌜ r ≡ number why ⌝ }
+{
+    match why {
+        Refusal::Count => 1,
+        Refusal::Contents => 2,
+        Refusal::Index => 3,
+        Refusal::Length => 4,
+        Refusal::LooseWord => 5,
+        Refusal::Over => 6,
+        Refusal::Backwards => 7,
+        Refusal::Vanishes => 8,
+        Refusal::AllZero => 9,
+        Refusal::Misfit => 10,
+        Refusal::NoInverse => 11,
+    }
+}
+
+// The number of a refusal, or 0 where the call completes.
+pub fn outcome_number(outcome: Outcome) -> u8
+    ensures { λ r. ⌜ r ≡ outcomeNumber outcome ⌝ }
+{
+    match outcome {
+        Outcome::Done => 0,
+        Outcome::Refused(why) => number_of(why),
+    }
+}

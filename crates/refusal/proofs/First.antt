@@ -3,10 +3,11 @@
 --     refuse       refused where the test holds, else what comes after
 --     first        the first row that applies
 --     ascending    no row has a lower number than the row before it: computed, since the numbers are known
+--     or-else      the outcome of the first rows where they refuse, else that of the later ones
 -- Assumes nothing.
-use mathlib.Core.Path.{_≡_, refl, _∙_, ap}
+use mathlib.Core.Path.{_≡_, refl, sym, _∙_, ap}
 use mathlib.Core.Bool.{Bool, true, false, cond, _&&_}
-use mathlib.Core.List.{List, [], _∷_}
+use mathlib.Core.List.{List, [], _∷_, _++_}
 use Prim.Native.Nat.{ℕ, _≤_}
 use native.Mathlib.Nat.{le-trans}
 use lib.Dec.{T, leb, leb→le}
@@ -77,3 +78,36 @@ first-is [] t = refl
 first-is (c ∷ rows) t =
     ap (λ o. cond (c .applies) (lower (c .why) o) o) (first-is rows (rest c rows t))
     ∙ one-row (c .applies) (c .why) (first rows) (later c rows t)
+
+abbrev pub or-else : Outcome → Outcome → Outcome
+or-else Done next = next
+or-else (Refused why) next = Refused why
+
+first-append : (rows more : List Condition) → first (rows ++ more) ≡ or-else (first rows) (first more)
+first-append [] more = refl
+first-append (c ∷ rows) more = ap (refuse (c .applies) (c .why)) (first-append rows more) ∙ pick (c .applies)
+  where
+    pick : (b : Bool) → refuse b (c .why) (or-else (first rows) (first more)) ≡ or-else (refuse b (c .why) (first rows)) (first more)
+    pick true = refl
+    pick false = refl
+
+left-ascending : (rows more : List Condition) → T (ascending (rows ++ more)) → T (ascending rows)
+left-ascending [] more t = tt
+left-ascending (c ∷ []) more t = tt
+left-ascending (c ∷ d ∷ rows) more t =
+    and-both order (ascending (d ∷ rows)) (and-left order (ascending (d ∷ rows ++ more)) t)
+    (left-ascending (d ∷ rows) more (and-right order (ascending (d ∷ rows ++ more)) t))
+  where
+    order : Bool
+    order = leb (number (c .why)) (number (d .why))
+
+    and-both : (a b : Bool) → T a → T b → T (a && b)
+    and-both true b s t = t
+    and-both false b s t = s
+
+-- rows that one test answers, and the rows after them
+pub first-then : (rows more : List Condition) → T (ascending (rows ++ more)) → lowest (rows ++ more) ≡ or-else (lowest rows) (first more)
+first-then rows more t =
+    first-is (rows ++ more) t
+    ∙ first-append rows more
+    ∙ ap (λ o. or-else o (first more)) (sym (first-is rows (left-ascending rows more t)))

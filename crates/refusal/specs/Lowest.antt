@@ -23,8 +23,7 @@ pub record Condition : Type 0 where
   pub why : Refusal
   pub applies : Bool
 
-infix 50 _given-when_
-
+infix 68 _given-when_
 abbrev pub _given-when_ : Refusal → Bool → Condition
 why given-when test = record { why = why; applies = test }
 

@@ -2,7 +2,8 @@
 --     number            document 01's number of a refusal
 --     outcomeNumber     the same of an outcome: 0 when the call completes
 --     Reply             what an answer says: its number, 0 when the call completes, and the values that it carries
---     reply             the reply of an outcome: a refused call carries no value
+--     reply             the reply of an outcome with the values of a completed call: a refused call carries none
+--     outcomeReply      the reply of an Outcome, the answer of a call that hands back no value
 --     written           what a lent slice holds afterwards: the result, or, refused, what it held before
 -- Assumes nothing.
 use mathlib.Core.List.{List, []}
@@ -36,6 +37,9 @@ pub record Reply : Type 0 where
 abbrev pub reply : Outcome → List ℕ → Reply
 reply Done values = record { number = 0; values = values }
 reply (Refused why) values = record { number = number why; values = [] }
+
+abbrev pub outcomeReply : Outcome → Reply
+outcomeReply outcome = reply outcome []
 
 abbrev pub written : Outcome → List ℕ → List ℕ → List ℕ
 written Done new old = new

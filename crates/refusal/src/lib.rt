@@ -4,10 +4,12 @@ ghost use Rattle.refusal.specs.Refusal.{number, outcomeNumber};
 
 // The longest list: 256 words, of naive degree 255.
 pub const MAX_WORDS: usize = 256;
+
 pub const MAX_DEGREE: usize = 255;
 
 // The largest album: 16 lists of 256 words.
 pub const MAX_LISTS: usize = 16;
+
 pub const MAX_BYTES: usize = 8241;
 
 pub enum Refusal {

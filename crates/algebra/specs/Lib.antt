@@ -1,0 +1,20 @@
+-- The mathematics that the engine stands on. Each file uses only files above it; each opens with a glossary.
+pub mod Ring
+pub mod Prime
+pub mod Zp
+pub mod Series
+pub mod Polynomial
+pub mod Evaluation
+pub mod OneMinusT
+pub mod Homogenise
+pub mod Substitute
+pub mod Sum
+pub mod Degree
+pub mod Division
+pub mod Euclid
+pub mod Rounds
+pub mod Monic
+pub mod CommonDivisor
+pub mod Choose
+pub mod PrimeField
+pub mod Derivative

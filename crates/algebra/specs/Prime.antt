@@ -1,0 +1,84 @@
+-- Prime numbers, and a test by trial division that shows a number prime.
+--
+-- noDivisor p n    true when none of 2, …, n + 1 divides p
+-- primeTest p b    true when 1 < p < (b + 2)² and none of 2, …, b + 1 divides p
+-- Prime p          p is above 1, and only 1 and p divide it
+--
+-- Assumes nothing.
+use mathlib.Core.Path.{_≡_, refl, sym, _∙_, ap, subst}
+use mathlib.Core.Bool.{Bool, true, false, _&&_}
+use mathlib.Core.Logic.{_⊎_, inl, inr}
+use Prim.Native.Nat.{ℕ, zero, suc, _+_, _*_, _%_, _/_, _<_, _≤_, _∣_}
+use native.Mathlib.Nat as N
+use native.Mathlib.Decide.{ℕ-discrete, decLt}
+use native.Mathlib.Omega.{arith}
+use lib.Dec.{T, ltb, ltb→lt}
+
+pub record Prime (p : ℕ) : Type 0 where
+  pub big : 1 < p
+  pub only : (d : ℕ) → d ∣ p → (d ≡ 1) ⊎ (d ≡ p)
+
+abbrev pub noDivisor : ℕ → ℕ → Bool
+noDivisor p zero = true
+noDivisor p (suc n) = ltb 0 (p % (n + 2)) && noDivisor p n
+
+abbrev pub primeTest : ℕ → ℕ → Bool
+primeTest p b = ltb 1 p && (ltb p ((b + 2) * (b + 2)) && noDivisor p b)
+
+and-left : (a b : Bool) → T (a && b) → T a
+and-left true b t = tt
+and-left false b t = absurd t
+
+and-right : (a b : Bool) → T (a && b) → T b
+and-right true b t = t
+and-right false b t = absurd t
+
+noDivisor-sound : (p n d : ℕ) → T (noDivisor p n) → 2 ≤ d → d < n + 2 → ¬ (p % d ≡ 0)
+noDivisor-sound p zero d t h l e = omega arith
+noDivisor-sound p (suc n) d t h l e =
+    go
+    (λ l′. noDivisor-sound p n d (and-right (ltb 0 (p % (n + 2))) (noDivisor p n) t) h l′ e)
+    (ℕ-discrete d (n + 2))
+  where
+    go : (d < n + 2 → ⊥) → Dec (d ≡ n + 2) → ⊥
+    go ih (yes q) =
+        let t′ : 0 < p % (n + 2) = ltb→lt 0 (p % (n + 2)) (and-left (ltb 0 (p % (n + 2))) (noDivisor p n) t) in
+        N.ne-of-gt t′ (ap (λ x. p % x) (sym q) ∙ e)
+    go ih (no q) = ih (omega arith)
+
+-- a number that passes the test is prime: of two factors one is below b + 2
+pub prime-of-test : (p b : ℕ) → T (primeTest p b) → Prime p
+prime-of-test p b t = record { big = above; only = λ d h. divisor d h (decLt d (b + 2)) }
+  where
+    above : 1 < p
+    above = ltb→lt 1 p (and-left (ltb 1 p) (ltb p ((b + 2) * (b + 2)) && noDivisor p b) t)
+
+    rest : T (ltb p ((b + 2) * (b + 2)) && noDivisor p b)
+    rest = and-right (ltb 1 p) (ltb p ((b + 2) * (b + 2)) && noDivisor p b) t
+
+    square : p < (b + 2) * (b + 2)
+    square = ltb→lt p ((b + 2) * (b + 2)) (and-left (ltb p ((b + 2) * (b + 2))) (noDivisor p b) rest)
+
+    none : T (noDivisor p b)
+    none = and-right (ltb p ((b + 2) * (b + 2))) (noDivisor p b) rest
+
+    low : (d : ℕ) → d ∣ p → d < b + 2 → d ≡ 1
+    low zero h l = let e : p ≡ 0 = N.eq-zero-of-zero-dvd h in omega (arith, above)
+    low (suc zero) h l = refl
+    low (suc (suc d)) h l =
+        absurd (noDivisor-sound p b (suc (suc d)) none (omega arith) l (N.mod-eq-zero-of-dvd (suc (suc d)) h))
+
+    divisor : (d : ℕ) → d ∣ p → Dec (d < b + 2) → (d ≡ 1) ⊎ (d ≡ p)
+    divisor d h (yes l) = inl (low d h l)
+    divisor d h (no l) = high (decLt (p / d) (b + 2))
+      where
+        eq : p / d * d ≡ p
+        eq = N.div-mul-cancel d h
+
+        high : Dec (p / d < b + 2) → (d ≡ 1) ⊎ (d ≡ p)
+        high (yes l′) =
+            let one : p / d ≡ 1 = low (p / d) (subst (λ x. p / d ∣ x) eq (N.dvd-mul-right (p / d) d)) l′ in
+            inr (sym (N.one-mul d) ∙ ap (λ x. x * d) (sym one) ∙ eq)
+        high (no l′) =
+            let m : (b + 2) * (b + 2) ≤ p / d * d = N.mul-le-mul (omega arith) (omega arith) in
+            absurd (omega (arith, square, eq))

@@ -1,0 +1,4 @@
+pub mod Words
+pub mod Answers
+pub mod Table
+pub mod Euclid

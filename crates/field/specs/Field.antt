@@ -1,0 +1,82 @@
+-- The arithmetic of coefficients: words below p, with sum, difference, product and inverse modulo p.
+--     p                   document 01's p
+--     loose               a loose word: p or more, so no coefficient
+--     wordReply           what a Word answers: 0 and the word, or the refusal's number
+--     sumOf, differenceOf, productOf      the sum, difference and product of two coefficients modulo p
+--     IsInverse p a b     b is the inverse of a: from 1 to p - 1, a · b leaves 1 modulo p, and no other such word does
+--     inverseOf           the inverse of a coefficient, as the field Z/p has it
+--     inverseTable n F    the table of inverses: 0, then the inverses of 1, …, n
+--     hasInverse          some word below p is an inverse of a
+--     operandRefusals, inverseRefusals    the rows of document 01's table for a call on two operands, and for the inverse
+--     Inverts             what the inverse's answer is to its operand; no case gives 11
+-- Assumes nothing.
+use mathlib.Core.Path.{_≡_}
+use mathlib.Core.Bool.{Bool, false, not, _&&_, _||_}
+use mathlib.Core.Logic.{_⊎_}
+use mathlib.Core.List.{List, [], _∷_}
+use Prim.Native.Nat.{ℕ, zero, suc, _+_, _-_, _*_, _%_, _≤_, _<_}
+use lib.Dec.{leb, eqb}
+use Rattle.algebra.specs.PrimeField.{PrimeField, residue, value, inverse}
+use Rattle.refusal.specs.Refusal.{Reply, number}
+use Rattle.refusal.specs.Lowest.{Condition, _given-when_}
+use Rattle.refusal.specs.declared.Refusal.the-variants.{LooseWord, AllZero, NoInverse}
+use Rattle.field.specs.declared.Word.{Word}
+use Rattle.field.specs.declared.Word.the-variants.{Done, Refused}
+
+abbrev pub p : ℕ
+p = 65521
+
+abbrev pub loose : ℕ → ℕ → Bool
+loose p a = leb p a
+
+abbrev pub wordReply : Word → Reply
+wordReply (Done word) = record { number = 0; values = word ∷ [] }
+wordReply (Refused why) = record { number = number why; values = [] }
+
+abbrev pub operandRefusals : ℕ → ℕ → ℕ → List Condition
+operandRefusals p a b = LooseWord given-when (loose p a || loose p b) ∷ []
+
+abbrev pub sumOf : ℕ → ℕ → ℕ → ℕ
+sumOf p a b = (a + b) % p
+
+abbrev pub differenceOf : ℕ → ℕ → ℕ → ℕ
+differenceOf p a b = (a + (p - b)) % p
+
+abbrev pub productOf : ℕ → ℕ → ℕ → ℕ
+productOf p a b = (a * b) % p
+
+pub record IsInverse (p a b : ℕ) : Type 0 where
+  pub low : 1 ≤ b
+  pub high : b < p
+  pub one : (a * b) % p ≡ 1
+  pub only : (d : ℕ) → 1 ≤ d → d < p → (a * d) % p ≡ 1 → d ≡ b
+
+unfoldable pub inverseOf : PrimeField → ℕ → ℕ
+inverseOf F a = value F (inverse F (residue F a))
+
+-- the inverses of the n numbers k, k + 1, …
+unfoldable pub inversesFrom : ℕ → ℕ → PrimeField → List ℕ
+inversesFrom k zero F = []
+inversesFrom k (suc n) F = inverseOf F k ∷ inversesFrom (suc k) n F
+
+unfoldable pub inverseTable : ℕ → PrimeField → List ℕ
+inverseTable n F = 0 ∷ inversesFrom 1 n F
+
+-- some word below n is an inverse of a
+unfoldable pub hasInverseBelow : ℕ → ℕ → ℕ → Bool
+hasInverseBelow p a zero = false
+hasInverseBelow p a (suc n) = eqb ((a * n) % p) 1 || hasInverseBelow p a n
+
+abbrev pub hasInverse : ℕ → ℕ → Bool
+hasInverse p a = hasInverseBelow p a p
+
+abbrev pub inverseRefusals : ℕ → ℕ → List Condition
+inverseRefusals p a =
+    LooseWord given-when loose p a ∷
+    AllZero given-when eqb a 0 ∷
+    NoInverse given-when (not (eqb a 0) && not (hasInverse p a)) ∷
+    []
+
+abbrev pub Inverts : ℕ → ℕ → Word → Type 0
+Inverts p a (Done b) = IsInverse p a b
+Inverts p a (Refused why) = (number why ≡ 5) ⊎ (number why ≡ 9)

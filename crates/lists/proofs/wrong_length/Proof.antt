@@ -1,0 +1,18 @@
+-- `lists::wrong_length` meets its contract.
+-- Assumes nothing.
+use Rattle.lists.specs.Refused.{wrongLength}
+use borrow.Author.Tests.{eq-eqb, ne-eqb}
+use borrow.Author.Needs.{needs}
+use Rattle.lists.proofs.wrong_length.Statement.{statement}
+use Rattle.lists.proofs.wrong_length.Tie as tie
+
+returns : tie.Need-returns
+unfolding wrongLength
+returns c = simp (eq-eqb _ _ (c .if1 .taken))
+
+returns-2 : tie.Need-returns-2
+unfolding wrongLength
+returns-2 c = simp (ne-eqb _ _ (c .if1 .left))
+
+pub wrong-length-spec : {M : Type 1} → statement M
+wrong-length-spec = tie.close (tie.spec returns returns-2)

@@ -1,0 +1,29 @@
+-- The two counters of a list of words c_0 to c_n: its naive degree and its extent. They are never confused: the code has a struct
+-- for each.
+--     naiveDegree       document 01's naive degree, n
+--     significant       the number of words up to the last one that is not 0: the extent plus 1, and 0 for a zero list
+--     extent            document 01's extent of a list that is not zero: the largest k with c_k not 0
+--     power             document 01's power of a list that is not zero: n minus the extent
+-- Assumes nothing.
+use mathlib.Core.Bool.{cond}
+use mathlib.Core.List.{List}
+use Prim.Native.Nat.{ℕ, zero, suc, _-_}
+use lib.Dec.{eqb}
+use lib.ListN.{getD, length}
+
+unfoldable pub naiveDegree : List ℕ → ℕ
+naiveDegree c = length c - 1
+
+-- among the first n words
+unfoldable pub significantIn : ℕ → List ℕ → ℕ
+significantIn zero c = 0
+significantIn (suc n) c = cond (eqb (getD c n 0) 0) (significantIn n c) (suc n)
+
+unfoldable pub significant : List ℕ → ℕ
+significant c = significantIn (length c) c
+
+unfoldable pub extent : List ℕ → ℕ
+extent c = significant c - 1
+
+unfoldable pub power : List ℕ → ℕ
+power c = naiveDegree c - extent c

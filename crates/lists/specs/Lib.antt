@@ -1,0 +1,13 @@
+pub mod Tabulate
+pub mod Degrees
+pub mod Refused
+pub mod Lists
+pub mod Operations
+pub mod Scaled
+pub mod Words
+pub mod Products
+pub mod Extents
+pub mod Trims
+pub mod Sums
+pub mod Calculus
+pub mod Examples

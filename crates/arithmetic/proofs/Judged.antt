@@ -1,0 +1,215 @@
+-- What each call refuses, as the chain of tests that the code makes, and what a call that refuses nothing knows of its slices.
+-- Assumes nothing.
+use mathlib.Core.Path.{_≡_, refl, sym, _∙_, ap}
+use mathlib.Core.Bool.{Bool, true, false, not, _||_}
+use mathlib.Core.List.{List, [], _∷_}
+use Prim.Native.Nat.{ℕ, suc, _+_, _≤_, _<_, max}
+use native.Mathlib.Omega.{arith}
+use lib.Dec.{eqb, ltb}
+use lib.ListN.{length}
+use borrow.Author.Tests.{eqb-true, eqb-false, ltb-false, not-false, eq-eqb, ne-eqb, lt-ltb, le-ltb}
+use Rattle.refusal.specs.Limits.{maxDegree, maxWords}
+use Rattle.refusal.specs.Refusal.{outcomeReply, reply, written}
+use Rattle.refusal.specs.Lowest.{lowest}
+use Rattle.refusal.specs.declared.Refusal.{Refusal}
+use Rattle.refusal.specs.declared.Refusal.the-variants.{Over, Backwards, Misfit}
+use Rattle.refusal.specs.declared.Outcome.{Outcome}
+use Rattle.refusal.specs.declared.Outcome.the-variants.{Done, Refused}
+use Rattle.refusal.proofs.First.{refuse, or-else, first-then}
+use Rattle.lists.specs.Degrees.{naiveDegree}
+use Rattle.lists.specs.Refused.{wrongLength, hasLoose, anyOf, listRefusals}
+use Rattle.lists.proofs.Search.{none-loose}
+use Rattle.lists.proofs.Judged.{judged}
+use Rattle.arithmetic.specs.Calls.{productRefusals, raiseRefusals, sumRefusals}
+use Rattle.arithmetic.specs.Workers.{Listed, ProductFits, RaiseFits, SumFits}
+
+refuse-done : (b : Bool) (why : Refusal) (next : Outcome) → refuse b why next ≡ Done → (b ≡ false) × (next ≡ Done)
+refuse-done true why next e = (cc, cc)
+refuse-done false why next e = (refl, e)
+
+or-else-done : (o next : Outcome) → or-else o next ≡ Done → (o ≡ Done) × (next ≡ Done)
+or-else-done Done next e = (refl, e)
+or-else-done (Refused why) next e = (e, cc)
+
+or-false : (a b : Bool) → (a || b) ≡ false → (a ≡ false) × (b ≡ false)
+or-false true b e = (e, cc)
+or-false false b e = (refl, e)
+
+module _ (p : ℕ) (big : 0 < p) where
+  listed : (c : List ℕ) → wrongLength maxWords c ≡ false → hasLoose p c ≡ false → Listed p maxWords c
+  unfolding wrongLength
+  listed c e l =
+      let h = or-false (eqb (length c) 0) (ltb maxWords (length c)) e in
+      let z = eqb-false (length c) 0 (h .0) in
+      record { some = omega arith; short = ltb-false maxWords (length c) (h .1); words = none-loose p c big l }
+
+  one-listed : (f : List ℕ) → lowest (listRefusals p maxWords (f ∷ [])) ≡ Done → Listed p maxWords f
+  one-listed f e =
+      let h = refuse-done (anyOf (wrongLength maxWords) (f ∷ [])) _ _ (sym (judged p maxWords (f ∷ [])) ∙ e) in
+      let l = refuse-done (anyOf (hasLoose p) (f ∷ [])) _ _ (h .1) in
+      listed f (or-false (wrongLength maxWords f) false (h .0) .0) (or-false (hasLoose p f) false (l .0) .0)
+
+  two-listed : (f g : List ℕ) → lowest (listRefusals p maxWords (f ∷ g ∷ [])) ≡ Done → Listed p maxWords f × Listed p maxWords g
+  two-listed f g e =
+      let h = refuse-done (anyOf (wrongLength maxWords) (f ∷ g ∷ [])) _ _ (sym (judged p maxWords (f ∷ g ∷ [])) ∙ e) in
+      let l = refuse-done (anyOf (hasLoose p) (f ∷ g ∷ [])) _ _ (h .1) in
+      let hf = or-false (wrongLength maxWords f) (anyOf (wrongLength maxWords) (g ∷ [])) (h .0) in
+      let lf = or-false (hasLoose p f) (anyOf (hasLoose p) (g ∷ [])) (l .0) in
+      (listed f (hf .0) (lf .0), listed g (or-false (wrongLength maxWords g) false (hf .1) .0) (or-false (hasLoose p g) false (lf .1) .0))
+
+module _ (p : ℕ) (big : 0 < p) (f g out : List ℕ) where
+  product-judged : lowest (productRefusals p f g out)
+      ≡ or-else (lowest (listRefusals p maxWords (f ∷ g ∷ [])))
+      (refuse (ltb maxDegree (naiveDegree f + naiveDegree g)) Over
+      (refuse (not (eqb (length out) (suc (naiveDegree f + naiveDegree g)))) Misfit Done))
+  unfolding productRefusals listRefusals
+  product-judged = first-then (listRefusals p maxWords (f ∷ g ∷ [])) _ tt
+
+  pub product-refused : {why : Refusal} → lowest (listRefusals p maxWords (f ∷ g ∷ [])) ≡ Refused why
+      → Refused why ≡ lowest (productRefusals p f g out)
+  product-refused e = sym (product-judged ∙ simp e)
+
+  module _ (e : lowest (listRefusals p maxWords (f ∷ g ∷ [])) ≡ Done) where
+    pub product-over : maxDegree + 2 < length f + length g → Refused Over ≡ lowest (productRefusals p f g out)
+    unfolding naiveDegree
+    product-over l =
+        let s = two-listed p big f g e in
+        sym (product-judged ∙ simp (e, lt-ltb maxDegree (naiveDegree f + naiveDegree g) (omega arith)))
+
+    module _ (l : length f + length g ≤ maxDegree + 2) where
+      pub product-misfit : ¬ (length out + 1 ≡ length f + length g) → Refused Misfit ≡ lowest (productRefusals p f g out)
+      unfolding naiveDegree
+      product-misfit h =
+          let s = two-listed p big f g e in
+          sym
+          (product-judged
+          ∙ simp (
+            e,
+            le-ltb maxDegree (naiveDegree f + naiveDegree g) (omega arith),
+            ne-eqb (length out) (suc (naiveDegree f + naiveDegree g)) (λ q. h (omega arith)),
+          ))
+
+      pub product-done : length out + 1 ≡ length f + length g → Done ≡ lowest (productRefusals p f g out)
+      unfolding naiveDegree
+      product-done h =
+          let s = two-listed p big f g e in
+          sym
+          (product-judged
+          ∙ simp (
+            e,
+            le-ltb maxDegree (naiveDegree f + naiveDegree g) (omega arith),
+            eq-eqb (length out) (suc (naiveDegree f + naiveDegree g)) (omega arith),
+          ))
+
+  pub product-fits : Done ≡ lowest (productRefusals p f g out) → ProductFits maxWords f g out
+  unfolding naiveDegree
+  product-fits e =
+      let d = or-else-done (lowest (listRefusals p maxWords (f ∷ g ∷ []))) _ (sym product-judged ∙ sym e) in
+      let o = refuse-done (ltb maxDegree (naiveDegree f + naiveDegree g)) _ _ (d .1) in
+      let m = refuse-done (not (eqb (length out) (suc (naiveDegree f + naiveDegree g)))) _ _ (o .1) in
+      let s = two-listed p big f g (d .0) in
+      let l = ltb-false maxDegree (naiveDegree f + naiveDegree g) (o .0) in
+      let q = eqb-true (length out) (suc (naiveDegree f + naiveDegree g)) (not-false _ (m .0)) in
+      record { first = s .0 .some; second = s .1 .some; size = omega arith; short = omega arith }
+
+module _ (p : ℕ) (big : 0 < p) (f : List ℕ) (target : ℕ) (out : List ℕ) where
+  raise-judged : lowest (raiseRefusals p f target out)
+      ≡ or-else (lowest (listRefusals p maxWords (f ∷ [])))
+      (refuse (ltb maxDegree target) Over
+      (refuse (ltb target (naiveDegree f)) Backwards
+      (refuse (not (eqb (length out) (suc target))) Misfit Done)))
+  unfolding raiseRefusals listRefusals
+  raise-judged = first-then (listRefusals p maxWords (f ∷ [])) _ tt
+
+  pub raise-refused : {why : Refusal} → lowest (listRefusals p maxWords (f ∷ [])) ≡ Refused why
+      → Refused why ≡ lowest (raiseRefusals p f target out)
+  raise-refused e = sym (raise-judged ∙ simp e)
+
+  module _ (e : lowest (listRefusals p maxWords (f ∷ [])) ≡ Done) where
+    pub raise-over : maxDegree < target → Refused Over ≡ lowest (raiseRefusals p f target out)
+    raise-over l = sym (raise-judged ∙ simp (e, lt-ltb maxDegree target l))
+
+    module _ (l : target ≤ maxDegree) where
+      pub raise-backwards : target + 1 < length f → Refused Backwards ≡ lowest (raiseRefusals p f target out)
+      unfolding naiveDegree
+      raise-backwards b = sym (raise-judged ∙ simp (e, le-ltb maxDegree target l, lt-ltb target (naiveDegree f) (omega arith)))
+
+      module _ (b : length f ≤ target + 1) where
+        pub raise-misfit : ¬ (length out ≡ target + 1) → Refused Misfit ≡ lowest (raiseRefusals p f target out)
+        unfolding naiveDegree
+        raise-misfit h =
+            sym
+            (raise-judged
+            ∙ simp (
+              e,
+              le-ltb maxDegree target l,
+              le-ltb target (naiveDegree f) (omega arith),
+              ne-eqb (length out) (suc target) (λ q. h (omega arith)),
+            ))
+
+        pub raise-done : length out ≡ target + 1 → Done ≡ lowest (raiseRefusals p f target out)
+        unfolding naiveDegree
+        raise-done h =
+            sym
+            (raise-judged
+            ∙ simp (
+              e,
+              le-ltb maxDegree target l,
+              le-ltb target (naiveDegree f) (omega arith),
+              eq-eqb (length out) (suc target) (omega arith),
+            ))
+
+  pub raise-fits : Done ≡ lowest (raiseRefusals p f target out) → RaiseFits p maxWords f out × (naiveDegree out ≡ target)
+  unfolding naiveDegree
+  raise-fits e =
+      let d = or-else-done (lowest (listRefusals p maxWords (f ∷ []))) _ (sym raise-judged ∙ sym e) in
+      let o = refuse-done (ltb maxDegree target) _ _ (d .1) in
+      let b = refuse-done (ltb target (naiveDegree f)) _ _ (o .1) in
+      let m = refuse-done (not (eqb (length out) (suc target))) _ _ (b .1) in
+      let s = one-listed p big f (d .0) in
+      let l = ltb-false maxDegree target (o .0) in
+      let r = ltb-false target (naiveDegree f) (b .0) in
+      let q = eqb-true (length out) (suc target) (not-false _ (m .0)) in
+      (record { list = s; room = omega arith; short = omega arith }, omega arith)
+
+module _ (p : ℕ) (big : 0 < p) (f g out : List ℕ) where
+  sum-judged : lowest (sumRefusals p f g out)
+      ≡ or-else (lowest (listRefusals p maxWords (f ∷ g ∷ [])))
+      (refuse (not (eqb (length out) (suc (max (naiveDegree f) (naiveDegree g))))) Misfit Done)
+  unfolding sumRefusals listRefusals
+  sum-judged = first-then (listRefusals p maxWords (f ∷ g ∷ [])) _ tt
+
+  pub sum-refused : {why : Refusal} → lowest (listRefusals p maxWords (f ∷ g ∷ [])) ≡ Refused why
+      → Refused why ≡ lowest (sumRefusals p f g out)
+  sum-refused e = sym (sum-judged ∙ simp e)
+
+  module _ (e : lowest (listRefusals p maxWords (f ∷ g ∷ [])) ≡ Done) where
+    pub sum-misfit : ¬ (length out ≡ max (length f) (length g)) → Refused Misfit ≡ lowest (sumRefusals p f g out)
+    unfolding naiveDegree
+    sum-misfit h =
+        let s = two-listed p big f g e in
+        sym (sum-judged ∙ simp (e, ne-eqb (length out) (suc (max (naiveDegree f) (naiveDegree g))) (λ q. h (omega arith))))
+
+    pub sum-done : length out ≡ max (length f) (length g) → Done ≡ lowest (sumRefusals p f g out)
+    unfolding naiveDegree
+    sum-done h =
+        let s = two-listed p big f g e in
+        sym (sum-judged ∙ simp (e, eq-eqb (length out) (suc (max (naiveDegree f) (naiveDegree g))) (omega arith)))
+
+  pub sum-fits : Done ≡ lowest (sumRefusals p f g out) → SumFits p maxWords f g out
+  unfolding naiveDegree
+  sum-fits e =
+      let d = or-else-done (lowest (listRefusals p maxWords (f ∷ g ∷ []))) _ (sym sum-judged ∙ sym e) in
+      let m = refuse-done (not (eqb (length out) (suc (max (naiveDegree f) (naiveDegree g))))) _ _ (d .1) in
+      let s = two-listed p big f g (d .0) in
+      let q = eqb-true (length out) (suc (max (naiveDegree f) (naiveDegree g))) (not-false _ (m .0)) in
+      record { first = s .0; second = s .1; size = omega arith }
+
+-- a call answers what its judge found, and writes its slice only where that is Done
+pub done : {answer found : Outcome} → answer ≡ found → answer ≡ Done → (new old : List ℕ) {left : List ℕ} → left ≡ new
+    → (outcomeReply answer ≡ reply found []) × (left ≡ written found new old)
+done e d new old q = (ap outcomeReply e, q ∙ sym (ap (λ o. written o new old) (sym e ∙ d)))
+
+pub refused : {answer found : Outcome} {why : Refusal} → answer ≡ found → answer ≡ Refused why → (new old : List ℕ)
+    → (outcomeReply answer ≡ reply found []) × (old ≡ written found new old)
+refused e d new old = (ap outcomeReply e, sym (ap (λ o. written o new old) (sym e ∙ d)))

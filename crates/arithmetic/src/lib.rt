@@ -1,0 +1,248 @@
+// Product, raise, sum and difference of lists.
+ghost use mathlib.Core.Path.{_≡_};
+ghost use mathlib.Core.List.{[]};
+ghost use Prim.Native.Nat.{max};
+ghost use lib.ListN.{length};
+ghost use Rattle.algebra.specs.PrimeField.{F65521};
+ghost use Rattle.refusal.specs.Limits.{maxWords};
+ghost use Rattle.refusal.specs.Refusal.{reply, outcomeReply, written};
+ghost use Rattle.refusal.specs.Lowest.{lowest};
+ghost use Rattle.field.specs.Field.{p};
+ghost use Rattle.lists.specs.Degrees.{naiveDegree};
+ghost use Rattle.lists.specs.Operations as of;
+ghost use Rattle.arithmetic.specs.Calls.{productRefusals, raiseRefusals, sumRefusals};
+ghost use Rattle.arithmetic.specs.Workers.{ProductFits, RaiseFits, SumFits, wordSums, wordDifferences};
+use lists::NaiveDegree;
+use refusal::Outcome;
+use refusal::Refusal;
+
+// The product of f and g, of naive degree d + e.
+pub fn product(f: &[u16], g: &[u16], out: &mut [u16]) -> Outcome
+    ensures answer { λ r. ⌜ outcomeReply r ≡ reply (lowest (productRefusals p (now (f .entry)) (now (g .entry)) (now (out .entry)))) [] ⌝ }
+    ensures writes { λ _. ⌜ now (out .exit) ≡ written (lowest (productRefusals p (now (f .entry)) (now (g .entry)) (now (out .entry)))) (of.product F65521 (now (f .entry)) (now (g .entry))) (now (out .entry)) ⌝ }
+{
+    let answer = judge_product(f, g, out);
+    match answer {
+        Outcome::Done => {
+            product_into(f, g, out);
+        }
+        Outcome::Refused(_) => {}
+    }
+    answer
+}
+
+// f raised to the naive degree `to`.
+pub fn raise(f: &[u16], to: NaiveDegree, out: &mut [u16]) -> Outcome
+    ensures answer { λ r. ⌜ outcomeReply r ≡ reply (lowest (raiseRefusals p (now (f .entry)) (to .0) (now (out .entry)))) [] ⌝ }
+    ensures writes { λ _. ⌜ now (out .exit) ≡ written (lowest (raiseRefusals p (now (f .entry)) (to .0) (now (out .entry)))) (of.raise F65521 (to .0) (now (f .entry))) (now (out .entry)) ⌝ }
+{
+    let answer = judge_raise(f, to, out);
+    match answer {
+        Outcome::Done => {
+            raise_into(f, out);
+        }
+        Outcome::Refused(_) => {}
+    }
+    answer
+}
+
+// The sum of f and g, the shorter list raised first.
+pub fn sum(f: &[u16], g: &[u16], out: &mut [u16]) -> Outcome
+    ensures answer { λ r. ⌜ outcomeReply r ≡ reply (lowest (sumRefusals p (now (f .entry)) (now (g .entry)) (now (out .entry)))) [] ⌝ }
+    ensures writes { λ _. ⌜ now (out .exit) ≡ written (lowest (sumRefusals p (now (f .entry)) (now (g .entry)) (now (out .entry)))) (of.sumOf F65521 (now (f .entry)) (now (g .entry))) (now (out .entry)) ⌝ }
+{
+    let answer = judge_sum(f, g, out);
+    match answer {
+        Outcome::Done => {
+            sum_into(f, g, out);
+        }
+        Outcome::Refused(_) => {}
+    }
+    answer
+}
+
+// f less g, the shorter list raised first.
+pub fn difference(f: &[u16], g: &[u16], out: &mut [u16]) -> Outcome
+    ensures answer { λ r. ⌜ outcomeReply r ≡ reply (lowest (sumRefusals p (now (f .entry)) (now (g .entry)) (now (out .entry)))) [] ⌝ }
+    ensures writes { λ _. ⌜ now (out .exit) ≡ written (lowest (sumRefusals p (now (f .entry)) (now (g .entry)) (now (out .entry)))) (of.differenceOf F65521 (now (f .entry)) (now (g .entry))) (now (out .entry)) ⌝ }
+{
+    let answer = judge_sum(f, g, out);
+    match answer {
+        Outcome::Done => {
+            difference_into(f, g, out);
+        }
+        Outcome::Refused(_) => {}
+    }
+    answer
+}
+
+// What the product refuses.
+fn judge_product(f: &[u16], g: &[u16], out: &[u16]) -> Outcome
+    ensures { λ r. ⌜ r ≡ lowest (productRefusals p (now (f .entry)) (now (g .entry)) (now (out .entry))) ⌝ }
+{
+    if let Outcome::Refused(why) = lists::judge_lists(f, g) {
+        return Outcome::Refused(why);
+    }
+    if 257 < f.len() + g.len() {
+        return Outcome::Refused(Refusal::Over);
+    }
+    if out.len() + 1 != f.len() + g.len() {
+        return Outcome::Refused(Refusal::Misfit);
+    }
+    Outcome::Done
+}
+
+// What a raise refuses.
+fn judge_raise(f: &[u16], to: NaiveDegree, out: &[u16]) -> Outcome
+    ensures { λ r. ⌜ r ≡ lowest (raiseRefusals p (now (f .entry)) (to .0) (now (out .entry))) ⌝ }
+{
+    let target = to.0;
+    if let Outcome::Refused(why) = lists::judge_list(f) {
+        return Outcome::Refused(why);
+    }
+    if refusal::MAX_DEGREE < target {
+        return Outcome::Refused(Refusal::Over);
+    }
+    if target + 1 < f.len() {
+        return Outcome::Refused(Refusal::Backwards);
+    }
+    if out.len() != target + 1 {
+        return Outcome::Refused(Refusal::Misfit);
+    }
+    Outcome::Done
+}
+
+// What a sum and a difference refuse.
+fn judge_sum(f: &[u16], g: &[u16], out: &[u16]) -> Outcome
+    ensures { λ r. ⌜ r ≡ lowest (sumRefusals p (now (f .entry)) (now (g .entry)) (now (out .entry))) ⌝ }
+{
+    if let Outcome::Refused(of_lists) = lists::judge_lists(f, g) {
+        return Outcome::Refused(of_lists);
+    }
+    if out.len() != larger(f.len(), g.len()) {
+        return Outcome::Refused(Refusal::Misfit);
+    }
+    Outcome::Done
+}
+
+fn larger(a: usize, b: usize) -> usize
+    ensures { λ r. ⌜ r ≡ max a b ⌝ }
+{
+    if a < b { b } else { a }
+}
+
+// The scaled forms of f and g in a and b, their product in s, and back into out.
+fn product_in(f: &[u16], g: &[u16], a: &mut [u16], b: &mut [u16], s: &mut [u16], out: &mut [u16])
+    requires { ⌜ ProductFits maxWords (now f) (now g) (now out) ⌝ }
+    requires { ⌜ (length (now a) ≡ length (now f)) × (length (now b) ≡ length (now g)) × (length (now s) ≡ length (now out)) ⌝ }
+    ensures { λ _. ⌜ now (out .exit) ≡ of.product F65521 (now (f .entry)) (now (g .entry)) ⌝ }
+{
+    kernels::scale(f, a);
+    kernels::scale(g, b);
+    kernels::convolve(a, b, s);
+    kernels::unscale(s, out);
+}
+
+fn product_into(f: &[u16], g: &[u16], out: &mut [u16])
+    requires { ⌜ ProductFits maxWords (now f) (now g) (now out) ⌝ }
+    ensures { λ _. ⌜ now (out .exit) ≡ of.product F65521 (now (f .entry)) (now (g .entry)) ⌝ }
+{
+    let d = f.len();
+    let e = g.len();
+    let n = out.len();
+    let mut a = [0u16; refusal::MAX_WORDS];
+    let mut b = [0u16; refusal::MAX_WORDS];
+    let mut s = [0u16; refusal::MAX_WORDS];
+    product_in(f, g, &mut a[..d], &mut b[..e], &mut s[..n], out);
+}
+
+fn copy(from: &[u16], to: &mut [u16])
+    requires { ⌜ length (now from) ≡ length (now to) ⌝ }
+    ensures { λ _. ⌜ now (to .exit) ≡ now (from .entry) ⌝ }
+{
+    let mut k = 0;
+    while k < to.len() {
+        to[k] = from[k];
+        k += 1;
+    }
+}
+
+// f raised to the naive degree of out: as it is where it has that degree, else times a list of ones, which means 1.
+fn raise_into(f: &[u16], out: &mut [u16])
+    requires { ⌜ RaiseFits p maxWords (now f) (now out) ⌝ }
+    ensures { λ _. ⌜ now (out .exit) ≡ of.raise F65521 (naiveDegree (now (out .entry))) (now (f .entry)) ⌝ }
+{
+    if f.len() == out.len() {
+        copy(f, out);
+        return;
+    }
+    let ones = [1u16; refusal::MAX_WORDS];
+    let m = out.len() - f.len() + 1;
+    product_into(f, &ones[..m], out);
+}
+
+// a plus b, word by word.
+fn add_words(a: &[u16], b: &[u16], out: &mut [u16])
+    requires { ⌜ (length (now a) ≡ length (now out)) × (length (now b) ≡ length (now out)) ⌝ }
+    ensures { λ _. ⌜ now (out .exit) ≡ wordSums F65521 (now (a .entry)) (now (b .entry)) ⌝ }
+{
+    let mut k = 0;
+    while k < out.len() {
+        out[k] = field::add(a[k], b[k]);
+        k += 1;
+    }
+}
+
+// a less b, word by word.
+fn subtract_words(a: &[u16], b: &[u16], out: &mut [u16])
+    requires { ⌜ (length (now a) ≡ length (now out)) × (length (now b) ≡ length (now out)) ⌝ }
+    ensures { λ _. ⌜ now (out .exit) ≡ wordDifferences F65521 (now (a .entry)) (now (b .entry)) ⌝ }
+{
+    let mut k = 0;
+    while k < out.len() {
+        out[k] = field::sub(a[k], b[k]);
+        k += 1;
+    }
+}
+
+// f and g raised into a and b, and their sum.
+fn sum_in(f: &[u16], g: &[u16], a: &mut [u16], b: &mut [u16], out: &mut [u16])
+    requires { ⌜ SumFits p maxWords (now f) (now g) (now out) ⌝ }
+    requires { ⌜ (length (now a) ≡ length (now out)) × (length (now b) ≡ length (now out)) ⌝ }
+    ensures { λ _. ⌜ now (out .exit) ≡ of.sumOf F65521 (now (f .entry)) (now (g .entry)) ⌝ }
+{
+    raise_into(f, a);
+    raise_into(g, b);
+    add_words(a, b, out);
+}
+
+fn sum_into(f: &[u16], g: &[u16], out: &mut [u16])
+    requires { ⌜ SumFits p maxWords (now f) (now g) (now out) ⌝ }
+    ensures { λ _. ⌜ now (out .exit) ≡ of.sumOf F65521 (now (f .entry)) (now (g .entry)) ⌝ }
+{
+    let n = out.len();
+    let mut a = [0u16; refusal::MAX_WORDS];
+    let mut b = [0u16; refusal::MAX_WORDS];
+    sum_in(f, g, &mut a[..n], &mut b[..n], out);
+}
+
+// f and g raised into a and b, and their difference.
+fn difference_in(f: &[u16], g: &[u16], a: &mut [u16], b: &mut [u16], out: &mut [u16])
+    requires { ⌜ SumFits p maxWords (now f) (now g) (now out) ⌝ }
+    requires { ⌜ (length (now a) ≡ length (now out)) × (length (now b) ≡ length (now out)) ⌝ }
+    ensures { λ _. ⌜ now (out .exit) ≡ of.differenceOf F65521 (now (f .entry)) (now (g .entry)) ⌝ }
+{
+    raise_into(f, a);
+    raise_into(g, b);
+    subtract_words(a, b, out);
+}
+
+fn difference_into(f: &[u16], g: &[u16], out: &mut [u16])
+    requires { ⌜ SumFits p maxWords (now f) (now g) (now out) ⌝ }
+    ensures { λ _. ⌜ now (out .exit) ≡ of.differenceOf F65521 (now (f .entry)) (now (g .entry)) ⌝ }
+{
+    let n = out.len();
+    let mut a = [0u16; refusal::MAX_WORDS];
+    let mut b = [0u16; refusal::MAX_WORDS];
+    difference_in(f, g, &mut a[..n], &mut b[..n], out);
+}

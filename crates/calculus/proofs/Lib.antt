@@ -1,0 +1,4 @@
+pub mod Judged
+pub mod Trimmed
+pub mod Derived
+pub mod Values

@@ -1,0 +1,69 @@
+// The edges that document 01 names: what the calls on lists answer just inside a limit and just outside it.
+use lists::NaiveDegree;
+use refusal::Outcome;
+use libc::STDOUT_FILENO;
+
+fn show(name: &[u8], outcome: Outcome) {
+    io::write_all(STDOUT_FILENO, name);
+    io::write_all(STDOUT_FILENO, b": ");
+    io::print_decimal(STDOUT_FILENO, refusal::outcome_number(outcome) as u64);
+    io::write_all(STDOUT_FILENO, b"\n");
+}
+
+// A list of one word.
+fn words() {
+    let zero = [0u16; 1];
+    let mut out = [0u16; 1];
+    show(b"word 65520", arithmetic::sum(&[65520u16], &zero, &mut out));
+    show(b"word 65521", arithmetic::sum(&[65521u16], &zero, &mut out));
+}
+
+fn lengths() {
+    let longest = [1u16; 256];
+    let longer = [1u16; 257];
+    let mut out = [0u16; 256];
+    show(b"256 words", arithmetic::sum(&longest, &longest, &mut out));
+    show(b"257 words", arithmetic::sum(&longest, &longer, &mut out));
+}
+
+fn degrees() {
+    let f = [1u16; 129];
+    let g = [1u16; 128];
+    let mut out = [0u16; 256];
+    let mut longer = [0u16; 257];
+    show(b"degrees 128 and 127", arithmetic::product(&f, &g, &mut out));
+    show(b"degrees 128 and 128", arithmetic::product(&f, &f, &mut longer));
+}
+
+fn others() {
+    let t = [0u16, 1];
+    let mut one = [0u16; 1];
+    show(b"raise to 0", arithmetic::raise(&t, NaiveDegree(0), &mut one));
+    let zeros = [0u16; 2];
+    show(b"trim of zeros", calculus::trim(&zeros, &mut one));
+}
+
+fn print_word(word: u16) {
+    io::print_decimal(STDOUT_FILENO, word as u64);
+    io::write_all(STDOUT_FILENO, b"\n");
+}
+
+// A slice that does not fit keeps its words.
+fn slices() {
+    let f = [0u16, 1];
+    let g = [1u16, 0];
+    let mut short = [7u16; 2];
+    show(b"one word short", arithmetic::product(&f, &g, &mut short));
+    print_word(short[1]);
+    let mut long = [7u16; 4];
+    show(b"one word long", arithmetic::product(&f, &g, &mut long));
+    print_word(long[3]);
+}
+
+fn main() {
+    words();
+    lengths();
+    degrees();
+    others();
+    slices();
+}

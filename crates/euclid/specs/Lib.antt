@@ -1,0 +1,9 @@
+pub mod Quotients
+pub mod Gcds
+pub mod Divided
+pub mod Gcd
+pub mod Loops
+pub mod Powers
+pub mod Cofactors
+pub mod Greatest
+pub mod Examples

@@ -1,0 +1,16 @@
+-- `reduction::negate` meets its contract.
+-- Assumes nothing.
+use mathlib.Core.Path.{_∙_}
+use borrow.Author.Needs.{needs}
+use Rattle.reduction.proofs.Loops.{negated-is}
+use Rattle.reduction.proofs.negate.Statement.{statement}
+use Rattle.reduction.proofs.negate.Tie as tie
+
+sub-requires : tie.Need-sub-requires
+sub-requires c κs = search needs
+
+returns : tie.Need-returns
+returns c = c .sub .ensures ∙ negated-is 65521 _
+
+pub negate-spec : {M : Type 1} → statement M
+negate-spec = tie.close (tie.spec sub-requires returns)

@@ -1,0 +1,90 @@
+// The steps of polynomial division on words below 65,521: the row step, the division, and a product taken off. Each is total: where the
+// slices' lengths do not fit, nothing is written.
+ghost use mathlib.Core.Path.{_≡_};
+ghost use mathlib.Core.Bool.{cond};
+ghost use Prim.Native.Nat.{_+_, _≤_, min};
+ghost use lib.ListN.{length};
+ghost use Rattle.field.specs.Field.{p};
+ghost use Rattle.reduction.specs.Rows.{row, negated, reduced, digits, lessProduct, reduceFits, lessProductFits};
+
+// x plus m times y, as far as both reach.
+pub fn add_row(x: &mut [u16], m: u16, y: &[u16])
+    ensures { λ _. ⌜ now (x .exit) ≡ row p (now (x .entry)) m (now (y .entry)) ⌝ }
+{
+    let n = smaller(x.len(), y.len());
+    let mut i = 0;
+    while i < n {
+        x[i] = field::add_mul(x[i], m, y[i]);
+        i += 1;
+    }
+}
+
+// Division of x by y from the top: the quotient's words go to q, what is left stays in x. `inv` is the inverse of y's last word.
+pub fn reduce(x: &mut [u16], y: &[u16], inv: u16, q: &mut [u16])
+    ensures left { λ _. ⌜ now (x .exit) ≡ cond (reduceFits (now (x .entry)) (now (y .entry)) (now (q .entry))) (reduced p inv (now (y .entry)) (length (now (q .entry))) (now (x .entry))) (now (x .entry)) ⌝ }
+    ensures quotient { λ _. ⌜ now (q .exit) ≡ cond (reduceFits (now (x .entry)) (now (y .entry)) (now (q .entry))) (digits p inv (now (y .entry)) (length (now (q .entry))) (now (x .entry))) (now (q .entry)) ⌝ }
+{
+    if y.len() == 0 {
+        return;
+    }
+    let d = y.len() - 1;
+    if x.len() < d {
+        return;
+    }
+    if x.len() - d != q.len() {
+        return;
+    }
+    reduce_in(x, y, inv, q);
+}
+
+// s less q times t, in as many words as s has.
+pub fn sub_product(s: &mut [u16], q: &[u16], t: &[u16])
+    ensures { λ _. ⌜ now (s .exit) ≡ cond (lessProductFits (now (s .entry)) (now (q .entry))) (lessProduct p (now (s .entry)) (now (q .entry)) (now (t .entry))) (now (s .entry)) ⌝ }
+{
+    if q.len() <= s.len() {
+        sub_product_in(s, q, t);
+    }
+}
+
+// The division, where the lengths fit.
+fn reduce_in(x: &mut [u16], y: &[u16], inv: u16, q: &mut [u16])
+    requires { ⌜ (1 ≤ length (now y)) × (length (now x) + 1 ≡ length (now y) + length (now q)) ⌝ }
+    ensures left { λ _. ⌜ now (x .exit) ≡ reduced p inv (now (y .entry)) (length (now (q .entry))) (now (x .entry)) ⌝ }
+    ensures quotient { λ _. ⌜ now (q .exit) ≡ digits p inv (now (y .entry)) (length (now (q .entry))) (now (x .entry)) ⌝ }
+{
+    let d = y.len() - 1;
+    let mut k = q.len();
+    while 0 < k {
+        k -= 1;
+        let c = field::mul(x[d + k], inv);
+        q[k] = c;
+        add_row(&mut x[k..], negate(c), y);
+    }
+}
+
+// The product taken off, where the lengths fit.
+fn sub_product_in(s: &mut [u16], q: &[u16], t: &[u16])
+    requires { ⌜ length (now q) ≤ length (now s) ⌝ }
+    ensures { λ _. ⌜ now (s .exit) ≡ lessProduct p (now (s .entry)) (now (q .entry)) (now (t .entry)) ⌝ }
+{
+    let mut k = 0;
+    while k < q.len() {
+        add_row(&mut s[k..], negate(q[k]), t);
+        k += 1;
+    }
+}
+
+fn negate(a: u16) -> u16
+    ensures { λ r. ⌜ r ≡ negated p a ⌝ }
+{
+    field::sub(0, a)
+}
+
+fn smaller(a: usize, b: usize) -> usize
+    ensures { λ r. ⌜ r ≡ min a b ⌝ }
+{
+    if a < b {
+        return a;
+    }
+    b
+}

@@ -104,6 +104,12 @@ total-snoc Rg (suc n) f =
     total-suc Rg (suc n) f ∙ ap (λ y. Rg .add (f 0) y) (total-snoc Rg n (λ k. f (suc k))) ∙ sym (R.add-assoc Rg _ _ _)
     ∙ ap (λ y. Rg .add y (f (suc n))) (sym (total-suc Rg n f))
 
+pub total-mul : (Rg : CommRing) (n : ℕ) (f : ℕ → Rg .Carrier) (a : Rg .Carrier) → Rg .mul (total Rg n f) a ≡ total Rg n (λ k. Rg .mul (f k) a)
+total-mul Rg zero f a = ap (λ x. Rg .mul x a) (total-zero Rg f) ∙ R.zero-mul Rg a ∙ sym (total-zero Rg _)
+total-mul Rg (suc n) f a =
+    ap (λ x. Rg .mul x a) (total-suc Rg n f) ∙ R.add-mul Rg _ _ a
+    ∙ ap (λ x. Rg .add (Rg .mul (f 0) a) x) (total-mul Rg n (λ k. f (suc k)) a) ∙ sym (total-suc Rg n _)
+
 module _ {Rg : CommRing} (X : SeriesRing Rg) where
   open CommRing Rg using (add as _⊕_, mul as _⊗_)
 

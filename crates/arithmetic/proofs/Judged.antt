@@ -1,13 +1,13 @@
 -- What each call refuses, as the chain of tests that the code makes, and what a call that refuses nothing knows of its slices.
 -- Assumes nothing.
-use mathlib.Core.Path.{_≡_, refl, sym, _∙_, ap}
-use mathlib.Core.Bool.{Bool, true, false, not, _||_}
+use mathlib.Core.Path.{_≡_, sym, _∙_, ap}
+use mathlib.Core.Bool.{not}
 use mathlib.Core.List.{List, [], _∷_}
 use Prim.Native.Nat.{ℕ, suc, _+_, _≤_, _<_, max}
 use native.Mathlib.Omega.{arith}
 use lib.Dec.{eqb, ltb}
 use lib.ListN.{length}
-use borrow.Author.Tests.{eqb-true, eqb-false, ltb-false, not-false, eq-eqb, ne-eqb, lt-ltb, le-ltb}
+use borrow.Author.Tests.{eqb-true, ltb-false, not-false, eq-eqb, ne-eqb, lt-ltb, le-ltb}
 use Rattle.refusal.specs.Limits.{maxDegree, maxWords}
 use Rattle.refusal.specs.Refusal.{outcomeReply, reply, written}
 use Rattle.refusal.specs.Lowest.{lowest}
@@ -15,47 +15,12 @@ use Rattle.refusal.specs.declared.Refusal.{Refusal}
 use Rattle.refusal.specs.declared.Refusal.the-variants.{Over, Backwards, Misfit}
 use Rattle.refusal.specs.declared.Outcome.{Outcome}
 use Rattle.refusal.specs.declared.Outcome.the-variants.{Done, Refused}
-use Rattle.refusal.proofs.First.{refuse, or-else, first-then}
+use Rattle.refusal.proofs.First.{refuse, or-else, first-then, refuse-done, or-else-done}
 use Rattle.lists.specs.Degrees.{naiveDegree}
-use Rattle.lists.specs.Refused.{wrongLength, hasLoose, anyOf, listRefusals}
-use Rattle.lists.proofs.Search.{none-loose}
-use Rattle.lists.proofs.Judged.{judged}
+use Rattle.lists.specs.Refused.{listRefusals}
+use Rattle.lists.proofs.Judged.{one-listed, two-listed}
 use Rattle.arithmetic.specs.Calls.{productRefusals, raiseRefusals, sumRefusals}
-use Rattle.arithmetic.specs.Workers.{Listed, ProductFits, RaiseFits, SumFits}
-
-refuse-done : (b : Bool) (why : Refusal) (next : Outcome) → refuse b why next ≡ Done → (b ≡ false) × (next ≡ Done)
-refuse-done true why next e = (cc, cc)
-refuse-done false why next e = (refl, e)
-
-or-else-done : (o next : Outcome) → or-else o next ≡ Done → (o ≡ Done) × (next ≡ Done)
-or-else-done Done next e = (refl, e)
-or-else-done (Refused why) next e = (e, cc)
-
-or-false : (a b : Bool) → (a || b) ≡ false → (a ≡ false) × (b ≡ false)
-or-false true b e = (e, cc)
-or-false false b e = (refl, e)
-
-module _ (p : ℕ) (big : 0 < p) where
-  listed : (c : List ℕ) → wrongLength maxWords c ≡ false → hasLoose p c ≡ false → Listed p maxWords c
-  unfolding wrongLength
-  listed c e l =
-      let h = or-false (eqb (length c) 0) (ltb maxWords (length c)) e in
-      let z = eqb-false (length c) 0 (h .0) in
-      record { some = omega arith; short = ltb-false maxWords (length c) (h .1); words = none-loose p c big l }
-
-  one-listed : (f : List ℕ) → lowest (listRefusals p maxWords (f ∷ [])) ≡ Done → Listed p maxWords f
-  one-listed f e =
-      let h = refuse-done (anyOf (wrongLength maxWords) (f ∷ [])) _ _ (sym (judged p maxWords (f ∷ [])) ∙ e) in
-      let l = refuse-done (anyOf (hasLoose p) (f ∷ [])) _ _ (h .1) in
-      listed f (or-false (wrongLength maxWords f) false (h .0) .0) (or-false (hasLoose p f) false (l .0) .0)
-
-  two-listed : (f g : List ℕ) → lowest (listRefusals p maxWords (f ∷ g ∷ [])) ≡ Done → Listed p maxWords f × Listed p maxWords g
-  two-listed f g e =
-      let h = refuse-done (anyOf (wrongLength maxWords) (f ∷ g ∷ [])) _ _ (sym (judged p maxWords (f ∷ g ∷ [])) ∙ e) in
-      let l = refuse-done (anyOf (hasLoose p) (f ∷ g ∷ [])) _ _ (h .1) in
-      let hf = or-false (wrongLength maxWords f) (anyOf (wrongLength maxWords) (g ∷ [])) (h .0) in
-      let lf = or-false (hasLoose p f) (anyOf (hasLoose p) (g ∷ [])) (l .0) in
-      (listed f (hf .0) (lf .0), listed g (or-false (wrongLength maxWords g) false (hf .1) .0) (or-false (hasLoose p g) false (lf .1) .0))
+use Rattle.arithmetic.specs.Workers.{ProductFits, RaiseFits, SumFits}
 
 module _ (p : ℕ) (big : 0 < p) (f g out : List ℕ) where
   product-judged : lowest (productRefusals p f g out)
@@ -73,14 +38,14 @@ module _ (p : ℕ) (big : 0 < p) (f g out : List ℕ) where
     pub product-over : maxDegree + 2 < length f + length g → Refused Over ≡ lowest (productRefusals p f g out)
     unfolding naiveDegree
     product-over l =
-        let s = two-listed p big f g e in
+        let s = two-listed p maxWords big f g e in
         sym (product-judged ∙ simp (e, lt-ltb maxDegree (naiveDegree f + naiveDegree g) (omega arith)))
 
     module _ (l : length f + length g ≤ maxDegree + 2) where
       pub product-misfit : ¬ (length out + 1 ≡ length f + length g) → Refused Misfit ≡ lowest (productRefusals p f g out)
       unfolding naiveDegree
       product-misfit h =
-          let s = two-listed p big f g e in
+          let s = two-listed p maxWords big f g e in
           sym
           (product-judged
           ∙ simp (
@@ -92,7 +57,7 @@ module _ (p : ℕ) (big : 0 < p) (f g out : List ℕ) where
       pub product-done : length out + 1 ≡ length f + length g → Done ≡ lowest (productRefusals p f g out)
       unfolding naiveDegree
       product-done h =
-          let s = two-listed p big f g e in
+          let s = two-listed p maxWords big f g e in
           sym
           (product-judged
           ∙ simp (
@@ -107,7 +72,7 @@ module _ (p : ℕ) (big : 0 < p) (f g out : List ℕ) where
       let d = or-else-done (lowest (listRefusals p maxWords (f ∷ g ∷ []))) _ (sym product-judged ∙ sym e) in
       let o = refuse-done (ltb maxDegree (naiveDegree f + naiveDegree g)) _ _ (d .1) in
       let m = refuse-done (not (eqb (length out) (suc (naiveDegree f + naiveDegree g)))) _ _ (o .1) in
-      let s = two-listed p big f g (d .0) in
+      let s = two-listed p maxWords big f g (d .0) in
       let l = ltb-false maxDegree (naiveDegree f + naiveDegree g) (o .0) in
       let q = eqb-true (length out) (suc (naiveDegree f + naiveDegree g)) (not-false _ (m .0)) in
       record { first = s .0 .some; second = s .1 .some; size = omega arith; short = omega arith }
@@ -166,7 +131,7 @@ module _ (p : ℕ) (big : 0 < p) (f : List ℕ) (target : ℕ) (out : List ℕ) 
       let o = refuse-done (ltb maxDegree target) _ _ (d .1) in
       let b = refuse-done (ltb target (naiveDegree f)) _ _ (o .1) in
       let m = refuse-done (not (eqb (length out) (suc target))) _ _ (b .1) in
-      let s = one-listed p big f (d .0) in
+      let s = one-listed p maxWords big f (d .0) in
       let l = ltb-false maxDegree target (o .0) in
       let r = ltb-false target (naiveDegree f) (b .0) in
       let q = eqb-true (length out) (suc target) (not-false _ (m .0)) in
@@ -187,13 +152,13 @@ module _ (p : ℕ) (big : 0 < p) (f g out : List ℕ) where
     pub sum-misfit : ¬ (length out ≡ max (length f) (length g)) → Refused Misfit ≡ lowest (sumRefusals p f g out)
     unfolding naiveDegree
     sum-misfit h =
-        let s = two-listed p big f g e in
+        let s = two-listed p maxWords big f g e in
         sym (sum-judged ∙ simp (e, ne-eqb (length out) (suc (max (naiveDegree f) (naiveDegree g))) (λ q. h (omega arith))))
 
     pub sum-done : length out ≡ max (length f) (length g) → Done ≡ lowest (sumRefusals p f g out)
     unfolding naiveDegree
     sum-done h =
-        let s = two-listed p big f g e in
+        let s = two-listed p maxWords big f g e in
         sym (sum-judged ∙ simp (e, eq-eqb (length out) (suc (max (naiveDegree f) (naiveDegree g))) (omega arith)))
 
   pub sum-fits : Done ≡ lowest (sumRefusals p f g out) → SumFits p maxWords f g out
@@ -201,7 +166,7 @@ module _ (p : ℕ) (big : 0 < p) (f g out : List ℕ) where
   sum-fits e =
       let d = or-else-done (lowest (listRefusals p maxWords (f ∷ g ∷ []))) _ (sym sum-judged ∙ sym e) in
       let m = refuse-done (not (eqb (length out) (suc (max (naiveDegree f) (naiveDegree g))))) _ _ (d .1) in
-      let s = two-listed p big f g (d .0) in
+      let s = two-listed p maxWords big f g (d .0) in
       let q = eqb-true (length out) (suc (max (naiveDegree f) (naiveDegree g))) (not-false _ (m .0)) in
       record { first = s .0; second = s .1; size = omega arith }
 

@@ -1,5 +1,4 @@
 -- What the functions need and do that work on slices which no call refuses.
---     Listed                       a list that no call refuses: 1 to `most` words, each below p
 --     ProductFits                  two lists and a result slice as long as their product
 --     RaiseFits                    a list and a result slice that is no shorter
 --     SumFits                      two lists and a result slice as long as their sum
@@ -8,16 +7,12 @@
 use mathlib.Core.Path.{_≡_}
 use mathlib.Core.List.{List}
 use Prim.Native.Nat.{ℕ, _+_, _≤_, _<_, max}
-use lib.ListN.{length, getD}
+use lib.ListN.{length}
 use Rattle.algebra.specs.Ring.{CommRing}
 use Rattle.algebra.specs.PrimeField.{PrimeField, scalars, value}
 use Rattle.lists.specs.Tabulate.{tabulate}
 use Rattle.lists.specs.Lists.{word}
-
-pub record Listed (p most : ℕ) (c : List ℕ) : Type 0 where
-  pub some : 0 < length c
-  pub short : length c ≤ most
-  pub words : (k : ℕ) → getD c k 0 < p
+use Rattle.lists.specs.Refused.{Listed}
 
 pub record ProductFits (most : ℕ) (f g out : List ℕ) : Type 0 where
   pub first : 0 < length f

@@ -15,7 +15,7 @@ use Rattle.refusal.specs.declared.Refusal.{Refusal}
 use Rattle.refusal.specs.declared.Refusal.the-variants.{Length, LooseWord, AllZero, Misfit}
 use Rattle.refusal.specs.declared.Outcome.{Outcome}
 use Rattle.refusal.specs.declared.Outcome.the-variants.{Done, Refused}
-use Rattle.refusal.proofs.First.{refuse, or-else, first-is, first-then}
+use Rattle.refusal.proofs.First.{refuse, or-else, first-is, first-then, refuse-done, or-else-done, or-false}
 use Rattle.field.specs.Field.{loose}
 use Rattle.lists.specs.Degrees.{naiveDegree, significant, extent}
 use Rattle.lists.specs.Refused.{wrongLength, hasLoose, anyOf, listRefusals}
@@ -23,18 +23,6 @@ use Rattle.lists.proofs.Judged.{judged}
 use Rattle.calculus.specs.Calls.{extentReply, extentValues, extentRefusals, trimRefusals, derivativeWords, derivativeRefusals, evaluateRefusals}
 use Rattle.calculus.specs.Workers.{TrimFits, DerivativeFits}
 use Rattle.calculus.specs.declared.Found.the-variants as found
-
-refuse-done : (b : Bool) (why : Refusal) (next : Outcome) → refuse b why next ≡ Done → (b ≡ false) × (next ≡ Done)
-refuse-done true why next e = (cc, cc)
-refuse-done false why next e = (refl, e)
-
-or-else-done : (o next : Outcome) → or-else o next ≡ Done → (o ≡ Done) × (next ≡ Done)
-or-else-done Done next e = (refl, e)
-or-else-done (Refused why) next e = (e, cc)
-
-or-false : (a b : Bool) → (a || b) ≡ false → (a ≡ false) × (b ≡ false)
-or-false true b e = (e, cc)
-or-false false b e = (refl, e)
 
 -- a refused call leaves its slice as it was
 pub kept : {o : Outcome} {why : Refusal} (new old : List ℕ) → o ≡ Refused why → old ≡ written o new old

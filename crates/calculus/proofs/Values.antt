@@ -9,7 +9,7 @@ use native.Mathlib.Omega.{arith}
 use lib.ListN.{length, getD}
 use Rattle.algebra.specs.Ring as R
 use Rattle.algebra.specs.Ring.{CommRing, RING, pow, pow-zero, pow-suc}
-use Rattle.algebra.specs.Sum.{total, total-zero, total-suc, total-snoc, total-ext}
+use Rattle.algebra.specs.Sum.{total, total-zero, total-snoc, total-ext, total-mul}
 use Rattle.algebra.specs.PrimeField.{PrimeField, scalars, residue, value, residue-value, residue-0, residue-1, residue-add-mod, residue-mul, residue-mul-mod, residue-neg}
 use Rattle.lists.specs.Degrees.{naiveDegree}
 use Rattle.lists.specs.Lists.{word, coefficient}
@@ -22,12 +22,6 @@ module _ (Rg : CommRing) where
 
   infixl 65 _⊕_
   infixl 70 _⊗_
-  total-mul : (n : ℕ) (f : ℕ → Carrier) (a : Carrier) → total Rg n f ⊗ a ≡ total Rg n (λ k. f k ⊗ a)
-  total-mul zero f a = ap (λ x. x ⊗ a) (total-zero Rg f) ∙ R.zero-mul Rg a ∙ sym (total-zero Rg _)
-  total-mul (suc n) f a =
-      ap (λ x. x ⊗ a) (total-suc Rg n f) ∙ R.add-mul Rg (f 0) _ a ∙ ap (λ x. f 0 ⊗ a ⊕ x) (total-mul n (λ k. f (suc k)) a)
-      ∙ sym (total-suc Rg n _)
-
   module _ (s : ℕ → Carrier) (x y : Carrier) where
     partial-none : partial Rg s x y 0 ≡ 𝟘
     unfolding partial
@@ -35,7 +29,7 @@ module _ (Rg : CommRing) where
 
     partial-next : (k : ℕ) → partial Rg s x y (suc k) ≡ partial Rg s x y k ⊗ y ⊕ s k ⊗ pow Rg x k
     unfolding partial
-    partial-next k = total-snoc Rg k _ ∙ ap₂ (λ a b. a ⊕ b) (total-ext Rg k _ _ earlier ∙ sym (total-mul k _ y)) last
+    partial-next k = total-snoc Rg k _ ∙ ap₂ (λ a b. a ⊕ b) (total-ext Rg k _ _ earlier ∙ sym (total-mul Rg k _ y)) last
       where
         regroup : (a b c d : Carrier) → a ⊗ b ⊗ (d ⊗ c) ≡ a ⊗ b ⊗ c ⊗ d
         regroup a b c d = simp RING

@@ -1,7 +1,7 @@
 // The edges that document 01 names: what the calls on lists answer just inside a limit and just outside it.
+use libc::STDOUT_FILENO;
 use lists::NaiveDegree;
 use refusal::Outcome;
-use libc::STDOUT_FILENO;
 
 fn show(name: &[u8], outcome: Outcome) {
     io::write_all(STDOUT_FILENO, name);
@@ -31,14 +31,23 @@ fn degrees() {
     let g = [1u16; 128];
     let mut out = [0u16; 256];
     let mut longer = [0u16; 257];
-    show(b"degrees 128 and 127", arithmetic::product(&f, &g, &mut out));
-    show(b"degrees 128 and 128", arithmetic::product(&f, &f, &mut longer));
+    show(
+        b"degrees 128 and 127",
+        arithmetic::product(&f, &g, &mut out),
+    );
+    show(
+        b"degrees 128 and 128",
+        arithmetic::product(&f, &f, &mut longer),
+    );
 }
 
 fn others() {
     let t = [0u16, 1];
     let mut one = [0u16; 1];
-    show(b"raise to 0", arithmetic::raise(&t, NaiveDegree(0), &mut one));
+    show(
+        b"raise to 0",
+        arithmetic::raise(&t, NaiveDegree(0), &mut one),
+    );
     let zeros = [0u16; 2];
     show(b"trim of zeros", calculus::trim(&zeros, &mut one));
 }

@@ -1,7 +1,7 @@
 -- The searches of a list, one word on: for a loose word from the front, and for the last word that is not 0 from the top.
 -- Assumes nothing.
 use mathlib.Core.Path.{_≡_, refl, sym, ap, _∙_}
-use mathlib.Core.Bool.{Bool, true, false, cond, _||_}
+use mathlib.Core.Bool.{true, false, cond}
 use mathlib.Core.List.{List, [], _∷_}
 use Prim.Native.Nat.{ℕ, zero, suc, _+_, _-_, _≤_, _<_}
 use native.Mathlib.Numerals.{add-one}
@@ -10,6 +10,7 @@ use lib.Dec.{eqb, leb}
 use lib.ListN.{length, getD, drop}
 use lib.Seq.{drop-cons, drop-length}
 use borrow.Author.Tests.{leb-false, le-leb, lt-leb, eq-eqb, ne-eqb}
+use Rattle.refusal.proofs.First.{or-false}
 use Rattle.lists.specs.Degrees.{significantIn, significant}
 use Rattle.lists.specs.Refused.{hasLoose}
 
@@ -25,10 +26,6 @@ module _ (p : ℕ) where
   pub loose-end : (c : List ℕ) (i : ℕ) → i ≡ length c → hasLoose p (drop i c) ≡ false
   unfolding hasLoose
   loose-end c i e = rw (e, drop-length)
-
-  or-false : (a b : Bool) → (a || b) ≡ false → (a ≡ false) × (b ≡ false)
-  or-false true b e = (e, cc)
-  or-false false b e = (refl, e)
 
   -- a list with no loose word: each word is below p, and so is the 0 past the end
   pub none-loose : (c : List ℕ) → 0 < p → hasLoose p c ≡ false → (k : ℕ) → getD c k 0 < p

@@ -13,7 +13,7 @@ use Rattle.algebra.specs.Series.{t, ext, coeff-add, coeff-1-zero, coeff-1-suc, 
 use Rattle.algebra.specs.Polynomial.{Below, below-mono, below-C, below-mul}
 use Rattle.algebra.specs.Homogenise.{hom, hom-zero, hom-mul}
 use Rattle.algebra.specs.Substitute.{⟨1+u⟩, elevate}
-use Rattle.algebra.specs.Sum.{total, total-zero, total-suc, total-ext, coeff-product}
+use Rattle.algebra.specs.Sum.{total, total-ext, total-mul, coeff-product}
 use Rattle.algebra.specs.Choose.{choose-zero, choose-0-suc, pascal}
 use Rattle.algebra.specs.PrimeField.{PrimeField, scalars, residue, value, inverse, value-lt, residue-0, residue-1, residue-add}
 use Rattle.lists.specs.Tabulate.{tabulate, length-tabulate, getD-tabulate, tabulate-ext}
@@ -21,12 +21,6 @@ use Rattle.lists.specs.Degrees.{naiveDegree}
 use Rattle.lists.specs.Lists.{Coefficients, word, binomial, meaning, scaled, unscaled}
 use Rattle.lists.specs.Operations.{productAt, product, raiseAt, raise}
 use Rattle.lists.specs.Scaled.{length-naive, naive-length, coefficients, binomial-above, coeff-scaled-at, below-naive, meaning-hom, meaning-injective, coefficients-unscaled, meaning-unscaled}
-
-total-mul : (Rg : CommRing) (n : ℕ) (f : ℕ → Rg .Carrier) (a : Rg .Carrier) → Rg .mul (total Rg n f) a ≡ total Rg n (λ k. Rg .mul (f k) a)
-total-mul Rg zero f a = ap (λ x. Rg .mul x a) (total-zero Rg f) ∙ R.zero-mul Rg a ∙ sym (total-zero Rg _)
-total-mul Rg (suc n) f a =
-    ap (λ x. Rg .mul x a) (total-suc Rg n f) ∙ R.add-mul Rg _ _ a
-    ∙ ap (λ x. Rg .add (Rg .mul (f 0) a) x) (total-mul Rg n (λ k. f (suc k)) a) ∙ sym (total-suc Rg n _)
 
 unfoldable pub ones : ℕ → List ℕ
 ones n = tabulate (suc n) (λ k. 1)

@@ -3,12 +3,13 @@
 --     hasLoose         refusal 5, loose word: a word of the list is p or more
 --     anyOf            the test holds of a list among several
 --     listRefusals     the rows of document 01's table for the lists that a call is handed
+--     Listed           a list that no call refuses: 1 to `most` words, each below p
 -- Assumes nothing.
 use mathlib.Core.Bool.{Bool, false, _||_}
 use mathlib.Core.List.{List, [], _∷_}
-use Prim.Native.Nat.{ℕ}
+use Prim.Native.Nat.{ℕ, _≤_, _<_}
 use lib.Dec.{leb, ltb, eqb}
-use lib.ListN.{length}
+use lib.ListN.{length, getD}
 use Rattle.refusal.specs.Lowest.{Condition, _given-when_}
 use Rattle.refusal.specs.declared.Refusal.the-variants.{Length, LooseWord}
 
@@ -28,3 +29,8 @@ listRefusals p most lists =
     Length given-when anyOf (wrongLength most) lists ∷
     LooseWord given-when anyOf (hasLoose p) lists ∷
     []
+
+pub record Listed (p most : ℕ) (c : List ℕ) : Type 0 where
+  pub some : 0 < length c
+  pub short : length c ≤ most
+  pub words : (k : ℕ) → getD c k 0 < p

@@ -6,7 +6,7 @@
 --     or-else      the outcome of the first rows where they refuse, else that of the later ones
 -- Assumes nothing.
 use mathlib.Core.Path.{_≡_, refl, sym, _∙_, ap}
-use mathlib.Core.Bool.{Bool, true, false, cond, _&&_}
+use mathlib.Core.Bool.{Bool, true, false, cond, _&&_, _||_}
 use mathlib.Core.List.{List, [], _∷_, _++_}
 use Prim.Native.Nat.{ℕ, _≤_}
 use native.Mathlib.Nat.{le-trans}
@@ -111,3 +111,16 @@ first-then rows more t =
     first-is (rows ++ more) t
     ∙ first-append rows more
     ∙ ap (λ o. or-else o (first more)) (sym (first-is rows (left-ascending rows more t)))
+
+-- a call that completes: no test held
+pub refuse-done : (b : Bool) (why : Refusal) (next : Outcome) → refuse b why next ≡ Done → (b ≡ false) × (next ≡ Done)
+refuse-done true why next e = (cc, cc)
+refuse-done false why next e = (refl, e)
+
+pub or-else-done : (o next : Outcome) → or-else o next ≡ Done → (o ≡ Done) × (next ≡ Done)
+or-else-done Done next e = (refl, e)
+or-else-done (Refused why) next e = (e, cc)
+
+pub or-false : (a b : Bool) → (a || b) ≡ false → (a ≡ false) × (b ≡ false)
+or-false true b e = (e, cc)
+or-false false b e = (refl, e)

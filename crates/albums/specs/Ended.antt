@@ -1,0 +1,132 @@
+-- A list that is not zero, its top zeros removed and scaled to end in 1: its meaning is a constant times that of the list without its
+-- top zeros.
+--     Head              what document 01 says of h: coefficients, of naive degree its extent, with last word 1
+-- Assumes nothing.
+use mathlib.Core.Path.{_≡_, sym, _∙_, ap, ap₂, subst}
+use mathlib.Core.List.{List}
+use Prim.Native.Nat.{ℕ, suc, _+_, _≤_, _<_}
+use native.Mathlib.Omega.{arith}
+use lib.ListN.{getD, length}
+use Rattle.algebra.specs.Ring as R
+use Rattle.algebra.specs.Ring.{CommRing, RING}
+use Rattle.algebra.specs.Series.{C}
+use Rattle.algebra.specs.Polynomial.{Below, below-C, polynomial, polynomial-0, Divides, divides-refl}
+use Rattle.algebra.specs.OneMinusT.{⟨1-t⟩^}
+use Rattle.algebra.specs.Homogenise.{hom, hom-C-mul}
+use Rattle.algebra.specs.Degree.{Degree, size, size-of}
+use Rattle.algebra.specs.Monic.{topInverse, monic, monic-is, monic-top, monic-degree, monic-divides}
+use Rattle.algebra.specs.CommonDivisor.{Bezout}
+use Rattle.algebra.specs.PrimeField.{PrimeField, scalarField}
+use Rattle.lists.specs.Degrees.{naiveDegree, significant, extent, power}
+use Rattle.lists.specs.Lists.{Coefficients, meaning, scaled}
+use Rattle.lists.specs.Operations.{trim}
+use Rattle.lists.specs.Scaled.{naive-length, below-scaled, meaning-hom, length-unscaled, coefficients-unscaled, scaled-unscaled, last-one}
+use Rattle.lists.specs.Extents.{significant-le, significant-extent, significant-is-size}
+use Rattle.lists.specs.Trims.{naive-trim, trim-scaled, trim-meaning}
+use Rattle.euclid.specs.Gcds.{gcdOf}
+use Rattle.euclid.specs.Gcd.{length-gcd, coefficients-gcd, degree-gcd, gcd-ends}
+use Rattle.albums.specs.Albums.{ended}
+
+module _ (F : PrimeField) where
+  open CommRing (F .series .ring) using (Carrier as S, zero as 0ˢ, add as _+ˢ_, mul as _*ˢ_)
+
+  infixl 65 _+ˢ_
+  infixl 70 _*ˢ_
+  pub record Head (h : List ℕ) : Type 0 where
+    pub coefficients : Coefficients F h
+    pub words : length h ≡ suc (naiveDegree h)
+    pub degree : Degree (F .series) (naiveDegree h) (scaled F h)
+    pub ends : getD h (naiveDegree h) 0 ≡ 1
+
+  -- the extent is the naive degree
+  pub head-extent : (h : List ℕ) → Head h → extent h ≡ naiveDegree h
+  unfolding extent
+  head-extent h hd =
+      let e = significant-is-size F h (hd .coefficients) in
+      let w = hd .words in
+      let s = size-of (F .series) (scalarField F) (length h) (naiveDegree h) (hd .degree) (omega arith) in
+      omega arith
+
+  pub head-gcd : (f g : List ℕ) → Coefficients F f → Coefficients F g → 0 < significant f + significant g → Head (gcdOf F f g)
+  head-gcd f g cf cg some =
+      record {
+        coefficients = coefficients-gcd F f g cf cg some;
+        words = length-gcd F f g cf cg some;
+        degree = degree-gcd F f g cf cg some;
+        ends = gcd-ends F f g cf cg some;
+      }
+
+  module _ (c : List ℕ) (hc : Coefficients F c) (some : 0 < significant c) where
+    -- 1 over the last word that is not 0, as a constant
+    abbrev unit : S
+    unit = C (F .series) (topInverse (F .series) (scalarField F) (length c) (scaled F c))
+
+    size-c : size (F .series) (scalarField F) (length c) (scaled F c) ≡ suc (extent c)
+    size-c = sym (significant-is-size F c hc) ∙ significant-extent c some
+
+    few : significant c ≤ F .p
+    few = let a = significant-le c in let b = hc .short in omega arith
+
+    degree-monic : Degree (F .series) (extent c) (monic (F .series) (scalarField F) (length c) (scaled F c))
+    degree-monic = monic-degree (F .series) (scalarField F) (length c) (extent c) (below-scaled F c) size-c
+
+    pub coefficients-ended : Coefficients F (ended F c)
+    unfolding ended
+    coefficients-ended = coefficients-unscaled F _ _ few
+
+    pub scaled-ended : scaled F (ended F c) ≡ monic (F .series) (scalarField F) (length c) (scaled F c)
+    unfolding ended
+    scaled-ended =
+        scaled-unscaled F _ few
+        (subst (λ k. Below (F .series) k (monic (F .series) (scalarField F) (length c) (scaled F c)))
+        (sym (significant-extent c some)) (degree-monic .below))
+
+    pub length-ended : length (ended F c) ≡ suc (extent c)
+    unfolding ended
+    length-ended = length-unscaled F _ _ ∙ significant-extent c some
+
+    pub naive-ended : naiveDegree (ended F c) ≡ extent c
+    naive-ended = naive-length (ended F c) (extent c) length-ended
+
+    pub head-ended : Head (ended F c)
+    head-ended =
+        record {
+          coefficients = coefficients-ended;
+          words = rw naive-ended length-ended;
+          degree = rw (naive-ended, scaled-ended) degree-monic;
+          ends =
+              last-one F (ended F c) coefficients-ended
+              (ap₂ (F .series .coeff) scaled-ended naive-ended
+              ∙ monic-top (F .series) (scalarField F) (length c) (extent c) (below-scaled F c) size-c);
+        }
+
+    -- in u it divides the list
+    pub ended-divides : Divides (F .series) (scaled F (ended F c)) (scaled F c)
+    ended-divides =
+        rw scaled-ended
+        (monic-divides (F .series) (scalarField F) (length c) (extent c) (below-scaled F c) size-c (divides-refl (F .series) (scaled F c)))
+
+    -- a constant times the list without its top zeros
+    pub ended-meaning : meaning F (ended F c) ≡ unit *ˢ meaning F (trim F c)
+    ended-meaning =
+        meaning-hom F (ended F c)
+        ∙ ap₂ (hom (F .series)) naive-ended (scaled-ended ∙ monic-is (F .series) (scalarField F) (length c) (scaled F c))
+        ∙ hom-C-mul (F .series) (extent c) _ (scaled F c)
+        ∙ ap (λ s. unit *ˢ s) (sym (meaning-hom F (trim F c) ∙ ap₂ (hom (F .series)) (naive-trim F c) (trim-scaled F c hc)))
+
+    -- so what divides the list and is not 0 at 1 divides it
+    pub bezout-ended : Bezout (F .series) (meaning F c) 0ˢ (meaning F (ended F c))
+    bezout-ended =
+        record {
+          a = unit;
+          b = 0ˢ;
+          N = power c;
+          a-polynomial = polynomial (F .series) (below-C (F .series) _);
+          b-polynomial = polynomial-0 (F .series);
+          equation =
+              alone unit (meaning F c) ∙ ap (λ s. unit *ˢ s) (trim-meaning F c hc some)
+              ∙ R.mul-left-comm (F .series .ring) _ _ _ ∙ ap (λ s. ⟨1-t⟩^ (F .series) (power c) *ˢ s) (sym ended-meaning);
+        }
+      where
+        alone : (a b : S) → a *ˢ b +ˢ 0ˢ *ˢ 0ˢ ≡ a *ˢ b
+        alone a b = simp RING

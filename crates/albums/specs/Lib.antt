@@ -1,0 +1,5 @@
+pub mod Albums
+pub mod Ended
+pub mod Greatest
+pub mod Folds
+pub mod Demand3

@@ -1,0 +1,78 @@
+-- What the field's inverse answers, and what a division answers, writes and promises.
+-- Assumes nothing.
+use mathlib.Core.Path.{_≡_, sym, _∙_, ap}
+use mathlib.Core.List.{List, [], _∷_}
+use Prim.Native.Nat.{ℕ, _<_}
+use native.Mathlib.Omega.{arith}
+use Rattle.algebra.specs.PrimeField.{PrimeField}
+use Rattle.refusal.specs.Refusal.{Reply, reply, outcomeReply, written}
+use Rattle.refusal.specs.Lowest.{lowest}
+use Rattle.refusal.specs.declared.Refusal.{Refusal}
+use Rattle.refusal.specs.declared.Outcome.{Outcome}
+use Rattle.refusal.specs.declared.Outcome.the-variants.{Done, Refused}
+use Rattle.field.specs.Field.{wordReply, inverseRefusals, inverseOf}
+use Rattle.field.specs.Theorems.{inverse-is}
+use Rattle.field.specs.declared.Word.{Word}
+use Rattle.field.specs.declared.Word.the-variants as Word
+use Rattle.field.proofs.Answers.{Found, answered}
+use Rattle.euclid.specs.Quotients.{quotientOf, remainderOf}
+use Rattle.euclid.specs.Divided.{Divisible, length-quotient, length-remainder, division-identity, division-only}
+use Rattle.division.specs.Calls.{Equation, DividesSo}
+
+-- the answer of the field's inverse for a coefficient that is not 0
+module _ (F : PrimeField) {p : ℕ} (is : F .p ≡ p) (a : ℕ) (some : 0 < a) (low : a < p) (w : Word)
+    (e : wordReply w ≡ reply (lowest (inverseRefusals p a)) (inverseOf F a ∷ [])) where
+  answer : wordReply w ≡ record { number = 0; values = inverseOf F a ∷ [] }
+  answer =
+      let h = inverse-is F a some (rw is low) in
+      let found : Found p a (inverseOf F a) = record { high = rw (← is) (h .high); one = rw (← is) (h .one) } in
+      e ∙ sym (answered F is a (inverseOf F a) some low found .answer)
+
+  pub done-word : {b : ℕ} → w ≡ Word.Done b → b ≡ inverseOf F a
+  done-word {b} q =
+      let s : b ∷ [] ≡ inverseOf F a ∷ [] = ap (λ (x : Reply). x .values) (sym (ap wordReply q) ∙ answer) in cc
+
+  pub no-refusal : {why : Refusal} → w ≡ Word.Refused why → ⊥
+  no-refusal q =
+      let s : [] ≡ inverseOf F a ∷ [] = ap (λ (x : Reply). x .values) (sym (ap wordReply q) ∙ answer) in
+      let z : _≡_ {A = ℕ} 0 1 = cc in
+      omega arith
+
+-- the quotient and the remainder keep the promise
+divides-so : (F : PrimeField) (g f : List ℕ) → Divisible F g f → DividesSo F g f (quotientOf F g f) (remainderOf F g f)
+unfolding Equation
+divides-so F g f h =
+    record {
+      quotient-words = length-quotient F g f;
+      remainder-words = length-remainder F g f;
+      holds = division-identity F g f h;
+      only =
+          λ q r cq cr lq lr e. division-only F g f h q r cq cr (lq ∙ length-quotient F g f) (lr ∙ length-remainder F g f) e;
+    }
+
+-- what `divide` answers, writes and promises
+pub record Divided (F : PrimeField) (answer found : Outcome) (g f q r q′ r′ : List ℕ) : Type 0 where
+  pub reported : outcomeReply answer ≡ reply found []
+  pub quotient : q′ ≡ written found (quotientOf F g f) q
+  pub remainder : r′ ≡ written found (remainderOf F g f) r
+  pub promised : answer ≡ Done → DividesSo F g f q′ r′
+
+module _ (F : PrimeField) {answer found : Outcome} (e : answer ≡ found) (g f q r : List ℕ) where
+  pub done : answer ≡ Done → Divisible F g f → {q′ r′ : List ℕ} → q′ ≡ quotientOf F g f → r′ ≡ remainderOf F g f
+      → Divided F answer found g f q r q′ r′
+  done d h eq er =
+      record {
+        reported = ap outcomeReply e;
+        quotient = eq ∙ sym (ap (λ o. written o (quotientOf F g f) q) (sym e ∙ d));
+        remainder = er ∙ sym (ap (λ o. written o (remainderOf F g f) r) (sym e ∙ d));
+        promised = λ _. rw (eq, er) (divides-so F g f h);
+      }
+
+  pub refused : {why : Refusal} → answer ≡ Refused why → Divided F answer found g f q r q r
+  refused d =
+      record {
+        reported = ap outcomeReply e;
+        quotient = sym (ap (λ o. written o (quotientOf F g f) q) (sym e ∙ d));
+        remainder = sym (ap (λ o. written o (remainderOf F g f) r) (sym e ∙ d));
+        promised = λ s. let z : _≡_ {A = ℕ} 0 1 = cc in absurd (omega arith);
+      }

@@ -1,0 +1,165 @@
+-- Division by scaled forms: what the kernels and the reduction leave in the slices is the quotient and the remainder of the lists.
+-- Assumes nothing.
+use mathlib.Core.Path.{_≡_, sym, _∙_, ap, ap₂, subst}
+use mathlib.Core.Bool.{cond, true}
+use mathlib.Core.List.{List}
+use Prim.Native.Nat.{ℕ, suc, _+_, _-_, _≤_, _<_}
+use native.Mathlib.Nat.{pos-of-ne-zero}
+use native.Mathlib.Decide.{decLt}
+use native.Mathlib.Omega.{arith}
+use lib.ListN.{length, getD, take, length-take, List·getD-eq-default}
+use borrow.Author.Tests.{eq-eqb, le-leb}
+use Rattle.algebra.specs.Ring.{CommRing}
+use Rattle.algebra.specs.Series.{ext}
+use Rattle.algebra.specs.PrimeField.{PrimeField, scalarField, positive, residue, inverse, value-lt}
+use Rattle.algebra.specs.Division.{quotient, remainder}
+use Rattle.field.specs.Field.{inverseOf}
+use Rattle.field.specs.Theorems.{residue-inverse}
+use Rattle.lists.specs.Degrees.{naiveDegree}
+use Rattle.lists.specs.Lists.{word, scaled, unscaled}
+use Rattle.lists.specs.Scaled.{length-naive, coefficient-last, coeff-scaled}
+use Rattle.lists.specs.Words.{seriesOf, coeff-seriesOf, scaledWords, length-scaledWords, getD-scaledWords, seriesOf-scaledWords, Carries, carries-seriesOf}
+use Rattle.kernels.specs.Kernels.{scaleFits, unscaleFits}
+use Rattle.reduction.specs.Rows.{reduced, digits, reduceFits}
+use Rattle.reduction.specs.Steps.{reduced-remainder, digits-quotient, length-reduced, length-digits}
+use Rattle.euclid.specs.Quotients.{steps, quotientOf, remainderOf}
+use Rattle.division.specs.Workers.{DivideFits}
+
+-- a part of an array
+pub prefix-length : (k n : ℕ) (l : List ℕ) → length l ≡ n → k ≤ n → length (take k l) ≡ k
+prefix-length k n l e h = simp length-take (omega arith)
+
+module _ (F : PrimeField) where
+  open CommRing (F .series .ring) using (Carrier as S)
+
+  carries-scaled : (c : List ℕ) → Carries F (scaledWords F c) (scaled F c)
+  carries-scaled c =
+      subst (λ s. Carries F (scaledWords F c) s) (seriesOf-scaledWords F c) (carries-seriesOf F (λ k. small k (decLt k (length c))))
+    where
+      small : (k : ℕ) → Dec (k < length c) → getD (scaledWords F c) k 0 < F .p
+      small k (yes l) = rw (getD-scaledWords F c k l) (value-lt F _)
+      small k (no l) =
+          let e = length-scaledWords F c in
+          rw (List·getD-eq-default (scaledWords F c) 0 {n = k} (omega arith)) (positive F)
+
+  series-of-carries : {buf : List ℕ} {s : S} → Carries F buf s → seriesOf F buf ≡ s
+  series-of-carries {buf} {s} c = ext (F .series) _ _ λ k. coeff-seriesOf F buf k ∙ c .at k
+
+  -- the inverse of the divisor's last word is that of its scaled form's last coefficient
+  top-inverse : (f : List ℕ) {inv : ℕ} → inv ≡ inverseOf F (getD f (naiveDegree f) 0)
+      → residue F inv ≡ scalarField F .inv (F .series .coeff (scaled F f) (naiveDegree f))
+  unfolding word inverse
+  top-inverse f e =
+      ap (residue F) e
+      ∙ residue-inverse F (getD f (naiveDegree f) 0)
+      ∙ ap (scalarField F .inv) (sym (coeff-scaled F f (naiveDegree f) ∙ coefficient-last F f))
+
+  -- the divisor's last word has an inverse
+  pub last-word : {p most : ℕ} → F .p ≡ p → {g f q r : List ℕ} → DivideFits F most g f q r
+      → (0 < getD f (length f - 1) 0) × (getD f (length f - 1) 0 < p)
+  unfolding naiveDegree
+  last-word is {f = f} fits = (pos-of-ne-zero (fits .divisible .end), rw (← is) (fits .divisible .divisor .below (length f - 1)))
+
+  module _ (most : ℕ) where
+    -- what the kernels write where the lengths fit
+    scale-is : (f a : List ℕ) {a′ : List ℕ} → length a ≡ length f → length f ≤ most
+        → a′ ≡ cond (scaleFits most f a) (scaledWords F f) a → a′ ≡ scaledWords F f
+    unfolding scaleFits
+    scale-is f a e l q = q ∙ rw (eq-eqb (length a) (length f) e, le-leb (length f) most l)
+
+    unscale-is : (s out : List ℕ) {out′ : List ℕ} → length out ≤ length s → length out ≤ most
+        → out′ ≡ cond (unscaleFits most s out) (unscaled F (length out) (seriesOf F s)) out → out′ ≡ unscaled F (length out) (seriesOf F s)
+    unfolding unscaleFits
+    unscale-is s out l h q = q ∙ rw (le-leb (length out) (length s) l, le-leb (length out) most h)
+
+    reduce-fits : (x y k : List ℕ) → 0 < length y → length x + 1 ≡ length y + length k → reduceFits x y k ≡ true
+    unfolding reduceFits
+    reduce-fits x y k s e = rw (le-leb 1 (length y) s, eq-eqb (length x + 1) (length y + length k) e)
+
+    -- the scaled forms of g and f in x and y, their quotient in k and their remainder in x, and back into q and r
+    module _ {p : ℕ} (is : F .p ≡ p) (g f x y k q r : List ℕ) (fits : DivideFits F most g f q r)
+        (lx : length x ≡ length g) (ly : length y ≡ length f) (lk : length k ≡ length q)
+        {x′ y′ : List ℕ} {inv : ℕ} (top : inv ≡ inverseOf F (getD f (length f - 1) 0))
+        (qx : x′ ≡ cond (scaleFits most g x) (scaledWords F g) x)
+        (qy : y′ ≡ cond (scaleFits most f y) (scaledWords F f) y) where
+      ex : x′ ≡ scaledWords F g
+      ex = scale-is g x lx (fits .short) qx
+
+      ey : y′ ≡ scaledWords F f
+      ey = let o = fits .divisible .order in let s = fits .short in scale-is f y ly (omega arith) qy
+
+      nx : length x′ ≡ length g
+      nx = ap length ex ∙ length-scaledWords F g
+
+      ny : length y′ ≡ length f
+      ny = ap length ey ∙ length-scaledWords F f
+
+      some : 0 < length y′
+      some = let s = fits .divisible .some in omega (arith, ny)
+
+      sizes : length x′ + 1 ≡ length y′ + length k
+      sizes = let s = fits .quotient-words in omega (arith, nx, ny)
+
+      cx : Carries F x′ (scaled F g)
+      cx = rw ex (carries-scaled g)
+
+      cy : Carries F y′ (scaled F f)
+      cy = rw ey (carries-scaled f)
+
+      degree : length y′ ≡ suc (naiveDegree f)
+      degree = ny ∙ length-naive f (fits .divisible .some)
+
+      enough : naiveDegree f + length k ≤ length x′
+      enough = omega (arith, degree, sizes)
+
+      count : length k ≡ steps g f
+      unfolding steps naiveDegree
+      count = let s = fits .divisible .some in let o = fits .divisible .order in let w = fits .quotient-words in omega arith
+
+      above : residue F inv ≡ scalarField F .inv (F .series .coeff (scaled F f) (naiveDegree f))
+      unfolding naiveDegree
+      above = top-inverse f top
+
+      module _ {k′ : List ℕ} (qk : k′ ≡ cond (reduceFits x′ y′ k) (digits p inv y′ (length k) x′) k) where
+        ek : k′ ≡ digits (F .p) inv y′ (length k) x′
+        ek = qk ∙ rw (reduce-fits x′ y′ k some sizes, is)
+
+        ck : Carries F k′ (quotient (F .series) (scalarField F) (length k) (naiveDegree f) (scaled F g) (scaled F f))
+        ck = rw ek (digits-quotient F inv (naiveDegree f) cy degree above (length k) cx enough)
+
+        nk : length k′ ≡ length k
+        nk = ap length ek ∙ length-digits (F .p) inv y′ (length k) x′
+
+        pub quotient-is : {q′ : List ℕ} → q′ ≡ cond (unscaleFits most k′ q) (unscaled F (length q) (seriesOf F k′)) q → q′ ≡ quotientOf F g f
+        unfolding quotientOf
+        quotient-is qq =
+            let s = fits .divisible .some in
+            let w = fits .quotient-words in
+            let t = fits .short in
+            unscale-is k′ q (omega (arith, nk)) (omega arith) qq
+            ∙ ap₂ (unscaled F) (sym lk) (series-of-carries ck)
+            ∙ ap (λ n. unscaled F n (quotient (F .series) (scalarField F) n (naiveDegree f) (scaled F g) (scaled F f))) count
+
+      module _ {x″ : List ℕ} (qx″ : x″ ≡ cond (reduceFits x′ y′ k) (reduced p inv y′ (length k) x′) x′) where
+        el : x″ ≡ reduced (F .p) inv y′ (length k) x′
+        el = qx″ ∙ rw (reduce-fits x′ y′ k some sizes, is)
+
+        cl : Carries F x″ (remainder (F .series) (scalarField F) (length k) (naiveDegree f) (scaled F g) (scaled F f))
+        cl = rw el (reduced-remainder F inv (naiveDegree f) cy degree above (length k) cx enough)
+
+        nl : length x″ ≡ length x′
+        nl = ap length el ∙ length-reduced (F .p) inv y′ (length k) x′
+
+        words : length r ≡ naiveDegree f
+        unfolding naiveDegree
+        words = let w = fits .remainder-words in omega arith
+
+        pub remainder-is : {r′ : List ℕ} → r′ ≡ cond (unscaleFits most x″ r) (unscaled F (length r) (seriesOf F x″)) r → r′ ≡ remainderOf F g f
+        unfolding remainderOf
+        remainder-is qr =
+            let o = fits .divisible .order in
+            let w = fits .remainder-words in
+            let t = fits .short in
+            unscale-is x″ r (omega (arith, nl, nx)) (omega arith) qr
+            ∙ ap₂ (unscaled F) words (series-of-carries cl)
+            ∙ ap (λ n. unscaled F (naiveDegree f) (remainder (F .series) (scalarField F) n (naiveDegree f) (scaled F g) (scaled F f))) count

@@ -1,0 +1,99 @@
+-- Buffers of n words that stand for series, and Euclid's rounds on two of them.
+--     Buffer n x          n words, each below p
+--     Holds n x s         a buffer whose words are the coefficients of s
+--     euclidOn n x y      what Euclid's rounds answer on the series of x and y
+--     monicList n s       the list of the scaled form s, of at most n coefficients, made to have last word 1
+-- Assumes nothing.
+use mathlib.Core.Path.{_≡_, sym, _∙_, ap}
+use mathlib.Core.Bool.{cond}
+use mathlib.Core.List.{List, _++_}
+use Prim.Native.Nat.{ℕ, _+_, _-_, _≤_, _<_}
+use native.Mathlib.Decide.{decLt}
+use native.Mathlib.Omega.{arith}
+use lib.ListN.{getD, length, take, drop, replicate, length-append, length-take, length-drop, length-replicate, getD-replicate, List·getD-append, List·getD-eq-default}
+use lib.Seq.{getD-append-add, getD-drop}
+use borrow.Author.Tests.{eq-eqb, le-leb}
+use Rattle.algebra.specs.Ring.{CommRing}
+use Rattle.algebra.specs.Series.{ext}
+use Rattle.algebra.specs.Degree.{size}
+use Rattle.algebra.specs.Euclid.{Euclid, euclid}
+use Rattle.algebra.specs.Monic.{monic}
+use Rattle.algebra.specs.PrimeField.{PrimeField, scalarField, positive, residue, value-lt}
+use Rattle.lists.specs.Lists.{scaled, unscaled}
+use Rattle.lists.specs.Words.{seriesOf, coeff-seriesOf, scaledWords, length-scaledWords, getD-scaledWords, seriesOf-scaledWords}
+use Rattle.kernels.specs.Kernels.{scaleFits}
+
+-- an array of zeros
+pub getD-zeros : (n k : ℕ) → getD {A = ℕ} (replicate n 0) k 0 ≡ 0
+getD-zeros n k = go (decLt k n)
+  where
+    go : Dec (k < n) → getD {A = ℕ} (replicate n 0) k 0 ≡ 0
+    go (yes l) = getD-replicate n k 0 0 l
+    go (no l) = let e = length-replicate {A = ℕ} n 0 in List·getD-eq-default (replicate n 0) 0 (omega arith)
+
+module _ (F : PrimeField) where
+  open CommRing (F .series .ring) using (Carrier as S)
+
+  pub record Buffer (n : ℕ) (x : List ℕ) : Type 0 where
+    pub size : length x ≡ n
+    pub below : (k : ℕ) → getD x k 0 < F .p
+
+  pub record Holds (n : ℕ) (x : List ℕ) (s : S) : Type 0 where
+    pub buffer : Buffer n x
+    pub series : seriesOf F x ≡ s
+
+  unfoldable pub euclidOn : ℕ → (x y : List ℕ) → Euclid (F .series) (scalarField F)
+  euclidOn n x y = euclid (F .series) (scalarField F) n n (seriesOf F x) (seriesOf F y)
+
+  unfoldable pub monicList : ℕ → S → List ℕ
+  monicList n s = unscaled F (size (F .series) (scalarField F) n s) (monic (F .series) (scalarField F) n s)
+
+  -- the series of two buffers that agree
+  seriesOf-ext : (x y : List ℕ) → ((k : ℕ) → getD x k 0 ≡ getD y k 0) → seriesOf F x ≡ seriesOf F y
+  seriesOf-ext x y h =
+      ext (F .series) _ _ (λ k. coeff-seriesOf F x k ∙ ap (residue F) (h k) ∙ sym (coeff-seriesOf F y k))
+
+  -- words, then zeros
+  getD-then-zeros : (x z : List ℕ) → ((k : ℕ) → getD z k 0 ≡ 0) → (k : ℕ) → getD (x ++ z) k 0 ≡ getD x k 0
+  getD-then-zeros x z h k = go (decLt k (length x))
+    where
+      go : Dec (k < length x) → getD (x ++ z) k 0 ≡ getD x k 0
+      go (yes l) = List·getD-append x z 0 k l
+      go (no l) =
+          ap (λ i. getD (x ++ z) i 0) at ∙ getD-append-add x z (k - length x) 0
+          ∙ h (k - length x) ∙ sym (List·getD-eq-default x 0 (omega arith))
+        where
+          at : k ≡ length x + (k - length x)
+          at = omega arith
+
+  below-scaledWords : (c : List ℕ) (k : ℕ) → getD (scaledWords F c) k 0 < F .p
+  below-scaledWords c k = go (decLt k (length c))
+    where
+      go : Dec (k < length c) → getD (scaledWords F c) k 0 < F .p
+      go (yes l) = rw (getD-scaledWords F c k l) (value-lt F _)
+      go (no l) =
+          let e = length-scaledWords F c in
+          let q : getD (scaledWords F c) k 0 ≡ 0 = List·getD-eq-default (scaledWords F c) 0 (omega arith) in
+          rw q (positive F)
+
+  -- the words of a scaled form, written to the front of a buffer of zeros
+  pub holds-scaled : (n : ℕ) (c z : List ℕ) {out : List ℕ} → length c ≤ n → length z ≡ n → ((k : ℕ) → getD z k 0 ≡ 0)
+      → out ≡ cond (scaleFits n c (take (length c) z)) (scaledWords F c) (take (length c) z)
+      → Holds n (out ++ drop (length c) z) (scaled F c)
+  holds-scaled n c z {out} l e h q =
+      record {
+        buffer = record {
+          size = simp (length-append, length-drop, is, length-scaledWords F c) (omega arith);
+          below = λ k. rw (same k) (below-scaledWords c k);
+        };
+        series = seriesOf-ext _ (scaledWords F c) same ∙ seriesOf-scaledWords F c;
+      }
+    where
+      front : length (take (length c) z) ≡ length c
+      front = simp length-take (omega arith)
+
+      is : out ≡ scaledWords F c
+      is = unfold scaleFits in q ∙ rw (eq-eqb (length (take (length c) z)) (length c) front, le-leb (length c) n l)
+
+      same : (k : ℕ) → getD (out ++ drop (length c) z) k 0 ≡ getD (scaledWords F c) k 0
+      same k = getD-then-zeros out (drop (length c) z) (λ i. rw getD-drop (h _)) k ∙ ap (λ a. getD a k 0) is

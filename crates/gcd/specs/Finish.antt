@@ -1,0 +1,174 @@
+-- How the rounds end, and what a GCD answers.
+--     LastOf n f g x   the buffer x holds the last x of the rounds on f and g
+--     gcdDone f g      the answer of the GCD of f and g: w, c and rounds
+-- Assumes nothing.
+use mathlib.Core.Path.{_≡_, sym, _∙_, ap, ap₂}
+use mathlib.Core.Bool.{true, cond}
+use mathlib.Core.List.{List, [], _∷_}
+use Prim.Native.Nat.{ℕ, suc, _-_, _<_}
+use native.Mathlib.Omega.{arith}
+use lib.ListN.{getD, length, take, List·getD-eq-default}
+use lib.Seq.{take-at}
+use borrow.Author.Tests.{lt-ltb}
+use Rattle.algebra.specs.Ring.{CommRing}
+use Rattle.algebra.specs.Series.{C}
+use Rattle.algebra.specs.Degree.{size}
+use Rattle.algebra.specs.Euclid.{euclid}
+use Rattle.algebra.specs.Monic.{topInverse, monic-is}
+use Rattle.algebra.specs.PrimeField.{PrimeField, scalarField, residue, inverse}
+use Rattle.refusal.specs.Limits.{maxWords}
+use Rattle.refusal.specs.Refusal.{reply, written}
+use Rattle.refusal.specs.declared.Refusal.{Refusal}
+use Rattle.refusal.specs.declared.Outcome.{Outcome}
+use Rattle.refusal.specs.declared.Outcome.the-variants.{Done, Refused}
+use Rattle.field.specs.Field.{inverseOf}
+use Rattle.field.specs.Theorems.{residue-inverse}
+use Rattle.lists.specs.declared.NaiveDegree.{NaiveDegree}
+use Rattle.lists.specs.Degrees.{naiveDegree, significant, extent}
+use Rattle.lists.specs.Extents.{significant-le, extent-largest}
+use Rattle.lists.specs.Lists.{Coefficients, scaled, unscaled}
+use Rattle.lists.specs.Words.{seriesOf, coeff-seriesOf}
+use Rattle.euclid.specs.Gcds.{gcdOf, countOf, commonPower, padded}
+use Rattle.euclid.specs.Gcd.{length-gcd, size-last, gcd-ends, gcd-rounds}
+use Rattle.euclid.specs.Greatest.{gcd-is-greatest}
+use Rattle.euclid.specs.Loops.{count-room, size-room, gcd-room, getD-padded}
+use Rattle.rounds.specs.Round.{inverseOrZero, writeFits, writtenList}
+use Rattle.rounds.specs.Turns.{significant-series, write-fits}
+use Rattle.gcd.specs.declared.Gcd.{Gcd}
+use Rattle.gcd.specs.declared.Gcd.the-variants as G
+use Rattle.gcd.specs.Calls.{gcdReply, gcdValues, GreatestSo, Greatest}
+use Rattle.gcd.specs.Buffers.{Buffer, Holds, euclidOn, monicList}
+use Rattle.gcd.specs.Ready.{Ready}
+
+module _ (F : PrimeField) where
+  open CommRing (F .series .ring) using (mul as _*ˢ_)
+
+  infixl 70 _*ˢ_
+  pub record LastOf (n : ℕ) (f g last : List ℕ) : Type 0 where
+    pub buffer : Buffer F n last
+    pub size : significant last ≡ suc (naiveDegree (gcdOf F f g))
+    pub list : monicList F n (seriesOf F last) ≡ gcdOf F f g
+
+  unfoldable pub gcdDone : (f g : List ℕ) → Gcd
+  gcdDone f g = G.Done (record { 0 = naiveDegree (gcdOf F f g) }) (commonPower (f ∷ g ∷ [])) (countOf F f g)
+
+  pub gcd-done : (f g : List ℕ) (w : NaiveDegree) (c rounds : ℕ) → w .0 ≡ naiveDegree (gcdOf F f g) → c ≡ commonPower (f ∷ g ∷ [])
+      → rounds ≡ countOf F f g → G.Done w c rounds ≡ gcdDone f g
+  unfolding gcdDone
+  gcd-done f g w c rounds ew ec er =
+      ap (λ n. G.Done (record { 0 = n }) c rounds) ew ∙ ap₂ (G.Done (record { 0 = naiveDegree (gcdOf F f g) })) ec er
+
+  module _ (n : ℕ) (f g : List ℕ) (r : Ready F n f g) where
+    -- the answer has the promised property
+    pub ready-greatest : GreatestSo F f g (padded n (gcdOf F f g)) (naiveDegree (gcdOf F f g)) (commonPower (f ∷ g ∷ [])) (countOf F f g)
+    ready-greatest =
+        record {
+          ends = getD-padded n h _ ∙ gcd-ends F f g cf cg (r .some);
+          zeros = λ k l. getD-padded n h k ∙ List·getD-eq-default h 0 (omega (arith, length-gcd F f g cf cg (r .some)));
+          greatest = rw cut (gcd-is-greatest F f g cf cg (r .some));
+          few = gcd-rounds F f g cf;
+        }
+      where
+        h : List ℕ
+        h = gcdOf F f g
+
+        cf : Coefficients F f
+        cf = r .coefficients-f
+
+        cg : Coefficients F g
+        cg = r .coefficients-g
+
+        cut : take (suc (naiveDegree (gcdOf F f g))) (padded n (gcdOf F f g)) ≡ gcdOf F f g
+        cut = unfold padded in take-at (gcdOf F f g) _ _ (length-gcd F f g cf cg (r .some))
+
+    -- the rounds on buffers that hold the scaled forms are those of the definition
+    module _ {x y : List ℕ} (hx : Holds F n x (scaled F g)) (hy : Holds F n y (scaled F f)) where
+      pub ready-euclid : euclidOn F n x y ≡ euclid (F .series) (scalarField F) n n (scaled F g) (scaled F f)
+      unfolding euclidOn
+      ready-euclid = ap₂ (euclid (F .series) (scalarField F) n n) (hx .series) (hy .series)
+
+      pub ready-count : euclidOn F n x y .rounds ≡ countOf F f g
+      ready-count = ap (λ z. z .rounds) ready-euclid ∙ sym (count-room F n f g (r .short-f) (r .short-g))
+
+      -- so the last x stands in its buffer
+      pub ready-last : {last : List ℕ} → Holds F n last (euclidOn F n x y .last) → LastOf n f g last
+      ready-last {last} hl =
+          record {
+            buffer = hl .buffer;
+            size =
+                significant-series F last (hl .buffer .below)
+                ∙ ap₂ (size (F .series) (scalarField F)) (hl .buffer .size) is
+                ∙ sym (size-room F n f g (r .short-f) (r .short-g)) ∙ size-last F f g (r .coefficients-f) (r .coefficients-g) (r .some);
+            list = unfold monicList in ap (monicList F n) is ∙ sym (gcd-room F n f g (r .short-f) (r .short-g));
+          }
+        where
+          is : seriesOf F last ≡ euclid (F .series) (scalarField F) n n (scaled F g) (scaled F f) .last
+          is = hl .series ∙ ap (λ z. z .last) ready-euclid
+
+  -- what is written from the last x
+  module _ (n : ℕ) (last : List ℕ) (b : Buffer F n last) where
+    size-last-is : size (F .series) (scalarField F) n (seriesOf F last) ≡ significant last
+    size-last-is =
+        sym (significant-series F last (b .below) ∙ ap (λ k. size (F .series) (scalarField F) k (seriesOf F last)) (b .size))
+
+    module _ (some : 0 < significant last) where
+      last-word : ¬ (getD last (significant last - 1) 0 ≡ 0)
+      unfolding extent
+      last-word = extent-largest last some .0
+
+      inverse-word : inverseOrZero F (getD last (significant last - 1) 0) ≡ inverseOf F (getD last (significant last - 1) 0)
+      unfolding inverseOrZero
+      inverse-word =
+          let w = last-word in
+          rw (lt-ltb 0 (getD last (significant last - 1) 0) (omega arith), lt-ltb (getD last (significant last - 1) 0) (F .p) (b .below _))
+
+      -- 1 over the last coefficient
+      pub last-inverse : residue F (inverseOrZero F (getD last (significant last - 1) 0))
+          ≡ topInverse (F .series) (scalarField F) n (seriesOf F last)
+      unfolding topInverse inverse
+      last-inverse =
+          ap (residue F) inverse-word ∙ residue-inverse F _
+          ∙ ap (λ a. inverse F a) (sym (coeff-seriesOf F last (significant last - 1)))
+          ∙ ap (λ k. inverse F (F .series .coeff (seriesOf F last) (k - 1))) (sym size-last-is)
+
+      monic-written : (h : List ℕ)
+          → writtenList F (significant last) (inverseOrZero F (getD last (significant last - 1) 0)) last h
+          ≡ padded (length h) (monicList F n (seriesOf F last))
+      unfolding writtenList monicList
+      monic-written h =
+          ap (padded (length h))
+          (ap₂ (unscaled F) (sym size-last-is)
+          (ap (λ a. C (F .series) a *ˢ seriesOf F last) last-inverse ∙ sym (monic-is (F .series) (scalarField F) n (seriesOf F last))))
+
+      -- k and m as the code finds them
+      pub gcd-written : (h : List ℕ) (k m : ℕ) {h′ : List ℕ} → length h ≡ n → k ≡ significant last
+          → m ≡ inverseOrZero F (getD last (k - 1) 0) → h′ ≡ cond (writeFits n k last h) (writtenList F k m last h) h
+          → h′ ≡ padded n (monicList F n (seriesOf F last))
+      gcd-written h k m {h′} e ek em q =
+          q ∙ ap (λ b. cond b (writtenList F k m last h) h) fits
+          ∙ ap₂ (λ i j. writtenList F i j last h) ek (em ∙ ap (λ i. inverseOrZero F (getD last (i - 1) 0)) ek)
+          ∙ monic-written h ∙ ap (λ i. padded i (monicList F n (seriesOf F last))) e
+        where
+          fits : writeFits n k last h ≡ true
+          fits =
+              let l = significant-le last in
+              let s = b .size in
+              write-fits n k last h (omega arith) (omega arith) (omega arith)
+
+-- what a call answers, and what it leaves in the slice of h
+pub refused : (F : PrimeField) (f g h : List ℕ) {found : Outcome} {why : Refusal} → found ≡ Refused why
+    → (gcdReply (G.Refused why) ≡ reply found (gcdValues F f g)) × (h ≡ written found (padded maxWords (gcdOf F f g)) h)
+refused F f g h e = (
+  sym (ap (λ o. reply o (gcdValues F f g)) e),
+  sym (ap (λ o. written o (padded maxWords (gcdOf F f g)) h) e),
+)
+
+pub answered : (F : PrimeField) (f g h : List ℕ) {found : Outcome} {r : Gcd} {h′ : List ℕ} → found ≡ Done → Ready F maxWords f g
+    → r ≡ gcdDone F f g → h′ ≡ padded maxWords (gcdOf F f g)
+    → (gcdReply r ≡ reply found (gcdValues F f g)) × (h′ ≡ written found (padded maxWords (gcdOf F f g)) h) × Greatest F f g h′ r
+unfolding gcdDone gcdValues
+answered F f g h e ready er eh = (
+  ap gcdReply er ∙ sym (ap (λ o. reply o (gcdValues F f g)) e),
+  eh ∙ sym (ap (λ o. written o (padded maxWords (gcdOf F f g)) h) e),
+  rw (er, eh) (ready-greatest F maxWords f g ready),
+)

@@ -1,0 +1,87 @@
+-- What a call on two lists knows where it refuses nothing.
+--     Ready n f g      the lists have at most n words, each below p, and are not both zero
+--     judgedRows       the rows of document 01's table for a call on two lists that are not both zero, with a test of its result slices
+-- Assumes nothing.
+use mathlib.Core.Path.{_≡_, sym, _∙_}
+use mathlib.Core.Bool.{Bool, true, false, not}
+use mathlib.Core.List.{List, [], _∷_, _++_}
+use Prim.Native.Nat.{ℕ, _+_, _≤_, _<_}
+use native.Mathlib.Omega.{arith}
+use lib.Dec.{eqb}
+use lib.ListN.{length}
+use borrow.Author.Tests.{eqb-true, eqb-false, not-false}
+use Rattle.algebra.specs.PrimeField.{PrimeField, positive}
+use Rattle.refusal.specs.Limits.{maxWords}
+use Rattle.refusal.specs.Lowest.{Condition, _given-when_, lowest}
+use Rattle.refusal.specs.declared.Refusal.{Refusal}
+use Rattle.refusal.specs.declared.Refusal.the-variants.{AllZero, Misfit}
+use Rattle.refusal.specs.declared.Outcome.the-variants.{Done, Refused}
+use Rattle.refusal.proofs.First.{refuse, or-else, first-then, refuse-done, or-else-done}
+use Rattle.lists.specs.Degrees.{significant}
+use Rattle.lists.specs.Lists.{Coefficients}
+use Rattle.lists.specs.Refused.{listRefusals, Listed}
+use Rattle.lists.proofs.Judged.{two-listed}
+use Rattle.gcd.specs.Calls.{gcdRefusals}
+
+module _ (F : PrimeField) where
+  pub record Ready (n : ℕ) (f g : List ℕ) : Type 0 where
+    pub short-f : length f ≤ n
+    pub short-g : length g ≤ n
+    pub coefficients-f : Coefficients F f
+    pub coefficients-g : Coefficients F g
+    pub some : 0 < significant f + significant g
+
+-- a test of the result slices comes last
+abbrev pub judgedRows : ℕ → (f g : List ℕ) → Bool → List Condition
+judgedRows p f g misfit =
+    listRefusals p maxWords (f ∷ g ∷ []) ++
+    (AllZero given-when eqb (significant f + significant g) 0 ∷
+    Misfit given-when misfit ∷
+    [])
+
+module _ (p : ℕ) (f g : List ℕ) (misfit : Bool) where
+  rows-judged : lowest (judgedRows p f g misfit)
+      ≡ or-else (lowest (listRefusals p maxWords (f ∷ g ∷ []))) (refuse (eqb (significant f + significant g) 0) AllZero (refuse misfit Misfit Done))
+  unfolding listRefusals
+  rows-judged = first-then (listRefusals p maxWords (f ∷ g ∷ [])) _ tt
+
+  pub judged-lists : {why : Refusal} → lowest (listRefusals p maxWords (f ∷ g ∷ [])) ≡ Refused why → Refused why ≡ lowest (judgedRows p f g misfit)
+  judged-lists e = sym (rows-judged ∙ simp e)
+
+  module _ (e : lowest (listRefusals p maxWords (f ∷ g ∷ [])) ≡ Done) where
+    pub judged-zero : eqb (significant f + significant g) 0 ≡ true → Refused AllZero ≡ lowest (judgedRows p f g misfit)
+    judged-zero z = sym (rows-judged ∙ simp (e, z))
+
+    pub judged-misfit : eqb (significant f + significant g) 0 ≡ false → misfit ≡ true → Refused Misfit ≡ lowest (judgedRows p f g misfit)
+    judged-misfit z m = sym (rows-judged ∙ simp (e, z, m))
+
+    pub judged-done : eqb (significant f + significant g) 0 ≡ false → misfit ≡ false → Done ≡ lowest (judgedRows p f g misfit)
+    judged-done z m = sym (rows-judged ∙ simp (e, z, m))
+
+module _ (F : PrimeField) (big : maxWords ≤ F .p) where
+  coefficients-list : (c : List ℕ) → Listed (F .p) maxWords c → Coefficients F c
+  coefficients-list c l = record { short = let s = l .short in omega arith; below = l .words }
+
+  -- what a call knows that refuses nothing
+  pub ready : (f g : List ℕ) (misfit : Bool) → lowest (judgedRows (F .p) f g misfit) ≡ Done → Ready F maxWords f g × (misfit ≡ false)
+  ready f g misfit e =
+      let d = or-else-done (lowest (listRefusals (F .p) maxWords (f ∷ g ∷ []))) _ (sym (rows-judged (F .p) f g misfit) ∙ e) in
+      let z = refuse-done (eqb (significant f + significant g) 0) _ _ (d .1) in
+      let m = refuse-done misfit _ _ (z .1) in
+      let l = two-listed (F .p) maxWords (positive F) f g (d .0) in
+      let n = eqb-false (significant f + significant g) 0 (z .0) in (
+        record {
+          short-f = l .0 .short;
+          short-g = l .1 .short;
+          coefficients-f = coefficients-list f (l .0);
+          coefficients-g = coefficients-list g (l .1);
+          some = omega arith;
+        },
+        m .0,
+      )
+
+  pub gcd-ready : (f g h : List ℕ) → lowest (gcdRefusals (F .p) f g h) ≡ Done → Ready F maxWords f g × (length h ≡ maxWords)
+  unfolding gcdRefusals
+  gcd-ready f g h e =
+      let r = ready f g (not (eqb (length h) maxWords)) e in
+      (r .0, eqb-true (length h) maxWords (not-false _ (r .1)))

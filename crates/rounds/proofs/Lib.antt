@@ -1,0 +1,5 @@
+pub mod Answers
+pub mod Partway
+pub mod Written
+pub mod Divided
+pub mod Power

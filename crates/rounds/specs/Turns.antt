@@ -1,0 +1,280 @@
+-- What a loop of rounds needs: on words below p, one of Euclid's rounds on words is one on series, for every prime field F.
+--     significant-size, significant-series    the number of significant words is the size of the series
+--     round-remainder, round-quotient         the words of a round stand for the remainder and for the quotient
+--     round-euclid, round-smaller             a round goes on with (y, remainder), and y falls
+--     end-euclid, rounds-few                  where y is zero, no round is left; at most n rounds in buffers of n words
+--     round-fits, write-fits                  what the two guards ask
+--     written-low                             a result depends on the first coefficients only
+-- Assumes nothing.
+use mathlib.Core.Path.{_≡_, refl, sym, _∙_, ap, subst}
+use mathlib.Core.Bool.{true, cond}
+use mathlib.Core.List.{List, _++_}
+use Prim.Native.Nat.{ℕ, zero, suc, _+_, _-_, _≤_, _<_}
+use native.Mathlib.Nat as N
+use native.Mathlib.Decide.{decLe, decLt, ℕ-discrete}
+use native.Mathlib.Omega.{arith}
+use lib.ListN.{length, getD, take, drop, length-append, length-take, length-drop, List·getD-append, List·getD-eq-default}
+use lib.Seq.{getD-take, getD-drop, getD-append-add, length-take-le}
+use borrow.Author.Tests.{le-leb, lt-ltb, eq-eqb, ne-eqb}
+use Rattle.algebra.specs.Ring.{CommRing}
+use Rattle.algebra.specs.Series.{C, ext, coeff-0, coeff-C-mul}
+use Rattle.algebra.specs.Polynomial.{Below}
+use Rattle.algebra.specs.Degree.{size, size-0, size-yes, size-no, size-le, size-least}
+use Rattle.algebra.specs.Division.{remainder, quotient, remainder-zero, quotient-zero}
+use Rattle.algebra.specs.Euclid.{quotientBy, remainderBy, done, next, euclid, euclid-end, euclid-ok, round-law, remainder-small}
+use Rattle.algebra.specs.PrimeField.{PrimeField, scalars, scalarField, positive, residue, value, inverse, residue-0}
+use Rattle.field.specs.Field.{inverseOf}
+use Rattle.field.specs.Theorems.{residue-inverse}
+use Rattle.lists.specs.Tabulate.{tabulate-ext}
+use Rattle.lists.specs.Degrees.{significantIn, significant}
+use Rattle.lists.specs.Extents.{significant-le}
+use Rattle.lists.specs.Lists.{binomial, unscaled}
+use Rattle.lists.specs.Words.{seriesOf, coeff-seriesOf, Carries, carries-seriesOf, carries-zero, carries-nonzero}
+use Rattle.euclid.specs.Gcds.{padded}
+use Rattle.reduction.specs.Rows.{reduced, digits}
+use Rattle.reduction.specs.Steps.{length-reduced, length-digits, reduced-remainder, digits-quotient}
+use Rattle.rounds.specs.Round.{lastWord, roundSteps, roundFits, remaining, quotientWords, writeFits, writtenList}
+
+-- every word past the significant ones is 0
+after-in : (n : ℕ) (c : List ℕ) (k : ℕ) → significantIn n c ≤ k → k < n → getD c k 0 ≡ 0
+unfolding significantIn
+after-in zero c k l h = absurd (N.not-suc-le-zero h)
+after-in (suc n) c k l h = go (after-in n c k) (ℕ-discrete (getD c n 0) 0) (ℕ-discrete k n)
+  where
+    go : (significantIn n c ≤ k → k < n → getD c k 0 ≡ 0) → Dec (getD c n 0 ≡ 0) → Dec (k ≡ n) → getD c k 0 ≡ 0
+    go ih (yes e) (yes q) = ap (λ i. getD c i 0) q ∙ e
+    go ih (yes e) (no q) = ih (rw (eq-eqb (getD c n 0) 0 e) at l) (omega arith)
+    go ih (no e) q = absurd (let j : suc n ≤ k = rw (ne-eqb (getD c n 0) 0 e) at l in omega arith)
+
+pub after-significant : (c : List ℕ) (k : ℕ) → significant c ≤ k → getD c k 0 ≡ 0
+after-significant c k l = go (decLt k (length c))
+  where
+    go : Dec (k < length c) → getD c k 0 ≡ 0
+    go (yes h) = after-in (length c) c k (unfold significant in l) h
+    go (no h) = List·getD-eq-default c 0 (omega arith)
+
+-- so the significant words are all that a list says
+getD-significant : (c : List ℕ) (k : ℕ) → getD (take (significant c) c) k 0 ≡ getD c k 0
+getD-significant c k = go (decLt k (significant c))
+  where
+    go : Dec (k < significant c) → getD (take (significant c) c) k 0 ≡ getD c k 0
+    go (yes h) = getD-take (significant c) c k 0 h
+    go (no h) =
+        List·getD-eq-default (take (significant c) c) 0 (simp length-take (omega arith)) ∙ sym (after-significant c k (omega arith))
+
+length-significant : (c : List ℕ) → length (take (significant c) c) ≡ significant c
+length-significant c = length-take-le (significant c) c (significant-le c)
+
+-- zeros after a list change no word
+getD-zeros : (a b : List ℕ) → ((k : ℕ) → getD b k 0 ≡ 0) → (k : ℕ) → getD (a ++ b) k 0 ≡ getD a k 0
+getD-zeros a b h k = go (decLt k (length a))
+  where
+    go : Dec (k < length a) → getD (a ++ b) k 0 ≡ getD a k 0
+    go (yes l) = List·getD-append a b 0 k l
+    go (no l) =
+        ap (λ i. getD (a ++ b) i 0) at ∙ getD-append-add a b (k - length a) 0 ∙ h (k - length a)
+        ∙ sym (List·getD-eq-default a 0 (omega arith))
+      where
+        at : k ≡ length a + (k - length a)
+        at = omega arith
+
+pub roundSteps-le : (x y : List ℕ) → roundSteps x y ≤ length x
+unfolding roundSteps
+roundSteps-le x y = let l = significant-le x in omega arith
+
+pub round-ready : (p : ℕ) (x y q : List ℕ) → 0 < significant y → lastWord y < p → roundSteps x y ≤ length q → roundFits p x y q ≡ true
+unfolding roundFits
+round-ready p x y q some low room =
+    rw (le-leb 1 (significant y) some, lt-ltb (lastWord y) p low, le-leb (roundSteps x y) (length q) room)
+
+pub write-fits : (most words : ℕ) (form out : List ℕ) → words ≤ length form → words ≤ length out → words ≤ most
+    → writeFits most words form out ≡ true
+unfolding writeFits
+write-fits most words form out lf lo lm =
+    rw (le-leb words (length form) lf, le-leb words (length out) lo, le-leb words most lm)
+
+module _ (F : PrimeField) where
+  open CommRing (scalars F) using (mul as _⊗_)
+  open CommRing (F .series .ring) using (Carrier as S, mul as _*ˢ_)
+
+  infixl 70 _⊗_
+  infixl 70 _*ˢ_
+  -- words that stand for a series are that series
+  pub seriesOf-carries : {x : List ℕ} {s : S} → Carries F x s → seriesOf F x ≡ s
+  seriesOf-carries {x} {s} c = ext (F .series) _ _ λ k. coeff-seriesOf F x k ∙ c .at k
+
+  below-seriesOf : (x : List ℕ) → Below (F .series) (length x) (seriesOf F x)
+  below-seriesOf x =
+      record { at = λ k l. coeff-seriesOf F x k ∙ ap (residue F) (List·getD-eq-default x 0 l) ∙ residue-0 F }
+
+  significantIn-size : (n : ℕ) {x : List ℕ} {s : S} → Carries F x s → significantIn n x ≡ size (F .series) (scalarField F) n s
+  unfolding significantIn
+  significantIn-size zero {x} {s} c = sym (size-0 (F .series) (scalarField F) s)
+  significantIn-size (suc n) {x} {s} c = go (significantIn-size n c) (ℕ-discrete (getD x n 0) 0)
+    where
+      go : significantIn n x ≡ size (F .series) (scalarField F) n s → Dec (getD x n 0 ≡ 0)
+          → significantIn (suc n) x ≡ size (F .series) (scalarField F) (suc n) s
+      go ih (yes e) =
+          ap (λ b. cond b (significantIn n x) (suc n)) (eq-eqb (getD x n 0) 0 e) ∙ ih
+          ∙ sym (size-yes (F .series) (scalarField F) n s (carries-zero F c n e))
+      go ih (no h) =
+          ap (λ b. cond b (significantIn n x) (suc n)) (ne-eqb (getD x n 0) 0 h)
+          ∙ sym (size-no (F .series) (scalarField F) n s (carries-nonzero F c n h))
+
+  pub significant-size : (n : ℕ) {x : List ℕ} {s : S} → Carries F x s → length x ≡ n → significant x ≡ size (F .series) (scalarField F) n s
+  unfolding significant
+  significant-size n {x} {s} c e = significantIn-size (length x) c ∙ ap (λ i. size (F .series) (scalarField F) i s) e
+
+  pub significant-series : (x : List ℕ) → ((k : ℕ) → getD x k 0 < F .p)
+      → significant x ≡ size (F .series) (scalarField F) (length x) (seriesOf F x)
+  significant-series x lx = significant-size (length x) (carries-seriesOf F lx) refl
+
+  -- a result of so many words depends on so many coefficients
+  pub written-low : (words m : ℕ) (form out : List ℕ) (s : S)
+      → ((k : ℕ) → k < words → F .series .coeff (seriesOf F form) k ≡ F .series .coeff s k)
+      → writtenList F words m form out ≡ padded (length out) (unscaled F words (C (F .series) (residue F m) *ˢ s))
+  unfolding writtenList unscaled
+  written-low words m form out s h =
+      ap (padded (length out))
+      (tabulate-ext words _ _ λ k l. ap (λ a. value F (a ⊗ inverse F (binomial F (words - 1) k)))
+      (coeff-C-mul (F .series) (residue F m) (seriesOf F form) k ∙ ap (λ a. residue F m ⊗ a) (h k l)
+      ∙ sym (coeff-C-mul (F .series) (residue F m) s k)))
+
+  module _ (n : ℕ) (x y : List ℕ) (lx : (k : ℕ) → getD x k 0 < F .p) (ly : (k : ℕ) → getD y k 0 < F .p) (ex : length x ≡ n) (ey : length y ≡ n) where
+    size-x : significant x ≡ size (F .series) (scalarField F) n (seriesOf F x)
+    size-x = significant-size n (carries-seriesOf F lx) ex
+
+    size-y : significant y ≡ size (F .series) (scalarField F) n (seriesOf F y)
+    size-y = significant-size n (carries-seriesOf F ly) ey
+
+    below-x : Below (F .series) n (seriesOf F x)
+    below-x = subst (λ i. Below (F .series) i (seriesOf F x)) ex (below-seriesOf x)
+
+    below-y : Below (F .series) n (seriesOf F y)
+    below-y = subst (λ i. Below (F .series) i (seriesOf F y)) ey (below-seriesOf y)
+
+    pub end-euclid : significant y ≡ 0
+        → euclid (F .series) (scalarField F) n n (seriesOf F x) (seriesOf F y) ≡ done (F .series) (scalarField F) (seriesOf F x)
+    end-euclid e = euclid-end (F .series) (scalarField F) n n (seriesOf F x) (seriesOf F y) (sym size-y ∙ e)
+
+    pub rounds-few : euclid (F .series) (scalarField F) n n (seriesOf F x) (seriesOf F y) .rounds ≤ n
+    rounds-few =
+        let l = size-le (F .series) (scalarField F) n (seriesOf F y) in
+        N.le-trans (euclid-ok (F .series) (scalarField F) n n below-x below-y l .few) l
+
+    module _ (some : 0 < significant y) where
+      pub round-fits : (q : List ℕ) → n ≤ length q → roundFits (F .p) x y q ≡ true
+      round-fits q l =
+          round-ready (F .p) x y q some (unfold lastWord in ly (significant y - 1)) (let h = roundSteps-le x y in omega arith)
+
+      -- the words that take part stand for the same series
+      part-x : Carries F (take (significant x) x) (seriesOf F x)
+      part-x =
+          record {
+            below = λ k. rw (getD-significant x k) (lx k);
+            at = λ k. ap (residue F) (getD-significant x k) ∙ sym (coeff-seriesOf F x k);
+          }
+
+      part-y : Carries F (take (significant y) y) (seriesOf F y)
+      part-y =
+          record {
+            below = λ k. rw (getD-significant y k) (ly k);
+            at = λ k. ap (residue F) (getD-significant y k) ∙ sym (coeff-seriesOf F y k);
+          }
+
+      last-inverse : residue F (inverseOf F (lastWord y)) ≡ scalarField F .inv (F .series .coeff (seriesOf F y) (significant y - 1))
+      unfolding lastWord inverse
+      last-inverse = residue-inverse F (lastWord y) ∙ ap (λ a. inverse F a) (sym (coeff-seriesOf F y (significant y - 1)))
+
+      long-y : length (take (significant y) y) ≡ suc (significant y - 1)
+      long-y = length-significant y ∙ omega arith
+
+      steps-is : roundSteps x y ≡ size (F .series) (scalarField F) n (seriesOf F x) - (significant y - 1)
+      unfolding roundSteps
+      steps-is = ap (λ i. i - (significant y - 1)) size-x
+
+      pub length-remaining : length (remaining F x y) ≡ n
+      unfolding remaining
+      length-remaining =
+          length-append (reduced (F .p) (inverseOf F (lastWord y)) (take (significant y) y) (roundSteps x y) (take (significant x) x))
+          (drop (significant x) x)
+          ∙ rw (
+            length-reduced (F .p) (inverseOf F (lastWord y)) (take (significant y) y) (roundSteps x y) (take (significant x) x),
+            length-significant x,
+            length-drop (significant x) x,
+          ) (let l = significant-le x in omega arith)
+
+      pub length-quotientWords : length (quotientWords F x y) ≡ roundSteps x y
+      unfolding quotientWords
+      length-quotientWords =
+          length-digits (F .p) (inverseOf F (lastWord y)) (take (significant y) y) (roundSteps x y) (take (significant x) x)
+
+      -- the division of the significant words
+      left : List ℕ
+      left = reduced (F .p) (inverseOf F (lastWord y)) (take (significant y) y) (roundSteps x y) (take (significant x) x)
+
+      divided : Carries F left (remainder (F .series) (scalarField F) (roundSteps x y) (significant y - 1) (seriesOf F x) (seriesOf F y))
+      unfolding left
+      divided = go (decLe (significant y - 1) (significant x))
+        where
+          go : Dec (significant y - 1 ≤ significant x) → Carries F left (remainder (F .series) (scalarField F) (roundSteps x y) (significant y - 1) (seriesOf F x) (seriesOf F y))
+          go (yes l) =
+              reduced-remainder F (inverseOf F (lastWord y)) (significant y - 1) part-y long-y last-inverse (roundSteps x y) part-x
+              (let e = length-significant x in unfold roundSteps in omega arith)
+          go (no l) =
+              let e : roundSteps x y ≡ 0 = unfold roundSteps in omega arith in
+              rw (e, remainder-zero (F .series) (scalarField F) (significant y - 1) (seriesOf F x) (seriesOf F y)) (unfold reduced in part-x)
+
+      rest : (k : ℕ) → getD (drop (significant x) x) k 0 ≡ 0
+      rest k = getD-drop (significant x) x k 0 ∙ after-significant x (significant x + k) (omega arith)
+
+      pub round-remainder : Carries F (remaining F x y)
+          (remainderBy (F .series) (scalarField F) n (significant y - 1) (seriesOf F x) (seriesOf F y))
+      unfolding remaining left
+      round-remainder =
+          record {
+            below = λ k. rw (getD-zeros left (drop (significant x) x) rest k) (divided .below k);
+            at = λ k. ap (residue F) (getD-zeros left (drop (significant x) x) rest k) ∙ divided .at k
+                ∙ ap (λ i. F .series .coeff (remainder (F .series) (scalarField F) i (significant y - 1) (seriesOf F x) (seriesOf F y)) k) steps-is;
+          }
+
+      pub round-quotient : Carries F (quotientWords F x y)
+          (quotientBy (F .series) (scalarField F) n (significant y - 1) (seriesOf F x) (seriesOf F y))
+      unfolding quotientWords
+      round-quotient =
+          subst (λ i. Carries F (quotientWords F x y) (quotient (F .series) (scalarField F) i (significant y - 1) (seriesOf F x) (seriesOf F y))) steps-is
+          (go (decLe (significant y - 1) (significant x)))
+        where
+          go : Dec (significant y - 1 ≤ significant x)
+              → Carries F (quotientWords F x y) (quotient (F .series) (scalarField F) (roundSteps x y) (significant y - 1) (seriesOf F x) (seriesOf F y))
+          go (yes l) =
+              digits-quotient F (inverseOf F (lastWord y)) (significant y - 1) part-y long-y last-inverse (roundSteps x y) part-x
+              (let e = length-significant x in unfold roundSteps in omega arith)
+          go (no l) =
+              let e : roundSteps x y ≡ 0 = unfold roundSteps in omega arith in
+              rw (e, quotient-zero (F .series) (scalarField F) (significant y - 1) (seriesOf F x) (seriesOf F y))
+              (unfold digits in record { below = λ j. positive F; at = λ j. residue-0 F ∙ sym (coeff-0 (F .series) j) })
+
+      pub remaining-low : (k : ℕ) → getD (remaining F x y) k 0 < F .p
+      remaining-low = round-remainder .below
+
+      pub quotient-low : (k : ℕ) → getD (quotientWords F x y) k 0 < F .p
+      quotient-low = round-quotient .below
+
+      size-suc : size (F .series) (scalarField F) n (seriesOf F y) ≡ suc (significant y - 1)
+      size-suc = sym size-y ∙ omega arith
+
+      pub round-euclid : euclid (F .series) (scalarField F) n n (seriesOf F x) (seriesOf F y)
+          ≡ next (F .series) (scalarField F) (quotientBy (F .series) (scalarField F) n (significant y - 1) (seriesOf F x) (seriesOf F y))
+          (euclid (F .series) (scalarField F) n n (seriesOf F y) (seriesOf F (remaining F x y)))
+      round-euclid =
+          round-law (F .series) (scalarField F) n (significant y - 1) below-x below-y size-suc
+          ∙ ap (λ s. next (F .series) (scalarField F) (quotientBy (F .series) (scalarField F) n (significant y - 1) (seriesOf F x) (seriesOf F y))
+          (euclid (F .series) (scalarField F) n n (seriesOf F y) s)) (sym (seriesOf-carries round-remainder))
+
+      pub round-smaller : significant (remaining F x y) < significant y
+      round-smaller =
+          let e = significant-size n round-remainder length-remaining in
+          let l = size-least (F .series) (scalarField F) n (significant y - 1)
+          (remainder-small (F .series) (scalarField F) n (significant y - 1) below-x below-y size-suc) in
+          omega (arith, e, l)

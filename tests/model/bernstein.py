@@ -182,3 +182,56 @@ def cofactors(f, g):
     for part in (f, g):
         assert quotient_remainder(monomial_basis(part), greatest)[1] == []
     return 0, h, degree(h), c, rounds, a, b
+
+
+def album_lists(s):
+    """(number, lists): 1 or 2 where the layout is broken, else 0 and the lists that the bytes say."""
+    if len(s) == 0 or not 1 <= s[0] <= 16:
+        return 1, None
+    n, lists, place = s[0], [], 1 + 3 * s[0]
+    if len(s) < place:
+        return 2, None
+    for k in range(n):
+        d, low, high = s[1 + 3 * k: 4 + 3 * k]
+        if low + 256 * high != place:
+            return 2, None
+        body = s[place: place + 2 * (d + 1)]
+        if len(body) != 2 * (d + 1):
+            return 2, None
+        lists.append([body[2 * j] + 256 * body[2 * j + 1] for j in range(d + 1)])
+        place += 2 * (d + 1)
+    return (2, None) if place != len(s) else (0, lists)
+
+
+def album_check(s, i):
+    number, lists = album_lists(s)
+    if number:
+        return number
+    if i >= len(lists):
+        return 3
+    return 5 if any(w >= P for c in lists for w in c) else 0
+
+
+def album_gcd(s, room):
+    """(number, h, w, c, rounds)."""
+    number, lists = album_lists(s)
+    if number:
+        return number, None, None, None, None
+    if any(w >= P for c in lists for w in c):
+        return 5, None, None, None, None
+    nonzero = [c for c in lists if significant(c)]
+    if not nonzero:
+        return 9, None, None, None, None
+    if room != LIMIT:
+        return 10, None, None, None, None
+    first = stripped(scaled(nonzero[0]))
+    h = unscaled(len(first), [w * inverse(first[-1]) % P for w in first])
+    total = 0
+    for g in nonzero[1:]:
+        _, h, _, _, rounds, _, _ = cofactors(h, g)
+        total += rounds
+    c = common_power(lists)
+    greatest = times(one_minus_t(c), monomial_basis(h))
+    for part in nonzero:
+        assert quotient_remainder(monomial_basis(part), greatest)[1] == []
+    return 0, h, degree(h), c, total

@@ -41,7 +41,7 @@ pub fn gcd_of(f: &[u16], g: &[u16], h: &mut [u16]) -> Gcd
 }
 
 // Whether f and g are both zero.
-fn both_zero(f: &[u16], g: &[u16]) -> bool
+pub fn both_zero(f: &[u16], g: &[u16]) -> bool
     ensures { λ r. ⌜ r ≡ eqb (significant (now (f .entry)) + significant (now (g .entry))) 0 ⌝ }
 {
     if lists::significant_words(f) != 0 {

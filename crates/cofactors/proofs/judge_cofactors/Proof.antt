@@ -1,0 +1,53 @@
+-- `cofactors::judge_cofactors` meets its contract: its tests are the rows of the table, lowest number first.
+-- Assumes nothing.
+use mathlib.Core.Path.{sym, _∙_}
+use borrow.Author.Needs.{needs}
+use Rattle.gcd.specs.Ready.{judged-lists, judged-zero, judged-misfit, judged-done}
+use Rattle.cofactors.specs.Calls.{cofactorRefusals}
+use Rattle.cofactors.proofs.judge_cofactors.Statement.{statement}
+use Rattle.cofactors.proofs.judge_cofactors.Tie as tie
+
+judge-lists-requires : tie.Need-judge-lists-requires
+judge-lists-requires c κs = search needs
+
+enum-known-why : tie.Need-enum-known-why
+enum-known-why c = search needs
+
+returns : tie.Need-returns
+unfolding cofactorRefusals
+returns c = judged-lists 65521 _ _ _ (sym (c .before .before .before .judge-lists .ensures) ∙ c .before .why .given .1)
+
+enum-told : tie.Need-enum-told
+enum-told c = search needs
+
+both-zero-requires : tie.Need-both-zero-requires
+both-zero-requires c κs = search needs
+
+returns-2 : tie.Need-returns-2
+unfolding cofactorRefusals
+returns-2 c = judged-zero 65521 _ _ _ (sym (c .before .before .before .before .judge-lists .ensures) ∙ c .before .before .enum-told .given .1) (sym (c .before .both-zero .ensures) ∙ c .if1 .taken)
+
+wrong-slices-requires : tie.Need-wrong-slices-requires
+wrong-slices-requires c κs = search needs
+
+returns-3 : tie.Need-returns-3
+unfolding cofactorRefusals
+returns-3 c = judged-misfit 65521 _ _ _ (sym (c .before .before .before .before .before .before .judge-lists .ensures) ∙ c .before .before .before .before .enum-told .given .1) (sym (c .before .before .before .both-zero .ensures) ∙ c .before .before .if1 .left) (sym (c .before .wrong-slices .ensures) ∙ c .if2 .taken)
+
+returns-4 : tie.Need-returns-4
+unfolding cofactorRefusals
+returns-4 c = judged-done 65521 _ _ _ (sym (c .before .before .before .before .before .before .judge-lists .ensures) ∙ c .before .before .before .before .enum-told .given .1) (sym (c .before .before .before .both-zero .ensures) ∙ c .before .before .if1 .left) (sym (c .before .wrong-slices .ensures) ∙ c .if2 .left)
+
+pub judge-cofactors-spec : {M : Type 1} → statement M
+judge-cofactors-spec =
+    tie.close
+    (tie.spec
+    judge-lists-requires
+    enum-known-why
+    returns
+    enum-told
+    both-zero-requires
+    returns-2
+    wrong-slices-requires
+    returns-3
+    returns-4)

@@ -1,0 +1,94 @@
+-- What the call answers, leaves in the slice of h and promises.
+-- Assumes nothing.
+use mathlib.Core.Path.{_≡_, sym, _∙_, ap, ap₂}
+use mathlib.Core.List.{List, []}
+use Prim.Native.Nat.{ℕ, suc, _-_, _≤_, _<_}
+use native.Mathlib.Decide.{decLt}
+use native.Mathlib.Omega.{arith}
+use lib.ListN.{getD, length, take, List·getD-eq-default}
+use lib.Seq.{take-at}
+use Rattle.algebra.specs.PrimeField.{PrimeField}
+use Rattle.refusal.specs.Limits.{maxWords}
+use Rattle.refusal.specs.Refusal.{reply, written}
+use Rattle.refusal.specs.Lowest.{lowest}
+use Rattle.refusal.specs.declared.Refusal.{Refusal}
+use Rattle.refusal.specs.declared.Outcome.the-variants.{Done, Refused}
+use Rattle.lists.specs.Degrees.{naiveDegree}
+use Rattle.lists.specs.Lists.{Coefficients}
+use Rattle.lists.specs.Refused.{Listed}
+use Rattle.euclid.specs.Gcds.{commonPower, padded}
+use Rattle.euclid.specs.Loops.{getD-padded}
+use Rattle.albums.specs.Albums.{albumGcd}
+use Rattle.albums.specs.Greatest.{coefficients-none, album-length, album-ends, album-is-greatest}
+use Rattle.albums.specs.Folds.{zeroStart, foldGcd, fold-album}
+use Rattle.album.specs.Layout.{listsOf}
+use Rattle.gcd.specs.declared.Gcd.the-variants as G
+use Rattle.gcd.specs.Calls.{gcdReply}
+use Rattle.album_gcd.specs.Calls.{albumGcdRefusals, albumGcdValues, AlbumGreatestSo}
+use Rattle.album_gcd.specs.Workers.{Folded, Answered}
+use Rattle.album_gcd.proofs.Zeros.{Nonzero}
+
+pub refused : (F : PrimeField) (s h : List ℕ) {why : Refusal} → lowest (albumGcdRefusals (F .p) s h) ≡ Refused why
+    → Answered F s h h (G.Refused why)
+refused F s h e =
+    record {
+      answer = sym (ap (λ o. reply o (albumGcdValues F (listsOf s))) e);
+      writes = sym (ap (λ o. written o (padded maxWords (albumGcd F (listsOf s) .list)) h) e);
+      greatest = tt;
+    }
+
+module _ (F : PrimeField) (big : maxWords ≤ F .p) (lists : List (List ℕ))
+    (listed : (i : ℕ) → i < length lists → Listed (F .p) maxWords (getD lists i [])) (one : Nonzero lists) where
+  each : (i : ℕ) → Coefficients F (getD lists i [])
+  each i = go (decLt i (length lists))
+    where
+      go : Dec (i < length lists) → Coefficients F (getD lists i [])
+      go (yes l) = record { short = let s = listed i l .short in omega arith; below = listed i l .words }
+      go (no f) = rw (List·getD-eq-default lists [] {n = i} (omega arith)) (coefficients-none F)
+
+  long : length (albumGcd F lists .list) ≡ suc (naiveDegree (albumGcd F lists .list))
+  long = album-length F lists each (one .index) (one .some)
+
+  promised : AlbumGreatestSo F lists (padded maxWords (albumGcd F lists .list)) (naiveDegree (albumGcd F lists .list)) (commonPower lists)
+  promised =
+      record {
+        ends = getD-padded maxWords (albumGcd F lists .list) _ ∙ album-ends F lists each (one .index) (one .some);
+        zeros =
+            λ k l. getD-padded maxWords (albumGcd F lists .list) k
+            ∙ List·getD-eq-default (albumGcd F lists .list) 0 (omega (arith, long));
+        greatest = rw cut (album-is-greatest F lists each (one .index) (one .some));
+      }
+    where
+      cut : take (suc (naiveDegree (albumGcd F lists .list))) (padded maxWords (albumGcd F lists .list)) ≡ albumGcd F lists .list
+      cut = unfold padded in take-at (albumGcd F lists .list) _ _ long
+
+  module _ {x : List ℕ} {n k c : ℕ} (f : Folded F lists x n k) (e : c ≡ commonPower lists) where
+    whole : albumGcd F lists ≡ foldGcd F zeroStart lists
+    whole = fold-album F lists each (one .index) (one .some)
+
+    slice : x ≡ padded maxWords (albumGcd F lists .list)
+    slice = f .held .slice ∙ ap (λ r. padded maxWords (r .list)) (sym whole)
+
+    degree : n - 1 ≡ naiveDegree (albumGcd F lists .list)
+    unfolding naiveDegree
+    degree = ap (λ m. m - 1) (f .held .words ∙ ap (λ r. length (r .list)) (sym whole))
+
+    answer : G.Done (record { 0 = n - 1 }) c k
+        ≡ G.Done (record { 0 = naiveDegree (albumGcd F lists .list) }) (commonPower lists) (albumGcd F lists .rounds)
+    answer =
+        ap (λ m. G.Done (record { 0 = m }) c k) degree
+        ∙ ap₂ (G.Done (record { 0 = naiveDegree (albumGcd F lists .list) })) e (f .rounds ∙ ap (λ r. r .rounds) (sym whole))
+
+module _ (F : PrimeField) (big : maxWords ≤ F .p) (s h : List ℕ)
+    (listed : (i : ℕ) → i < length (listsOf s) → Listed (F .p) maxWords (getD (listsOf s) i [])) (one : Nonzero (listsOf s)) where
+  pub answered : {x : List ℕ} {n k c : ℕ} → Done ≡ lowest (albumGcdRefusals (F .p) s h) → Folded F (listsOf s) x n k
+      → c ≡ commonPower (listsOf s) → Answered F s h x (G.Done (record { 0 = n - 1 }) c k)
+  unfolding albumGcdValues
+  answered {x} {n} {k} {c} e f ec =
+      let a = answer F big (listsOf s) listed one f ec in
+      let b = slice F big (listsOf s) listed one f ec in
+      record {
+        answer = ap gcdReply a ∙ ap (λ o. reply o (albumGcdValues F (listsOf s))) e;
+        writes = b ∙ ap (λ o. written o (padded maxWords (albumGcd F (listsOf s) .list)) h) e;
+        greatest = rw (degree F big (listsOf s) listed one f ec, ec, b) (promised F big (listsOf s) listed one);
+      }

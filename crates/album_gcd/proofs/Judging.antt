@@ -1,0 +1,46 @@
+-- What the call refuses, as the chain of tests that the code makes.
+-- Assumes nothing.
+use mathlib.Core.Path.{_≡_, sym, _∙_}
+use mathlib.Core.Bool.{true, false, not}
+use mathlib.Core.List.{List}
+use Prim.Native.Nat.{ℕ}
+use lib.Dec.{eqb}
+use lib.ListN.{length}
+use borrow.Author.Tests.{eq-eqb, ne-eqb, eqb-true, not-false}
+use Rattle.refusal.specs.Limits.{maxWords}
+use Rattle.refusal.specs.Lowest.{lowest}
+use Rattle.refusal.specs.declared.Refusal.{Refusal}
+use Rattle.refusal.specs.declared.Refusal.the-variants.{AllZero, Misfit}
+use Rattle.refusal.specs.declared.Outcome.the-variants.{Done, Refused}
+use Rattle.refusal.proofs.First.{refuse, or-else, first-then, refuse-done, or-else-done}
+use Rattle.album.specs.Layout.{listsOf}
+use Rattle.album.specs.Calls.{albumRefusals}
+use Rattle.album_gcd.specs.Calls.{allZero, albumGcdRefusals}
+use Rattle.album_gcd.specs.Workers.{Passed}
+
+module _ (p : ℕ) (s h : List ℕ) where
+  rows-judged : lowest (albumGcdRefusals p s h)
+      ≡ or-else (lowest (albumRefusals p s)) (refuse (allZero (listsOf s)) AllZero (refuse (not (eqb (length h) maxWords)) Misfit Done))
+  unfolding albumGcdRefusals albumRefusals
+  rows-judged = first-then (albumRefusals p s) _ tt
+
+  pub judged-album : {why : Refusal} → lowest (albumRefusals p s) ≡ Refused why → Refused why ≡ lowest (albumGcdRefusals p s h)
+  judged-album e = sym (rows-judged ∙ simp e)
+
+  module _ (e : Passed p s) where
+    pub judged-zero : allZero (listsOf s) ≡ true → Refused AllZero ≡ lowest (albumGcdRefusals p s h)
+    judged-zero z = sym (rows-judged ∙ simp (e, z))
+
+    pub judged-misfit : allZero (listsOf s) ≡ false → ¬ (length h ≡ maxWords) → Refused Misfit ≡ lowest (albumGcdRefusals p s h)
+    judged-misfit z m = sym (rows-judged ∙ simp (e, z, ne-eqb (length h) maxWords m))
+
+    pub judged-done : allZero (listsOf s) ≡ false → length h ≡ maxWords → Done ≡ lowest (albumGcdRefusals p s h)
+    judged-done z m = sym (rows-judged ∙ simp (e, z, eq-eqb (length h) maxWords m))
+
+  -- what a call knows that refuses nothing
+  pub judged-fine : lowest (albumGcdRefusals p s h) ≡ Done → Passed p s × (allZero (listsOf s) ≡ false) × (length h ≡ maxWords)
+  judged-fine e =
+      let d = or-else-done (lowest (albumRefusals p s)) _ (sym rows-judged ∙ e) in
+      let z = refuse-done (allZero (listsOf s)) _ _ (d .1) in
+      let m = refuse-done (not (eqb (length h) maxWords)) _ _ (z .1) in
+      (d .0, z .0, eqb-true (length h) maxWords (not-false _ (m .0)))

@@ -1,0 +1,90 @@
+-- The least power of the lists that are not zero, found by a loop that starts above every power.
+--     Lowest i a     a is the least of 256 and of the powers of the lists below i that are not zero
+-- Assumes nothing.
+use mathlib.Core.Path.{_≡_, refl, _∙_, ap}
+use mathlib.Core.Logic.{_⊎_, inl, inr}
+use mathlib.Core.List.{List, []}
+use Prim.Native.Nat.{ℕ, _+_, _-_, _≤_, _<_}
+use native.Mathlib.Decide.{ℕ-discrete, decLt}
+use native.Mathlib.Omega.{arith}
+use lib.ListN.{getD, length, take, List·getD-eq-default}
+use Rattle.refusal.specs.Limits.{maxWords}
+use Rattle.lists.specs.Degrees.{naiveDegree, significant, extent, power}
+use Rattle.lists.specs.Extents.{significant-le}
+use Rattle.euclid.specs.Gcds.{commonPower}
+use Rattle.euclid.specs.Powers.{significant-nil, commonPower-le, commonPower-attained}
+use Rattle.album_gcd.specs.Workers.{Held}
+use Rattle.album_gcd.proofs.Lists.{held-take}
+use Rattle.album_gcd.proofs.Zeros.{Nonzero}
+
+power-is : (c : List ℕ) → 0 < significant c → power c ≡ length c - significant c
+unfolding power naiveDegree extent
+power-is c h = let l = significant-le c in omega arith
+
+-- a list c in a slice, with k the number of its significant words
+pub list-power : {p n k : ℕ} {x c d : List ℕ} → c ≡ d → Held p x n c → k ≡ significant (take n x)
+    → (k ≡ significant d) × (k ≤ n) × (0 < k → n - k ≡ power d)
+list-power {p} {n} {k} {x} {c} {d} e h q =
+    let v : k ≡ significant d = q ∙ ap significant (held-take h ∙ e) in
+    let w : n ≡ length d = h .words ∙ ap length e in
+    (v, omega (arith, significant-le d), λ l. omega (arith, power-is d (omega arith)))
+
+module _ (lists : List (List ℕ)) where
+  -- the power of a list that is not zero
+  pub record Found (a : ℕ) : Type 0 where
+    pub index : ℕ
+    pub some : 0 < significant (getD lists index [])
+    pub is : a ≡ power (getD lists index [])
+
+  pub record Lowest (i a : ℕ) : Type 0 where
+    pub le : (j : ℕ) → j < i → 0 < significant (getD lists j []) → a ≤ power (getD lists j [])
+    pub is : (a ≡ maxWords) ⊎ Found a
+
+  pub lowest-start : Lowest 0 256
+  lowest-start = record { le = λ j l. absurd (omega arith); is = inl (omega arith) }
+
+  pub lowest-keep : {i a b : ℕ} → Lowest i a → b ≡ a → (0 < significant (getD lists i []) → a ≤ power (getD lists i [])) → Lowest (i + 1) b
+  lowest-keep {i} {a} {b} w e here = rw e (record { le = λ j l. go j l (ℕ-discrete j i); is = w .is })
+    where
+      go : (j : ℕ) → j < i + 1 → Dec (j ≡ i) → 0 < significant (getD lists j []) → a ≤ power (getD lists j [])
+      go j l (yes q) = rw q here
+      go j l (no f) = w .le j (omega arith)
+
+  pub lowest-less : {i a b : ℕ} → Lowest i a → 0 < significant (getD lists i []) → b ≡ power (getD lists i []) → b < a → Lowest (i + 1) b
+  lowest-less {i} {a} {b} w some e l =
+      lowest-keep
+      (record { le = λ j k z. let m = w .le j k z in omega arith; is = inr (record { index = i; some = some; is = e }) })
+      refl
+      (λ z. omega arith)
+
+  inside : (i : ℕ) → 0 < significant (getD lists i []) → i < length lists
+  inside i some = go (decLt i (length lists))
+    where
+      go : Dec (i < length lists) → i < length lists
+      go (yes l) = l
+      go (no f) = absurd (let z = ap significant (List·getD-eq-default lists [] {n = i} (omega arith)) ∙ significant-nil in omega arith)
+
+  pub lowest-end : {i a : ℕ} → Lowest i a → length lists ≤ i → Nonzero lists
+      → ((j : ℕ) → j < length lists → length (getD lists j []) ≤ maxWords) → a ≡ commonPower lists
+  lowest-end {i} {a} w l one short = go (w .is)
+    where
+      least : a ≤ commonPower lists
+      least =
+          let c = commonPower-attained lists (one .index) (one .some) in
+          let k = inside (c .index) (c .some) in
+          let m = w .le (c .index) (omega arith) (c .some) in
+          omega (arith, c .is)
+
+      small : commonPower lists < maxWords
+      small =
+          let c = commonPower-attained lists (one .index) (one .some) in
+          let some = c .some in
+          let s = short (c .index) (inside (c .index) some) in
+          omega (arith, c .is, power-is (getD lists (c .index) []) some)
+
+      go : (a ≡ maxWords) ⊎ Found a → a ≡ commonPower lists
+      go (inl e) = absurd (let k = small in let m = least in omega arith)
+      go (inr f) =
+          let k = commonPower-le lists (f .index) (f .some) in
+          let m = least in
+          omega (arith, f .is)

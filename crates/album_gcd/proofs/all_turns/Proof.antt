@@ -1,0 +1,118 @@
+-- `album_gcd::all_turns` meets its contract: h holds the result after the lists below k.
+-- Assumes nothing.
+use mathlib.Core.Path.{_≡_, sym, _∙_, ap}
+use Prim.Native.Nat.{_≤_, _-_}
+use native.Mathlib.Omega.{arith}
+use lib.ListN.{length, getD}
+use borrow.Author.Needs.{needs}
+use Rattle.algebra.specs.PrimeField.{F65521}
+use Rattle.refusal.specs.Limits.{maxWords}
+use Rattle.album.specs.Layout.{listsOf}
+use Rattle.album_gcd.proofs.Lists.{passed-obeys, length-lists, list-at, held-take}
+use Rattle.album_gcd.proofs.Turning.{held-length, held-again, Folding, folding-start, folding-next, folding-end}
+use Rattle.album_gcd.proofs.all_turns.Statement.{statement}
+use Rattle.album_gcd.proofs.all_turns.Tie as tie
+
+abbrev Inv-loop : tie.InvT-loop
+Inv-loop album list₀ last₀ h₀ n words₀ rounds₀ k₀ list last h words rounds k =
+    (k ≤ n) × (length list ≡ maxWords) × (length last ≡ maxWords) × Folding F65521 (listsOf album) k h words rounds
+
+abbrev μ-loop : tie.MeasureT-loop
+μ-loop album list₀ last₀ h₀ n words₀ rounds₀ k₀ list last h words rounds k = n - k
+
+count-lists-requires : tie.Need-count-lists-requires Inv-loop μ-loop
+count-lists-requires c κs = search needs
+
+copy-requires : tie.Need-copy-requires Inv-loop μ-loop
+copy-requires c κs = let pre = c .before .before .before .before .before .before .before .pre in pre .1 .0 .1 ∙ sym (pre .1 .0 .2)
+
+loop-holds : tie.Need-loop-holds Inv-loop μ-loop
+unfolding F65521
+loop-holds c =
+    let pre = c .before .before .before .before .before .before .before .before .before .before .pre in
+    let e = c .before .before .copy .ensures in (
+      search needs,
+      pre .1 .0 .0,
+      pre .1 .0 .1,
+      folding-start F65521 _ _ (ap length e ∙ pre .1 .0 .1) (λ k. ap (λ l. getD l k 0) e ∙ pre .1 .1 k),
+    )
+
+read-requires : tie.Need-read-requires Inv-loop μ-loop
+read-requires c κs =
+    let start = c .before .before .before .before .before .before .before .before .before .before .before .before .before in
+    (start .pre .0, (omega (arith, c .before .before .before .before .before .before .before .before .count-lists .ensures), c .before .before .loop .inv .1))
+
+slice-reshare-prefix-turn : tie.Need-slice-reshare-prefix-turn Inv-loop μ-loop
+slice-reshare-prefix-turn c = search needs
+
+slice-aggregate-turn : tie.Need-slice-aggregate-turn Inv-loop μ-loop
+slice-aggregate-turn c =
+    let h = c .before .before .before .read .ensures in
+    h .words ∙ ap length (sym (held-take h))
+
+turn-requires : tie.Need-turn-requires Inv-loop μ-loop
+unfolding F65521
+turn-requires c κs =
+    let w = c .before .before .before .before .before .before .before .before .loop .inv in
+    (held-again (c .before .before .before .before .before .read .ensures) .listed, (held-again (w .3 .held), w .2))
+
+add-rounds : tie.Need-add-rounds Inv-loop μ-loop
+add-rounds c =
+    let few = c .before .before .before .before .before .before .before .before .before .before .before .before .before .before .loop .inv .3 .few in
+    let more = c .before .before .before .before .before .turn .ensures .few in
+    let n = c .before .before .before .before .before .before .before .before .before .before .before .before .before .before .before .before .before .before .before .before .count-lists .ensures in
+    omega (arith, passed-obeys 65521 _ (c .before .before .before .before .before .before .before .before .before .before .before .before .before .before .before .before .before .before .before .before .before .before .before .before .before .pre .0) .few)
+
+add-k : tie.Need-add-k Inv-loop μ-loop
+add-k c = search needs
+
+loop-less : tie.Need-loop-less Inv-loop μ-loop
+loop-less c = search needs
+
+loop-again : tie.Need-loop-again Inv-loop μ-loop
+loop-again c =
+    let s = c .before .before .before .before .before .before .before .before .before .before .before .before .before .before .before .before .before .before .before .before .before .before .before .before .before .args .album .now in
+    let n = c .before .before .before .before .before .before .before .before .before .before .before .before .before .before .before .before .before .before .before .before .count-lists .ensures in (
+      omega arith,
+      search needs,
+      search needs,
+      folding-next F65521 (listsOf s) (c .before .before .before .before .before .before .before .before .before .before .before .before .before .before .loop .inv .3) (omega (arith, length-lists s))
+          (held-take (c .before .before .before .before .before .before .before .before .before .before .before .read .ensures) ∙ sym (list-at s _ (omega arith))) (c .before .before .before .before .before .turn .ensures),
+    )
+
+same-length : tie.Need-same-length Inv-loop μ-loop
+same-length c = search needs
+
+same-length-2 : tie.Need-same-length-2 Inv-loop μ-loop
+same-length-2 c = search needs
+
+same-length-3 : tie.Need-same-length-3 Inv-loop μ-loop
+same-length-3 c = held-length (c .before .loop .inv .3 .held) ∙ sym (c .before .before .before .before .before .before .before .before .before .before .before .before .pre .1 .0 .2)
+
+returns : tie.Need-returns Inv-loop μ-loop
+returns c =
+    let s = c .before .before .before .before .before .before .before .before .before .before .before .before .args .album .now in
+    let n = c .before .before .before .before .before .before .before .count-lists .ensures in
+    folding-end F65521 (listsOf s) (c .before .loop .inv .3) (omega (arith, length-lists s))
+
+pub all-turns-spec : {M : Type 1} → statement M
+all-turns-spec =
+    tie.close
+    (tie.spec
+    Inv-loop
+    μ-loop
+    count-lists-requires
+    copy-requires
+    loop-holds
+    read-requires
+    slice-reshare-prefix-turn
+    slice-aggregate-turn
+    turn-requires
+    add-rounds
+    add-k
+    loop-less
+    loop-again
+    same-length
+    same-length-2
+    same-length-3
+    returns)

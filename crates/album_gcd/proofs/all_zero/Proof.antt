@@ -1,0 +1,108 @@
+-- `album_gcd::all_zero` meets its contract: the lists from i on answer for all.
+-- Assumes nothing.
+use mathlib.Core.Path.{_≡_, refl, sym, _∙_, ap}
+use mathlib.Core.List.{[]}
+use Prim.Native.Nat.{_≤_, _-_}
+use native.Mathlib.Omega.{arith}
+use lib.ListN.{length, getD, drop}
+use borrow.Author.Needs.{needs}
+use Rattle.refusal.specs.Limits.{maxWords}
+use Rattle.lists.specs.Degrees.{significant}
+use Rattle.album.specs.Layout.{listsOf}
+use Rattle.album_gcd.specs.Calls.{allZero}
+use Rattle.album_gcd.proofs.Lists.{length-lists, list-at, held-take}
+use Rattle.album_gcd.proofs.Zeros.{zero-here, zero-on, zero-end}
+use Rattle.album_gcd.proofs.all_zero.Statement.{statement}
+use Rattle.album_gcd.proofs.all_zero.Tie as tie
+
+abbrev Inv-loop : tie.InvT-loop
+Inv-loop album list₀ n i₀ list i = (i ≤ n) × (length list ≡ maxWords) × (allZero (listsOf album) ≡ allZero (drop i (listsOf album)))
+
+abbrev μ-loop : tie.MeasureT-loop
+μ-loop album list₀ n i₀ list i = n - i
+
+count-lists-requires : tie.Need-count-lists-requires Inv-loop μ-loop
+count-lists-requires c κs = search needs
+
+loop-holds : tie.Need-loop-holds Inv-loop μ-loop
+loop-holds c = (search needs, c .before .before .before .pre .1, refl)
+
+read-requires : tie.Need-read-requires Inv-loop μ-loop
+read-requires c κs =
+    let start = c .before .before .before .before .before .before in
+    (start .pre .0, (omega (arith, c .before .before .before .count-lists .ensures), c .before .before .loop .inv .1))
+
+slice-reshare-prefix-significant-words :
+    tie.Need-slice-reshare-prefix-significant-words Inv-loop μ-loop
+slice-reshare-prefix-significant-words c = search needs
+
+slice-aggregate-significant-words : tie.Need-slice-aggregate-significant-words Inv-loop μ-loop
+slice-aggregate-significant-words c =
+    let h = c .before .before .before .read .ensures in
+    h .words ∙ ap length (sym (held-take h))
+
+significant-words-requires : tie.Need-significant-words-requires Inv-loop μ-loop
+significant-words-requires c κs = search needs
+
+-- the number of significant words of list i
+found : (c : tie.After-significant-words Inv-loop μ-loop)
+    → c .significant-words .result ≡ significant (getD (listsOf (c .before .before .before .before .before .before .before .before .before .before .before .args .album .now)) (c .before .before .before .before .before .before .before .loop .i) [])
+found c =
+    let s = c .before .before .before .before .before .before .before .before .before .before .before .args .album .now in
+    let l = c .before .before .before .before .before .before .before .before .count-lists .ensures in
+    c .significant-words .ensures ∙ ap significant (held-take (c .before .before .before .before .read .ensures) ∙ sym (list-at s _ (omega arith)))
+
+same-length : tie.Need-same-length Inv-loop μ-loop
+same-length c = search needs
+
+returns : tie.Need-returns Inv-loop μ-loop
+returns c =
+    let s = c .before .before .before .before .before .before .before .before .before .before .before .before .args .album .now in
+    let l = c .before .before .before .before .before .before .before .before .before .count-lists .ensures in
+    sym (c .before .before .before .before .before .before .before .before .loop .inv .2
+    ∙ zero-here (listsOf s) _ (omega (arith, length-lists s)) (λ z. c .if1 .taken (found (c .before) ∙ z)))
+
+add-i : tie.Need-add-i Inv-loop μ-loop
+add-i c = search needs
+
+loop-less : tie.Need-loop-less Inv-loop μ-loop
+loop-less c = search needs
+
+loop-again : tie.Need-loop-again Inv-loop μ-loop
+loop-again c =
+    let s = c .before .before .before .before .before .before .before .before .before .before .before .before .args .album .now in
+    let l = c .before .before .before .before .before .before .before .before .before .count-lists .ensures in (
+      omega arith,
+      search needs,
+      c .before .before .before .before .before .before .before .before .loop .inv .2
+          ∙ zero-on (listsOf s) _ (omega (arith, length-lists s)) (sym (found (c .before)) ∙ c .if1 .left),
+    )
+
+same-length-2 : tie.Need-same-length-2 Inv-loop μ-loop
+same-length-2 c = search needs
+
+returns-2 : tie.Need-returns-2 Inv-loop μ-loop
+returns-2 c =
+    let s = c .before .before .before .before .before .args .album .now in
+    let l = c .before .before .count-lists .ensures in
+    sym (c .before .loop .inv .2 ∙ zero-end (listsOf s) (c .before .loop .i) (omega (arith, length-lists s)))
+
+pub all-zero-spec : {M : Type 1} → statement M
+all-zero-spec =
+    tie.close
+    (tie.spec
+    Inv-loop
+    μ-loop
+    count-lists-requires
+    loop-holds
+    read-requires
+    slice-reshare-prefix-significant-words
+    slice-aggregate-significant-words
+    significant-words-requires
+    same-length
+    returns
+    add-i
+    loop-less
+    loop-again
+    same-length-2
+    returns-2)

@@ -1,0 +1,116 @@
+-- `album_gcd::common_power` meets its contract: the least power of the lists below j is found.
+-- Assumes nothing.
+use mathlib.Core.Path.{_≡_, sym, _∙_, ap}
+use mathlib.Core.List.{[]}
+use mathlib.Core.Logic.{⊎-elim}
+use Prim.Native.Nat.{_≤_, _<_, _-_}
+use native.Mathlib.Omega.{arith}
+use lib.Dec.{leb→le}
+use lib.ListN.{length, getD}
+use borrow.Author.Needs.{needs}
+use Rattle.refusal.specs.Limits.{maxWords}
+use Rattle.lists.specs.Degrees.{significant, power}
+use Rattle.album.specs.Layout.{listsOf}
+use Rattle.album_gcd.proofs.Lists.{length-lists, list-at, held-take, passed-each}
+use Rattle.album_gcd.proofs.Zeros.{nonzero}
+use Rattle.album_gcd.proofs.Power.{list-power, Lowest, lowest-start, lowest-keep, lowest-less, lowest-end}
+use Rattle.album_gcd.proofs.common_power.Statement.{statement}
+use Rattle.album_gcd.proofs.common_power.Tie as tie
+
+abbrev Inv-loop : tie.InvT-loop
+Inv-loop album list₀ n least₀ j₀ list least j = (j ≤ n) × (length list ≡ maxWords) × Lowest (listsOf album) j least
+
+abbrev μ-loop : tie.MeasureT-loop
+μ-loop album list₀ n least₀ j₀ list least j = n - j
+
+count-lists-requires : tie.Need-count-lists-requires Inv-loop μ-loop
+count-lists-requires c κs = search needs
+
+loop-holds : tie.Need-loop-holds Inv-loop μ-loop
+loop-holds c = (search needs, c .before .before .before .pre .1, lowest-start _)
+
+read-requires : tie.Need-read-requires Inv-loop μ-loop
+read-requires c κs =
+    let start = c .before .before .before .before .before .before in
+    (start .pre .0 .0, (omega (arith, c .before .before .before .count-lists .ensures), c .before .before .loop .inv .1))
+
+slice-reshare-prefix-significant-words :
+    tie.Need-slice-reshare-prefix-significant-words Inv-loop μ-loop
+slice-reshare-prefix-significant-words c = search needs
+
+slice-aggregate-significant-words : tie.Need-slice-aggregate-significant-words Inv-loop μ-loop
+slice-aggregate-significant-words c =
+    let h = c .before .before .before .read .ensures in
+    h .words ∙ ap length (sym (held-take h))
+
+significant-words-requires : tie.Need-significant-words-requires Inv-loop μ-loop
+significant-words-requires c κs = search needs
+
+-- what is found of list j: its significant words, at most as many as its words; the difference is its power
+listed : (c : tie.After-significant-words Inv-loop μ-loop)
+    → (c .significant-words .result ≡ significant (getD (listsOf (c .before .before .before .before .before .before .before .before .before .before .before .args .album .now)) (c .before .before .before .before .before .before .before .loop .j) []))
+    × (c .significant-words .result ≤ c .before .before .before .before .read .result)
+    × (0 < c .significant-words .result → c .before .before .before .before .read .result - c .significant-words .result ≡ power (getD (listsOf (c .before .before .before .before .before .before .before .before .before .before .before .args .album .now)) (c .before .before .before .before .before .before .before .loop .j) []))
+listed c =
+    let s = c .before .before .before .before .before .before .before .before .before .before .before .args .album .now in
+    let l = c .before .before .before .before .before .before .before .before .count-lists .ensures in
+    let h = c .before .before .before .before .read .ensures in
+    list-power (sym (list-at s _ (omega arith))) h (c .significant-words .ensures)
+
+sub-if2 : tie.Need-sub-if2 Inv-loop μ-loop
+sub-if2 c = let l = listed (c .before) .1 in omega arith
+
+sub-least : tie.Need-sub-least Inv-loop μ-loop
+sub-least c = let l = listed (c .before .before) .1 in omega arith
+
+add-j : tie.Need-add-j Inv-loop μ-loop
+add-j c = search needs
+
+loop-less : tie.Need-loop-less Inv-loop μ-loop
+loop-less c = search needs
+
+loop-again : tie.Need-loop-again Inv-loop μ-loop
+loop-again c =
+    let w = c .before .before .before .before .before .before .before .before .loop .inv .2 in
+    let f = listed (c .before) in (
+      omega arith,
+      search needs,
+      ⊎-elim
+          (λ g. let l = g .0 .taken in let q = g .1 .taken in lowest-less _ w (omega (arith, f .0)) (g .2 ∙ f .2 (omega arith)) (omega (arith, g .2)))
+          (⊎-elim
+          (λ g. let l = g .0 .taken in let q = g .1 .left in lowest-keep _ w (g .2) (λ z. omega (arith, f .2 (omega arith))))
+          (λ g. let l = g .0 .left in lowest-keep _ w (g .1) (λ z. absurd (omega (arith, f .0)))))
+          (c .if1 .came),
+    )
+
+same-length : tie.Need-same-length Inv-loop μ-loop
+same-length c = search needs
+
+returns : tie.Need-returns Inv-loop μ-loop
+returns c =
+    let start = c .before .before .before .before .before in
+    let s = start .args .album .now in
+    let bytes = c .before .before .before .before .shared-slice-known .given in
+    let l = c .before .before .count-lists .ensures in
+    lowest-end (listsOf s) (c .before .loop .inv .2) (omega (arith, length-lists s)) (nonzero (listsOf s) (start .pre .0 .1))
+    (λ j k. passed-each 65521 s (start .pre .0 .0) (leb→le 1 65521 tt) (λ i. omega (arith, bytes i)) j k .short)
+
+pub common-power-spec : {M : Type 1} → statement M
+common-power-spec =
+    tie.close
+    (tie.spec
+    Inv-loop
+    μ-loop
+    count-lists-requires
+    loop-holds
+    read-requires
+    slice-reshare-prefix-significant-words
+    slice-aggregate-significant-words
+    significant-words-requires
+    sub-if2
+    sub-least
+    add-j
+    loop-less
+    loop-again
+    same-length
+    returns)

@@ -1,0 +1,194 @@
+// The GCD of an album.
+ghost use mathlib.Core.Path.{_≡_};
+ghost use mathlib.Core.Bool.{false};
+ghost use Prim.Native.Nat.{ℕ, _<_};
+ghost use lib.ListN.{length, getD, take};
+ghost use Rattle.algebra.specs.PrimeField.{F65521};
+ghost use Rattle.refusal.specs.Limits.{maxWords};
+ghost use Rattle.refusal.specs.Refusal.{reply, written};
+ghost use Rattle.refusal.specs.Lowest.{lowest};
+ghost use Rattle.field.specs.Field.{p};
+ghost use Rattle.lists.specs.Refused.{Listed};
+ghost use Rattle.euclid.specs.Gcds.{padded, commonPower};
+ghost use Rattle.albums.specs.Albums.{albumGcd};
+ghost use Rattle.album.specs.Layout.{count, listAt, listsOf};
+ghost use Rattle.gcd.specs.Calls.{gcdReply};
+ghost use Rattle.album_gcd.specs.Calls.{allZero, albumGcdRefusals, albumGcdValues, AlbumGreatest};
+ghost use Rattle.album_gcd.specs.Workers.{Passed, Held, Turned, Folded, Answered};
+use gcd::Gcd;
+use lists::NaiveDegree;
+use refusal::Outcome;
+use refusal::Refusal;
+
+// The GCD of the album's lists: h goes to a slice of 256 words, zeros after word w.
+pub fn gcd_of_album(album: &[u8], h: &mut [u16]) -> Gcd
+    ensures answer { λ r. ⌜ gcdReply r ≡ reply (lowest (albumGcdRefusals p (now (album .entry)) (now (h .entry)))) (albumGcdValues F65521 (listsOf (now (album .entry)))) ⌝ }
+    ensures writes { λ _. ⌜ now (h .exit) ≡ written (lowest (albumGcdRefusals p (now (album .entry)) (now (h .entry)))) (padded maxWords (albumGcd F65521 (listsOf (now (album .entry))) .list)) (now (h .entry)) ⌝ }
+    ensures greatest { λ r. ⌜ AlbumGreatest F65521 (listsOf (now (album .entry))) (now (h .exit)) r ⌝ }
+{
+    let mut list = [0u16; 256];
+    let mut last = [0u16; 256];
+    gcd_in(album, &mut list, &mut last, h)
+}
+
+// The number of lists.
+fn count_lists(album: &[u8]) -> usize
+    requires { ⌜ Passed p (now album) ⌝ }
+    ensures { λ r. ⌜ r ≡ count (now (album .entry)) ⌝ }
+{
+    album[0] as usize
+}
+
+// List i, to a slice of 256 words. The number of its words.
+fn read(album: &[u8], i: usize, list: &mut [u16]) -> usize
+    requires { ⌜ Passed p (now album) ⌝ }
+    requires { ⌜ (i < count (now album)) × (length (now list) ≡ maxWords) ⌝ }
+    ensures { λ r. ⌜ Held p (now (list .exit)) r (listAt (now (album .entry)) i) ⌝ }
+{
+    match album::read_list(album, i, list) {
+        album::Listed::Done(degree) => degree.0 + 1,
+        album::Listed::Refused(_) => 0,
+    }
+}
+
+// Whether every list is zero.
+fn all_zero(album: &[u8], list: &mut [u16]) -> bool
+    requires { ⌜ Passed p (now album) ⌝ }
+    requires { ⌜ length (now list) ≡ maxWords ⌝ }
+    ensures { λ r. ⌜ r ≡ allZero (listsOf (now (album .entry))) ⌝ }
+{
+    let n = count_lists(album);
+    let mut i = 0;
+    while i < n {
+        let m = read(album, i, list);
+        if lists::significant_words(&list[..m]) != 0 {
+            return false;
+        }
+        i += 1;
+    }
+    true
+}
+
+// What the call refuses.
+fn judge(album: &[u8], list: &mut [u16], h: &[u16]) -> Outcome
+    requires { ⌜ length (now list) ≡ maxWords ⌝ }
+    ensures { λ r. ⌜ r ≡ lowest (albumGcdRefusals p (now (album .entry)) (now (h .entry))) ⌝ }
+{
+    if let Outcome::Refused(why) = album::judge_album(album) {
+        return Outcome::Refused(why);
+    }
+    if all_zero(album, list) {
+        return Outcome::Refused(Refusal::AllZero);
+    }
+    if h.len() != refusal::MAX_WORDS {
+        return Outcome::Refused(Refusal::Misfit);
+    }
+    Outcome::Done
+}
+
+// The least power of the lists that are not zero: 256 is above every power.
+fn common_power(album: &[u8], list: &mut [u16]) -> usize
+    requires { ⌜ (Passed p (now album)) × (allZero (listsOf (now album)) ≡ false) ⌝ }
+    requires { ⌜ length (now list) ≡ maxWords ⌝ }
+    ensures { λ r. ⌜ r ≡ commonPower (listsOf (now (album .entry))) ⌝ }
+{
+    let n = count_lists(album);
+    let mut least = 256;
+    let mut j = 0;
+    while j < n {
+        let m = read(album, j, list);
+        let used = lists::significant_words(&list[..m]);
+        if used != 0 {
+            if m - used < least {
+                least = m - used;
+            }
+        }
+        j += 1;
+    }
+    least
+}
+
+// The words of one slice, to another of the same length.
+fn copy(from: &[u16], to: &mut [u16])
+    requires { ⌜ length (now from) ≡ length (now to) ⌝ }
+    ensures { λ _. ⌜ now (to .exit) ≡ now (from .entry) ⌝ }
+{
+    let mut i = 0;
+    while i < to.len() {
+        to[i] = from[i];
+        i += 1;
+    }
+}
+
+// A result that stands in h: the number of its words, and the rounds that it took.
+struct Found {
+    words: usize,
+    rounds: usize,
+}
+
+// One more list: the result so far, in h, becomes the GCD of both, and stays where the list is zero. last is room for a copy of it.
+fn turn(list: &[u16], last: &mut [u16], h: &mut [u16], words: usize) -> Found
+    requires { ⌜ Listed p maxWords (now list) ⌝ }
+    requires { ⌜ Held p (now h) words (take words (now h)) ⌝ }
+    requires { ⌜ length (now last) ≡ maxWords ⌝ }
+    ensures { λ r. ⌜ Turned F65521 (take words (now (h .entry))) (now (list .entry)) (now (h .exit)) (r .words) (r .rounds) ⌝ }
+{
+    if lists::significant_words(list) == 0 {
+        return Found { words, rounds: 0 };
+    }
+    copy(h, last);
+    match gcd::gcd_of(&last[..words], list, h) {
+        Gcd::Done(w, _, rounds) => Found {
+            words: w.0 + 1,
+            rounds,
+        },
+        Gcd::Refused(_) => Found { words, rounds: 0 },
+    }
+}
+
+// The result after all lists, in h, from the zero list [0]; last comes as zeros.
+fn all_turns(album: &[u8], list: &mut [u16], last: &mut [u16], h: &mut [u16]) -> Found
+    requires { ⌜ Passed p (now album) ⌝ }
+    requires { ⌜ (length (now list) ≡ maxWords) × (length (now last) ≡ maxWords) × (length (now h) ≡ maxWords) ⌝ }
+    requires { ⌜ ((k : ℕ) → getD (now last) k 0 ≡ 0) ⌝ }
+    ensures { λ r. ⌜ Folded F65521 (listsOf (now (album .entry))) (now (h .exit)) (r .words) (r .rounds) ⌝ }
+{
+    let n = count_lists(album);
+    copy(last, h);
+    let mut words = 1;
+    let mut rounds = 0;
+    let mut k = 0;
+    while k < n {
+        let m = read(album, k, list);
+        let found = turn(&list[..m], last, h, words);
+        words = found.words;
+        rounds += found.rounds;
+        k += 1;
+    }
+    Found { words, rounds }
+}
+
+// The GCD where nothing is refused.
+fn gcd_into(album: &[u8], list: &mut [u16], last: &mut [u16], h: &mut [u16]) -> Gcd
+    requires { ⌜ (Passed p (now album)) × (allZero (listsOf (now album)) ≡ false) ⌝ }
+    requires { ⌜ (length (now list) ≡ maxWords) × (length (now last) ≡ maxWords) × (length (now h) ≡ maxWords) ⌝ }
+    requires { ⌜ ((k : ℕ) → getD (now last) k 0 ≡ 0) ⌝ }
+    ensures { λ r. ⌜ Answered F65521 (now (album .entry)) (now (h .entry)) (now (h .exit)) r ⌝ }
+{
+    let found = all_turns(album, list, last, h);
+    let c = common_power(album, list);
+    Gcd::Done(NaiveDegree(found.words - 1), c, found.rounds)
+}
+
+// The GCD by way of buffers; last comes as zeros.
+fn gcd_in(album: &[u8], list: &mut [u16], last: &mut [u16], h: &mut [u16]) -> Gcd
+    requires { ⌜ (length (now list) ≡ maxWords) × (length (now last) ≡ maxWords) ⌝ }
+    requires { ⌜ ((k : ℕ) → getD (now last) k 0 ≡ 0) ⌝ }
+    ensures { λ r. ⌜ Answered F65521 (now (album .entry)) (now (h .entry)) (now (h .exit)) r ⌝ }
+{
+    let answer = judge(album, list, h);
+    match answer {
+        Outcome::Refused(why) => Gcd::Refused(why),
+        Outcome::Done => gcd_into(album, list, last, h),
+    }
+}

@@ -39,7 +39,7 @@ refused F s h e =
 
 module _ (F : PrimeField) (big : maxWords ≤ F .p) (lists : List (List ℕ))
     (listed : (i : ℕ) → i < length lists → Listed (F .p) maxWords (getD lists i [])) (one : Nonzero lists) where
-  each : (i : ℕ) → Coefficients F (getD lists i [])
+  pub each : (i : ℕ) → Coefficients F (getD lists i [])
   each i = go (decLt i (length lists))
     where
       go : Dec (i < length lists) → Coefficients F (getD lists i [])

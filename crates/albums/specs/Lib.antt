@@ -2,4 +2,3 @@ pub mod Albums
 pub mod Ended
 pub mod Greatest
 pub mod Folds
-pub mod Demand3

@@ -39,7 +39,7 @@ module _ (F : PrimeField) {p : ℕ} (is : F .p ≡ p) (a : ℕ) (some : 0 < a) (
       omega arith
 
 -- the quotient and the remainder keep the promise
-divides-so : (F : PrimeField) (g f : List ℕ) → Divisible F g f → DividesSo F g f (quotientOf F g f) (remainderOf F g f)
+pub divides-so : (F : PrimeField) (g f : List ℕ) → Divisible F g f → DividesSo F g f (quotientOf F g f) (remainderOf F g f)
 unfolding Equation
 divides-so F g f h =
     record {

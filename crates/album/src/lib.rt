@@ -71,7 +71,8 @@ pub fn body(album: &[u8], i: usize) -> &[u8]
     }
 }
 
-fn wide(b: u8) -> usize
+// A byte as a number.
+pub fn wide(b: u8) -> usize
     ensures { λ r. ⌜ (r ≡ b) × (r < 256) ⌝ }
 {
     b as usize

@@ -119,16 +119,10 @@ fn judge_sum(f: &[u16], g: &[u16], out: &[u16]) -> Outcome
     if let Outcome::Refused(of_lists) = lists::judge_lists(f, g) {
         return Outcome::Refused(of_lists);
     }
-    if out.len() != larger(f.len(), g.len()) {
+    if out.len() != lists::larger(f.len(), g.len()) {
         return Outcome::Refused(Refusal::Misfit);
     }
     Outcome::Done
-}
-
-fn larger(a: usize, b: usize) -> usize
-    ensures { λ r. ⌜ r ≡ max a b ⌝ }
-{
-    if a < b { b } else { a }
 }
 
 // The scaled forms of f and g in a and b, their product in s, and back into out.

@@ -94,7 +94,7 @@ fn judge_derivative(f: &[u16], out: &[u16]) -> Outcome
     if let Outcome::Refused(why) = lists::judge_list(f) {
         return Outcome::Refused(why);
     }
-    if out.len() != larger(f.len() - 1, 1) {
+    if out.len() != lists::larger(f.len() - 1, 1) {
         return Outcome::Refused(Refusal::Misfit);
     }
     Outcome::Done
@@ -111,12 +111,6 @@ fn judge_evaluate(f: &[u16], x: u16) -> Outcome
         return Outcome::Refused(Refusal::LooseWord);
     }
     Outcome::Done
-}
-
-fn larger(a: usize, b: usize) -> usize
-    ensures { λ r. ⌜ r ≡ max a b ⌝ }
-{
-    if a < b { b } else { a }
 }
 
 // The scaled form of f in s, and the list of as many of its words as out has.

@@ -81,11 +81,9 @@ fn record_at(album: &[u8], k: usize) -> Entry
 fn byte_at(album: &[u8], i: usize) -> usize
     ensures { λ r. ⌜ (r ≡ getD (now (album .entry)) i 0) × (r < 256) ⌝ }
 {
-    if i < album.len() { wide(album[i]) } else { 0 }
-}
-
-fn wide(b: u8) -> usize
-    ensures { λ r. ⌜ (r ≡ b) × (r < 256) ⌝ }
-{
-    b as usize
+    if i < album.len() {
+        album::wide(album[i])
+    } else {
+        0
+    }
 }

@@ -78,19 +78,13 @@ fn monus(a: usize, b: usize) -> usize
     if a < b { 0 } else { a - b }
 }
 
-fn smaller(a: usize, b: usize) -> usize
-    ensures { λ r. ⌜ r ≡ min a b ⌝ }
-{
-    if a < b { a } else { b }
-}
-
 // The sum of a[j] * b[k - j], not reduced: 64 bits hold it.
 fn convolve_at(a: &[u16], b: &[u16], k: usize) -> u64
     requires { ⌜ (length (now a) ≤ maxWords) × (length (now b) ≤ maxWords) × (k + 1 < length (now a) + length (now b)) ⌝ }
     ensures { λ r. ⌜ r % 65521 ≡ getD (convolution F65521 (now (a .entry)) (now (b .entry))) k 0 ⌝ }
 {
     let from = monus(k + 1, b.len());
-    let end = smaller(k + 1, a.len());
+    let end = lists::smaller(k + 1, a.len());
     let mut sum: u64 = 0;
     let mut j = from;
     while j < end {

@@ -2,6 +2,7 @@
 ghost use mathlib.Core.Path.{_≡_};
 ghost use mathlib.Core.Bool.{Bool};
 ghost use mathlib.Core.List.{[], _∷_};
+ghost use Prim.Native.Nat.{max, min};
 ghost use Rattle.refusal.specs.Limits.{maxWords};
 ghost use Rattle.refusal.specs.Lowest.{lowest};
 ghost use Rattle.lists.specs.Degrees.{significant};
@@ -14,6 +15,20 @@ pub struct NaiveDegree(pub usize);
 
 // The largest index whose word is not 0.
 pub struct Extent(pub usize);
+
+// The larger of two numbers.
+pub fn larger(a: usize, b: usize) -> usize
+    ensures { λ r. ⌜ r ≡ max a b ⌝ }
+{
+    if a < b { b } else { a }
+}
+
+// The smaller of two numbers.
+pub fn smaller(a: usize, b: usize) -> usize
+    ensures { λ r. ⌜ r ≡ min a b ⌝ }
+{
+    if a < b { a } else { b }
+}
 
 // Whether a list has 0 words or more than 256.
 pub fn wrong_length(list: &[u16]) -> bool

@@ -11,7 +11,7 @@ ghost use Rattle.reduction.specs.Rows.{row, negated, reduced, digits, le
 pub fn add_row(x: &mut [u16], m: u16, y: &[u16])
     ensures { λ _. ⌜ now (x .exit) ≡ row p (now (x .entry)) m (now (y .entry)) ⌝ }
 {
-    let n = smaller(x.len(), y.len());
+    let n = lists::smaller(x.len(), y.len());
     let mut i = 0;
     while i < n {
         x[i] = field::add_mul(x[i], m, y[i]);
@@ -78,13 +78,4 @@ fn negate(a: u16) -> u16
     ensures { λ r. ⌜ r ≡ negated p a ⌝ }
 {
     field::sub(0, a)
-}
-
-fn smaller(a: usize, b: usize) -> usize
-    ensures { λ r. ⌜ r ≡ min a b ⌝ }
-{
-    if a < b {
-        return a;
-    }
-    b
 }

@@ -1,0 +1,143 @@
+-- Which result slices fit: by their bytes, as the rows have it, and by the words that are handed to the engine's function.
+-- Assumes nothing.
+use mathlib.Core.Path.{_≡_, refl, sym, _∙_}
+use mathlib.Core.Bool.{Bool, true, false, cond, not, _&&_, _||_}
+use mathlib.Core.List.{List}
+use Prim.Native.Nat.{ℕ, _*_, _/_, _%_, _≤_, _<_}
+use native.Mathlib.Nat.{div-add-mod, mod-lt}
+use native.Mathlib.Omega.{arith}
+use lib.Dec.{eqb, ltb, lit<}
+use lib.ListN.{length}
+use borrow.Author.Tests.{eqb-true, eqb-false, ltb-true, ltb-false, not-false, eq-eqb, ne-eqb, lt-ltb, le-ltb}
+use Rattle.refusal.specs.Limits.{maxWords}
+use Rattle.refusal.proofs.First.{or-false}
+use Rattle.lists.specs.Refused.{wrongLength}
+use Rattle.host.specs.Bytes.{oddBytes, wordCount, wordsOf}
+use Rattle.host.specs.Calls.{misfit}
+use Rattle.host.specs.Workers.{badList, roomOf, gcdRoom}
+use Rattle.host.proofs.Words.{length-wordsOf}
+
+-- an even number of bytes
+whole : (s : List ℕ) → oddBytes s ≡ false → length s ≡ 2 * wordCount s
+unfolding oddBytes wordCount
+whole s e =
+    let odd = eqb-false (length s % 2) 1 e in
+    let small : length s % 2 < 2 = mod-lt (length s) (lit< tt) in
+    omega (arith, div-add-mod (length s) 2)
+
+even : (s : List ℕ) (n : ℕ) → length s ≡ 2 * n → (oddBytes s ≡ false) × (wordCount s ≡ n)
+unfolding oddBytes wordCount
+even s n e =
+    let small : length s % 2 < 2 = mod-lt (length s) (lit< tt) in
+    (ne-eqb (length s % 2) 1 (λ q. omega (arith, div-add-mod (length s) 2)), omega (arith, div-add-mod (length s) 2))
+
+-- a list that is not refused for its length
+pub good-list : (s : List ℕ) → badList s ≡ false → (0 < length (wordsOf s)) × (length (wordsOf s) ≤ maxWords)
+unfolding badList wrongLength
+good-list s e =
+    let h = or-false (eqb (length (wordsOf s)) 0) (ltb maxWords (length (wordsOf s))) (or-false (oddBytes s) _ e .1) in
+    let some = eqb-false (length (wordsOf s)) 0 (h .0) in
+    (omega arith, ltb-false _ _ (h .1))
+
+pub good-half : (s : List ℕ) → badList s ≡ false → length s / 2 ≤ maxWords
+unfolding wordCount
+good-half s e = let h = good-list s e in omega (arith, length-wordsOf s)
+
+pub misfit-is : (n : ℕ) (s : List ℕ) → misfit n s ≡ not (eqb (length s) (2 * n))
+unfolding misfit
+misfit-is n s = rw (length-wordsOf s) (go (eqb (length s) (2 * n)) refl)
+  where
+    unequal : ¬ (length s ≡ 2 * n) → (b : Bool) → oddBytes s ≡ b → (b || not (eqb (wordCount s) n)) ≡ true
+    unequal h true e = refl
+    unequal h false e = let w = whole s e in rw (ne-eqb (wordCount s) n (λ q. h (omega arith)))
+
+    go : (b : Bool) → eqb (length s) (2 * n) ≡ b → (oddBytes s || not (eqb (wordCount s) n)) ≡ not b
+    go true e = let w = even s n (eqb-true _ _ e) in rw (w .0, eq-eqb (wordCount s) n (w .1))
+    go false e = unequal (eqb-false _ _ e) (oddBytes s) refl
+
+pub fits : (n : ℕ) (s : List ℕ) → misfit n s ≡ false → length s ≡ 2 * n
+fits n s e = eqb-true _ _ (not-false _ (sym (misfit-is n s) ∙ e))
+
+-- the room of a slice that fits
+pub room-whole : (never n : ℕ) (s : List ℕ) → n ≤ maxWords → misfit n s ≡ false → length s ≡ 2 * roomOf never s
+unfolding roomOf
+room-whole never n s short e =
+    let w = even s n (fits n s e) in
+    let l = le-ltb maxWords (wordCount s) (omega arith) in
+    rw (w .0, l) (whole s (w .0))
+
+pub room-fits : (never n : ℕ) (s : List ℕ) → n ≤ maxWords → ¬ (never ≡ n) → not (eqb (roomOf never s) n) ≡ misfit n s
+unfolding roomOf misfit
+room-fits never n s short other = rw (length-wordsOf s) (go (oddBytes s) (ltb maxWords (wordCount s)) refl)
+  where
+    go : (odd long : Bool) → ltb maxWords (wordCount s) ≡ long
+        → not (eqb (cond (odd || long) never (wordCount s)) n) ≡ (odd || not (eqb (wordCount s) n))
+    go true long e = rw (ne-eqb never n other)
+    go false true e =
+        let l = ltb-true maxWords (wordCount s) e in
+        rw (ne-eqb never n other, ne-eqb (wordCount s) n (λ q. omega arith))
+    go false false e = refl
+
+pub room-short : (never : ℕ) (s : List ℕ) → never ≤ maxWords → roomOf never s ≤ maxWords
+unfolding roomOf
+room-short never s l = go (oddBytes s) (ltb maxWords (wordCount s)) refl
+  where
+    go : (odd long : Bool) → ltb maxWords (wordCount s) ≡ long → cond (odd || long) never (wordCount s) ≤ maxWords
+    go true long e = l
+    go false true e = l
+    go false false e = ltb-false _ _ e
+
+pub gcd-room-fits : (h answer : List ℕ) → not (eqb (gcdRoom h answer) maxWords) ≡ (misfit maxWords h || misfit 3 answer)
+unfolding gcdRoom
+gcd-room-fits h answer = rw (misfit-is maxWords h, misfit-is 3 answer) (go (eqb (length h) 512) (eqb (length answer) 6))
+  where
+    go : (a b : Bool) → not (eqb (cond (a && b) maxWords 0) maxWords) ≡ (not a || not b)
+    go true true = refl
+    go true false = refl
+    go false true = refl
+    go false false = refl
+
+pub gcd-room-short : (h answer : List ℕ) → gcdRoom h answer ≤ maxWords
+unfolding gcdRoom
+gcd-room-short h answer = go (eqb (length h) 512 && eqb (length answer) 6)
+  where
+    go : (a : Bool) → cond a maxWords 0 ≤ maxWords
+    go true = omega arith
+    go false = omega arith
+
+-- the tests that the code makes
+pub bad-odd : (s : List ℕ) → length s % 2 ≡ 1 → true ≡ badList s
+unfolding badList oddBytes
+bad-odd s e = sym (simp (eq-eqb (length s % 2) 1 e))
+
+pub bad-empty : (s : List ℕ) → ¬ (length s % 2 ≡ 1) → length s / 2 ≡ 0 → true ≡ badList s
+unfolding badList oddBytes wrongLength wordCount
+bad-empty s e z = sym (simp (ne-eqb (length s % 2) 1 e, length-wordsOf s, eq-eqb (length s / 2) 0 z))
+
+pub bad-long : (s : List ℕ) → ¬ (length s % 2 ≡ 1) → ¬ (length s / 2 ≡ 0) → ltb maxWords (length s / 2) ≡ badList s
+unfolding badList oddBytes wrongLength wordCount
+bad-long s e z = sym (simp (ne-eqb (length s % 2) 1 e, length-wordsOf s, ne-eqb (length s / 2) 0 z))
+
+pub room-odd : (never : ℕ) (s : List ℕ) → length s % 2 ≡ 1 → never ≡ roomOf never s
+unfolding roomOf oddBytes
+room-odd never s e = sym (simp (eq-eqb (length s % 2) 1 e))
+
+pub room-long : (never : ℕ) (s : List ℕ) → ¬ (length s % 2 ≡ 1) → maxWords < length s / 2 → never ≡ roomOf never s
+unfolding roomOf oddBytes wordCount
+room-long never s e l = sym (simp (ne-eqb (length s % 2) 1 e, lt-ltb maxWords (length s / 2) l))
+
+pub room-is : (never : ℕ) (s : List ℕ) → ¬ (length s % 2 ≡ 1) → length s / 2 ≤ maxWords → length s / 2 ≡ roomOf never s
+unfolding roomOf oddBytes wordCount
+room-is never s e l = sym (simp (ne-eqb (length s % 2) 1 e, le-ltb maxWords (length s / 2) l))
+
+pub no-h : (h answer : List ℕ) → ¬ (length h ≡ 512) → 0 ≡ gcdRoom h answer
+unfolding gcdRoom
+no-h h answer e = sym (simp (ne-eqb (length h) 512 e))
+
+pub no-answer : (h answer : List ℕ) → length h ≡ 512 → ¬ (length answer ≡ 6) → 0 ≡ gcdRoom h answer
+unfolding gcdRoom
+no-answer h answer e l = sym (simp (eq-eqb (length h) 512 e, ne-eqb (length answer) 6 l))
+
+pub both : (h answer : List ℕ) → length h ≡ 512 → length answer ≡ 6 → maxWords ≡ gcdRoom h answer
+unfolding gcdRoom
+both h answer e l = sym (simp (eq-eqb (length h) 512 e, eq-eqb (length answer) 6 l))

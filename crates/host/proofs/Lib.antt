@@ -1,0 +1,5 @@
+pub mod Words
+pub mod Fits
+pub mod Rows
+pub mod Answers
+pub mod Calls

@@ -1,0 +1,104 @@
+-- `host::divide_in` meets its contract.
+-- Assumes nothing.
+use native.Mathlib.Omega.{arith}
+use borrow.Author.Needs.{needs}
+use Rattle.algebra.specs.PrimeField.{F65521}
+use Rattle.host.proofs.Calls.{division-fits, division-done, division-refused}
+use Rattle.host.proofs.divide_in.Statement.{statement}
+use Rattle.host.proofs.divide_in.Tie as tie
+
+read-words-requires : tie.Need-read-words-requires
+read-words-requires c κs = search needs
+
+read-words-requires-2 : tie.Need-read-words-requires-2
+read-words-requires-2 c κs = search needs
+
+divide-requires : tie.Need-divide-requires
+divide-requires c κs = search needs
+
+enum-told : tie.Need-enum-told
+enum-told c = search needs
+
+write-words-requires : tie.Need-write-words-requires
+write-words-requires c κs =
+    let start = c .before .before .before .before .before .before .before .before .before .before .before .before .before .before .before .before .before .before .before .before .before .before .before .before .before .before .before .before .before in
+    omega (arith, division-fits 65521 _ _ _ _ _ _ _ _ (start .pre .0 .0) (start .pre .0 .1) (c .before .before .before .before .before .before .before .before .before .before .before .before .before .before .before .before .before .before .before .read-words .ensures) (c .before .before .before .before .before .before .before .before .before .before .before .before .before .before .before .read-words2 .ensures) (start .pre .1 .2) (start .pre .1 .3) _ (c .before .before .before .before .before .before .before .before .divide .ensures .0) (c .before .before .enum-told .given .1) .0)
+
+write-words-requires-2 : tie.Need-write-words-requires-2
+write-words-requires-2 c κs =
+    let start = c .before .before .before .before .before .before .before .before .before .before .before .before .before .before .before .before .before .before .before .before .before .before .before .before .before .before .before .before .before .before .before .before .before .before in
+    omega (arith, division-fits 65521 _ _ _ _ _ _ _ _ (start .pre .0 .0) (start .pre .0 .1) (c .before .before .before .before .before .before .before .before .before .before .before .before .before .before .before .before .before .before .before .before .before .before .before .before .read-words .ensures) (c .before .before .before .before .before .before .before .before .before .before .before .before .before .before .before .before .before .before .before .before .read-words2 .ensures) (start .pre .1 .2) (start .pre .1 .3) _ (c .before .before .before .before .before .before .before .before .before .before .before .before .before .divide .ensures .0) (c .before .before .before .before .before .before .before .enum-told .given .1) .1)
+
+enum-known-answer : tie.Need-enum-known-answer
+enum-known-answer c = search needs
+
+number-of-requires : tie.Need-number-of-requires
+number-of-requires c κs = search needs
+
+same-length : tie.Need-same-length
+same-length c = search needs
+
+same-length-2 : tie.Need-same-length-2
+same-length-2 c = search needs
+
+same-length-3 : tie.Need-same-length-3
+same-length-3 c = search needs
+
+same-length-4 : tie.Need-same-length-4
+same-length-4 c = search needs
+
+same-length-5 : tie.Need-same-length-5
+same-length-5 c = omega arith
+
+same-length-6 : tie.Need-same-length-6
+same-length-6 c = omega arith
+
+returns : tie.Need-returns
+returns c =
+    let start = c .before .before .before .before .before .before .before .before .before .before .before .before .before .before .before .before .before .before .before .before .before .before .before .before .before .before .before .before .before .before .before .before .before .before .before .before .before in
+    division-done 65521 _ _ _ _ _ _ _ _ (start .pre .0 .0) (start .pre .0 .1) (c .before .before .before .before .before .before .before .before .before .before .before .before .before .before .before .before .before .before .before .before .before .before .before .before .before .before .before .read-words .ensures) (c .before .before .before .before .before .before .before .before .before .before .before .before .before .before .before .before .before .before .before .before .before .before .before .read-words2 .ensures) (start .pre .1 .2) (start .pre .1 .3) _ (c .before .before .before .before .before .before .before .before .before .before .before .before .before .before .before .before .divide .ensures .0)
+    (c .before .before .before .before .before .before .before .before .before .before .enum-told .given .1) F65521 (c .before .before .before .before .before .before .before .before .before .before .before .before .before .before .before .before .divide .ensures .1 .0) (c .before .before .before .before .before .before .before .before .before .before .before .before .before .before .before .before .divide .ensures .1 .1 .0)
+    (c .before .before .before .before .before .before .before .write-words .ensures) (c .before .before .write-words2 .ensures)
+
+same-length-7 : tie.Need-same-length-7
+same-length-7 c = search needs
+
+same-length-8 : tie.Need-same-length-8
+same-length-8 c = search needs
+
+same-length-9 : tie.Need-same-length-9
+same-length-9 c = search needs
+
+same-length-10 : tie.Need-same-length-10
+same-length-10 c = search needs
+
+returns-2 : tie.Need-returns-2
+returns-2 c =
+    let start = c .before .before .before .before .before .before .before .before .before .before .before .before .before .before .before .before .before .before .before .before .before .before .before .before .before .before .before .before .before in
+    division-refused 65521 _ _ _ _ _ _ _ _ (start .pre .0 .0) (start .pre .0 .1) (c .before .before .before .before .before .before .before .before .before .before .before .before .before .before .before .before .before .before .before .read-words .ensures) (c .before .before .before .before .before .before .before .before .before .before .before .before .before .before .before .read-words2 .ensures) (start .pre .1 .2) (start .pre .1 .3) _ (c .before .before .before .before .before .before .before .before .divide .ensures .0)
+    (c .before .before .answer .given .1) (c .number-of .ensures) _ _
+
+pub divide-in-spec : {M : Type 1} → statement M
+divide-in-spec =
+    tie.close
+    (tie.spec
+    read-words-requires
+    read-words-requires-2
+    divide-requires
+    enum-told
+    write-words-requires
+    write-words-requires-2
+    enum-known-answer
+    number-of-requires
+    same-length
+    same-length-2
+    same-length-3
+    same-length-4
+    same-length-5
+    same-length-6
+    returns
+    same-length-7
+    same-length-8
+    same-length-9
+    same-length-10
+    returns-2)

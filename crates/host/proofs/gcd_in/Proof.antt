@@ -1,0 +1,101 @@
+-- `host::gcd_in` meets its contract.
+-- Assumes nothing.
+use native.Mathlib.Omega.{arith}
+use borrow.Author.Needs.{needs}
+use Rattle.algebra.specs.PrimeField.{F65521}
+use Rattle.host.proofs.Calls.{gcd-fits, gcd-small, gcd-done, gcd-refused}
+use Rattle.host.proofs.gcd_in.Statement.{statement}
+use Rattle.host.proofs.gcd_in.Tie as tie
+
+read-words-requires : tie.Need-read-words-requires
+read-words-requires c κs = search needs
+
+read-words-requires-2 : tie.Need-read-words-requires-2
+read-words-requires-2 c κs = search needs
+
+gcd-of-requires : tie.Need-gcd-of-requires
+gcd-of-requires c κs = search needs
+
+enum-known-found : tie.Need-enum-known-found
+enum-known-found c = search needs
+
+write-words-requires : tie.Need-write-words-requires
+write-words-requires c κs =
+    let start = c .before .before .before .before .before .before .before .before .before .before .before .before .before .before .before .before .before .before .before .before .before .before .before .before .before .before in
+    omega (arith, gcd-fits F65521 65521 _ _ _ _ _ _ _ (start .pre .0 .0) (start .pre .0 .1) (c .before .before .before .before .before .before .before .before .before .before .before .before .before .before .before .before .before .read-words .ensures) (c .before .before .before .before .before .before .before .before .before .before .before .before .before .read-words2 .ensures) (start .pre .1 .2) _ (c .before .before .before .before .before .before .before .gcd-of .ensures .0) (c .before .before .before .found .given .1) .0)
+
+write-three-requires : tie.Need-write-three-requires
+write-three-requires c κs =
+    let start = c .before .before .before .before .before .before .before .before .before .before .before .before .before .before .before .before .before .before .before .before .before .before .before .before .before .before .before .before .before .before in
+    let d = c .before .before .before .before .before .before .before .found .given .1 in
+    let small =
+    gcd-small F65521 65521 _ _ _ _ _ _ _ (start .pre .0 .0) (start .pre .0 .1) (c .before .before .before .before .before .before .before .before .before .before .before .before .before .before .before .before .before .before .before .before .before .read-words .ensures) (c .before .before .before .before .before .before .before .before .before .before .before .before .before .before .before .before .before .read-words2 .ensures) (start .pre .1 .2) _ (c .before .before .before .before .before .before .before .before .before .before .before .gcd-of .ensures .0)
+    d (c .before .before .before .before .before .before .before .before .before .before .before .gcd-of .ensures .1 .0) (omega arith) (c .before .before .before .before .before .before .before .before .before .before .before .gcd-of .ensures .1 .1) in
+    let fits =
+    gcd-fits F65521 65521 _ _ _ _ _ _ _ (start .pre .0 .0) (start .pre .0 .1) (c .before .before .before .before .before .before .before .before .before .before .before .before .before .before .before .before .before .before .before .before .before .read-words .ensures) (c .before .before .before .before .before .before .before .before .before .before .before .before .before .before .before .before .before .read-words2 .ensures) (start .pre .1 .2) _ (c .before .before .before .before .before .before .before .before .before .before .before .gcd-of .ensures .0) d in
+    (small .degree, small .power, small .count, fits .2)
+
+enum-known-found-2 : tie.Need-enum-known-found-2
+enum-known-found-2 c = search needs
+
+number-of-requires : tie.Need-number-of-requires
+number-of-requires c κs = search needs
+
+same-length : tie.Need-same-length
+same-length c = search needs
+
+same-length-2 : tie.Need-same-length-2
+same-length-2 c = search needs
+
+same-length-3 : tie.Need-same-length-3
+same-length-3 c = search needs
+
+same-length-4 : tie.Need-same-length-4
+same-length-4 c = search needs
+
+same-length-5 : tie.Need-same-length-5
+same-length-5 c = search needs
+
+returns : tie.Need-returns
+returns c =
+    let start = c .before .before .before .before .before .before .before .before .before .before .before .before .before .before .before .before .before .before .before .before .before .before .before .before .before .before .before .before .before .before .before .before .before in
+    gcd-done F65521 65521 _ _ _ _ _ _ _ (start .pre .0 .0) (start .pre .0 .1) (c .before .before .before .before .before .before .before .before .before .before .before .before .before .before .before .before .before .before .before .before .before .before .before .before .read-words .ensures) (c .before .before .before .before .before .before .before .before .before .before .before .before .before .before .before .before .before .before .before .before .read-words2 .ensures) (start .pre .1 .2) _ (c .before .before .before .before .before .before .before .before .before .before .before .before .before .before .gcd-of .ensures .0)
+    (c .before .before .before .before .before .before .before .before .before .before .found .given .1) (c .before .before .before .before .before .before .before .before .before .before .before .before .before .before .gcd-of .ensures .1 .0) (c .before .before .before .before .before .before .write-words .ensures) (c .before .before .write-three .ensures)
+
+same-length-6 : tie.Need-same-length-6
+same-length-6 c = search needs
+
+same-length-7 : tie.Need-same-length-7
+same-length-7 c = search needs
+
+same-length-8 : tie.Need-same-length-8
+same-length-8 c = search needs
+
+returns-2 : tie.Need-returns-2
+returns-2 c =
+    let start = c .before .before .before .before .before .before .before .before .before .before .before .before .before .before .before .before .before .before .before .before .before .before .before .before .before in
+    gcd-refused F65521 65521 _ _ _ _ _ _ _ (start .pre .0 .0) (start .pre .0 .1) (c .before .before .before .before .before .before .before .before .before .before .before .before .before .before .before .before .read-words .ensures) (c .before .before .before .before .before .before .before .before .before .before .before .before .read-words2 .ensures) (start .pre .1 .2) _ (c .before .before .before .before .before .before .gcd-of .ensures .0)
+    (c .before .before .found2 .given .1) (c .number-of .ensures) _ _
+
+pub gcd-in-spec : {M : Type 1} → statement M
+gcd-in-spec =
+    tie.close
+    (tie.spec
+    read-words-requires
+    read-words-requires-2
+    gcd-of-requires
+    enum-known-found
+    write-words-requires
+    write-three-requires
+    enum-known-found-2
+    number-of-requires
+    same-length
+    same-length-2
+    same-length-3
+    same-length-4
+    same-length-5
+    returns
+    same-length-6
+    same-length-7
+    same-length-8
+    returns-2)

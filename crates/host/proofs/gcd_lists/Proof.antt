@@ -1,0 +1,68 @@
+-- `host::gcd_lists` meets its contract: it only lends the arrays.
+-- Assumes nothing.
+use mathlib.Core.Path.{refl, sym, _∙_}
+use native.Mathlib.Omega.{arith}
+use borrow.Author.Needs.{needs}
+use Rattle.arithmetic.proofs.Products.{prefix-length}
+use Rattle.host.specs.Bytes.{wordCount}
+use Rattle.host.proofs.Fits.{good-half, gcd-room-short}
+use Rattle.host.proofs.gcd_lists.Statement.{statement}
+use Rattle.host.proofs.gcd_lists.Tie as tie
+
+gcd-room-requires : tie.Need-gcd-room-requires
+gcd-room-requires c κs = search needs
+
+array-borrow-prefix-a : tie.Need-array-borrow-prefix-a
+array-borrow-prefix-a c = omega (arith, good-half _ (c .before .before .before .before .before .before .before .pre .0))
+
+slice-aggregate-gcd-in : tie.Need-slice-aggregate-gcd-in
+slice-aggregate-gcd-in c = sym (prefix-length _ 256 _ refl (good-half _ (c .before .before .before .before .before .before .before .before .pre .0)))
+
+array-borrow-prefix-b : tie.Need-array-borrow-prefix-b
+array-borrow-prefix-b c = omega (arith, good-half _ (c .before .before .before .before .before .before .before .before .pre .1))
+
+slice-aggregate-gcd-in-2 : tie.Need-slice-aggregate-gcd-in-2
+slice-aggregate-gcd-in-2 c = sym (prefix-length _ 256 _ refl (good-half _ (c .before .before .before .before .before .before .before .before .before .pre .1)))
+
+array-borrow-prefix-c : tie.Need-array-borrow-prefix-c
+array-borrow-prefix-c c = rw (c .before .before .gcd-room .ensures) (gcd-room-short _ _)
+
+slice-aggregate-gcd-in-3 : tie.Need-slice-aggregate-gcd-in-3
+slice-aggregate-gcd-in-3 c = sym (prefix-length _ 256 _ refl (rw (c .before .before .before .gcd-room .ensures) (gcd-room-short _ _)))
+
+gcd-in-requires : tie.Need-gcd-in-requires
+unfolding wordCount
+gcd-in-requires c κs =
+    let start = c .before .before .before .before .before .before .before .before .before .before .before .before in (
+      start .pre,
+      (
+        prefix-length _ 256 _ refl (good-half _ (start .pre .0)),
+        prefix-length _ 256 _ refl (good-half _ (start .pre .1)),
+        prefix-length _ 256 _ refl (rw (c .before .before .before .before .before .gcd-room .ensures) (gcd-room-short _ _)) ∙ c .before .before .before .before .before .gcd-room .ensures,
+      ),
+    )
+
+same-length : tie.Need-same-length
+same-length c = search needs
+
+same-length-2 : tie.Need-same-length-2
+same-length-2 c = search needs
+
+returns : tie.Need-returns
+returns c = search needs
+
+pub gcd-lists-spec : {M : Type 1} → statement M
+gcd-lists-spec =
+    tie.close
+    (tie.spec
+    gcd-room-requires
+    array-borrow-prefix-a
+    slice-aggregate-gcd-in
+    array-borrow-prefix-b
+    slice-aggregate-gcd-in-2
+    array-borrow-prefix-c
+    slice-aggregate-gcd-in-3
+    gcd-in-requires
+    same-length
+    same-length-2
+    returns)

@@ -1,4 +1,5 @@
-"""A model of the engine, written from docs/RULES.md (document 01) and from nothing else.
+"""A model of the engine, after docs/RULES.md (document 01) and the readings of docs/DECISIONS.md. It shares no code with the engine, but
+its authors are the engine's.
 
 Lists are Python lists of words, c_0 first. Every call returns (number, ...): document 01's refusal number, 0 when it completes.
 A polynomial in t is a list of coefficients in the monomial basis, lowest first; it serves to check the answers in a basis

@@ -5,6 +5,7 @@ ghost use lib.ListN.{length};
 use album::Listed;
 use gcd::Gcd;
 use libc::STDOUT_FILENO;
+use lists::NaiveDegree;
 
 fn print_number(n: usize) {
     io::write_all(STDOUT_FILENO, b" ");
@@ -171,13 +172,16 @@ fn put_word(bytes: &mut [u8], at: usize, word: u16)
 }
 
 // The contents of 16 lists of one naive degree.
-fn entries(bytes: &mut [u8], degree: u8) {
+fn entries(bytes: &mut [u8], of: NaiveDegree)
+    requires { ⌜ of .0 ≤ 255 ⌝ }
+{
+    let degree = of.0;
     put(bytes, 0, 16);
-    let step = 2 * (degree as usize + 1);
+    let step = 2 * (degree + 1);
     let mut k = 0;
     let mut at = 49;
     while k < 16 {
-        put(bytes, 1 + 3 * k, degree as usize);
+        put(bytes, 1 + 3 * k, degree);
         put(bytes, 2 + 3 * k, at % 256);
         put(bytes, 3 + 3 * k, at / 256);
         at = (at + step) % 65536;
@@ -199,8 +203,8 @@ fn bodies(bytes: &mut [u8], seed: u16)
 }
 
 // 16 lists of one naive degree.
-fn show_sixteen(bytes: &mut [u8], degree: u8, seed: u16)
-    requires { ⌜ length (now bytes) ≤ 8241 ⌝ }
+fn show_sixteen(bytes: &mut [u8], degree: NaiveDegree, seed: u16)
+    requires { ⌜ (length (now bytes) ≤ 8241) × (degree .0 ≤ 255) ⌝ }
 {
     entries(bytes, degree);
     bodies(bytes, seed);
@@ -209,9 +213,9 @@ fn show_sixteen(bytes: &mut [u8], degree: u8, seed: u16)
 
 fn sixteen() {
     let mut small = [0u8; 145];
-    show_sixteen(&mut small, 2, 1);
+    show_sixteen(&mut small, NaiveDegree(2), 1);
     let mut largest = [0u8; 8241];
-    show_sixteen(&mut largest, 255, 2);
+    show_sixteen(&mut largest, NaiveDegree(255), 2);
 }
 
 fn main() {

@@ -4,6 +4,7 @@ ghost use Prim.Native.Nat.{_≤_};
 ghost use lib.ListN.{length};
 use gcd::Gcd;
 use libc::STDOUT_FILENO;
+use lists::NaiveDegree;
 
 fn print_number(n: usize) {
     io::write_all(STDOUT_FILENO, b" ");
@@ -29,10 +30,12 @@ fn print_first(name: &[u8], list: &[u16], n: usize) {
 }
 
 // The number of words of a cofactor, m - d + 1 with m = max(d,1) + max(e,1) - 1.
-fn cofactor_words(d: usize, e: usize) -> usize
-    requires { ⌜ (d ≤ 255) × (e ≤ 255) ⌝ }
+fn cofactor_words(own: NaiveDegree, other: NaiveDegree) -> usize
+    requires { ⌜ (own .0 ≤ 255) × (other .0 ≤ 255) ⌝ }
     ensures { λ r. ⌜ r ≤ 256 ⌝ }
 {
+    let d = own.0;
+    let e = other.0;
     if 1 <= d {
         if e < 1 {
             return 1;
@@ -52,8 +55,8 @@ fn show_in(f: &[u16], g: &[u16], h: &mut [u16], a: &mut [u16], b: &mut [u16])
 {
     let d = f.len() - 1;
     let e = g.len() - 1;
-    let words_a = cofactor_words(d, e);
-    let words_b = cofactor_words(e, d);
+    let words_a = cofactor_words(NaiveDegree(d), NaiveDegree(e));
+    let words_b = cofactor_words(NaiveDegree(e), NaiveDegree(d));
     io::write_all(STDOUT_FILENO, b"pair");
     print_number(d);
     print_number(e);

@@ -3,11 +3,10 @@
 use mathlib.Core.Path.{_≡_, refl, sym, ap, ap₂, _∙_}
 use mathlib.Core.List.{List}
 use Prim.Native.Nat.{ℕ, _+_, _*_, _≤_, _<_}
-use native.Mathlib.Decide.{ℕ-discrete}
 use native.Mathlib.Omega.{arith}
-use lib.ListN.{length, getD, set, List·getD-eq-default}
-use lib.Seq.{getD-set-same, getD-set-other}
+use lib.ListN.{length, getD, List·getD-eq-default}
 use Rattle.lists.specs.Tabulate.{length-tabulate, getD-tabulate}
+use Rattle.lists.proofs.Filled.{Filled}
 use Rattle.euclid.specs.Gcds.{padded}
 use Rattle.euclid.specs.Loops.{padded-is}
 use Rattle.album.specs.Layout.{count, degreeAt, wordAt, offsetAt, startAt, listAt}
@@ -33,24 +32,10 @@ pub list-word : (s : List ℕ) (i from n k : ℕ) → Obeys s → i < count s �
     → getD (wordsAt s from n) k 0 ≡ getD (listAt s i) k 0
 list-word s i from n k o l e f = ap₂ (λ a m. getD (wordsAt s a m) k 0) (e ∙ o .placed i l) f ∙ ap (λ c. getD c k 0) (words-list s i)
 
-pub record Filled (l : List ℕ) (i : ℕ) (target : List ℕ) : Type 0 where
-  pub at : (k : ℕ) → k < i → getD l k 0 ≡ getD target k 0
-
-pub fill-start : (l target : List ℕ) → Filled l 0 target
-fill-start l target = record { at = λ k h. absurd (omega arith) }
-
--- one more word
-pub fill-next : {l target : List ℕ} {i : ℕ} (v : ℕ) → Filled l i target → i < length l → v ≡ getD target i 0 → Filled (set l i v) (i + 1) target
-fill-next {l} {target} {i} v h p e = record { at = λ k q. go k q (ℕ-discrete k i) }
-  where
-    go : (k : ℕ) → k < i + 1 → Dec (k ≡ i) → getD (set l i v) k 0 ≡ getD target k 0
-    go k q (yes s) = rw s (getD-set-same l i v 0 p ∙ e)
-    go k q (no s) = getD-set-other l i k v 0 s ∙ h .at k (omega arith)
-
 -- the list, then zeros
-pub fill-end : (s : List ℕ) (i n : ℕ) {l : List ℕ} {k : ℕ} → Filled l k (listAt s i) → degreeAt s i < n → length l ≡ n → n ≤ k
+pub list-end : (s : List ℕ) (i n : ℕ) {l : List ℕ} {k : ℕ} → Filled l k (listAt s i) → degreeAt s i < n → length l ≡ n → n ≤ k
     → l ≡ padded n (listAt s i)
 unfolding listAt
-fill-end s i n {l} h d e p =
+list-end s i n {l} h d e p =
     let q = length-tabulate (degreeAt s i + 1) (λ j. wordAt s (startAt s i + 2 * j)) in
     padded-is n (listAt s i) l (omega arith) e (λ k r. h .at k (omega arith))

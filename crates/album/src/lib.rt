@@ -72,7 +72,7 @@ pub fn body(album: &[u8], i: usize) -> &[u8]
 }
 
 // A byte as a number.
-pub fn wide(b: u8) -> usize
+fn wide(b: u8) -> usize
     ensures { λ r. ⌜ (r ≡ b) × (r < 256) ⌝ }
 {
     b as usize

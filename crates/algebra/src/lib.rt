@@ -1,8 +1,1 @@
 // Mathematics only: the definitions and theorems stand in specs/.
-ghost use mathlib.Core.Path.{_≡_};
-
-pub fn nothing() -> u8
-    ensures { λ r. ⌜ r ≡ 0 ⌝ }
-{
-    0
-}

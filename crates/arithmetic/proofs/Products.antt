@@ -7,7 +7,6 @@ use Prim.Native.Nat.{ℕ, suc, _+_, _-_, _≤_, _<_}
 use native.Mathlib.Omega.{arith}
 use lib.ListN.{length, take, replicate, length-take, length-replicate, getD-replicate}
 use lib.Seq.{getD-take}
-use borrow.Author.Tests.{eq-eqb, le-leb}
 use Rattle.algebra.specs.Ring.{CommRing}
 use Rattle.algebra.specs.PrimeField.{PrimeField, scalars, residue, value, inverse, residue-value}
 use Rattle.lists.specs.Tabulate.{tabulated, tabulate-ext, getD-tabulate}
@@ -15,14 +14,11 @@ use Rattle.lists.specs.Degrees.{naiveDegree}
 use Rattle.lists.specs.Lists.{binomial, scaled, unscaled}
 use Rattle.lists.specs.Operations.{product, raise}
 use Rattle.lists.specs.Words.{seriesOf, coeff-seriesOf, scaledWords, length-scaledWords, seriesOf-scaledWords}
-use Rattle.lists.specs.Products.{ones, product-unscaled, raise-product, raise-same}
+use Rattle.lists.specs.Products.{ones, product-unscaled, raise-product}
 use Rattle.kernels.specs.Kernels.{scaleFits, unscaleFits, convolveFits, convolution}
+use Rattle.kernels.proofs.Fits.{scale-is, convolve-is, unscale-is}
 use Rattle.kernels.proofs.Convolution.{length-convolution}
 use Rattle.arithmetic.specs.Workers.{ProductFits, RaiseFits}
-
--- a part of an array
-pub prefix-length : (k n : ℕ) (l : List ℕ) → length l ≡ n → k ≤ n → length (take k l) ≡ k
-prefix-length k n l e h = simp length-take (omega arith)
 
 -- a part of an array of ones
 ones-is : (n m : ℕ) → m < n → take (suc m) (replicate n 1) ≡ ones m
@@ -37,23 +33,6 @@ module _ (F : PrimeField) (most : ℕ) where
 
   infixl 70 _⊗_
   infixl 70 _*ˢ_
-  -- what the kernels write where the lengths fit
-  scale-is : (f a : List ℕ) {a′ : List ℕ} → length a ≡ length f → length f ≤ most
-      → a′ ≡ cond (scaleFits most f a) (scaledWords F f) a → a′ ≡ scaledWords F f
-  unfolding scaleFits
-  scale-is f a e l q = q ∙ rw (eq-eqb (length a) (length f) e, le-leb (length f) most l)
-
-  convolve-is : (a b s : List ℕ) {s′ : List ℕ} → length a ≤ most → length b ≤ most → length s + 1 ≡ length a + length b
-      → s′ ≡ cond (convolveFits most a b s) (convolution F a b) s → s′ ≡ convolution F a b
-  unfolding convolveFits
-  convolve-is a b s l h e q =
-      q ∙ rw (le-leb (length a) most l, le-leb (length b) most h, eq-eqb (length s + 1) (length a + length b) e)
-
-  unscale-is : (s out : List ℕ) {out′ : List ℕ} → length out ≤ length s → length out ≤ most
-      → out′ ≡ cond (unscaleFits most s out) (unscaled F (length out) (seriesOf F s)) out → out′ ≡ unscaled F (length out) (seriesOf F s)
-  unfolding unscaleFits
-  unscale-is s out l h q = q ∙ rw (le-leb (length out) (length s) l, le-leb (length out) most h)
-
   coeff-convolution : (a b : List ℕ) (k : ℕ) → k < length a + length b - 1
       → F .series .coeff (seriesOf F (convolution F a b)) k ≡ F .series .coeff (seriesOf F a *ˢ seriesOf F b) k
   unfolding convolution
@@ -85,13 +64,13 @@ module _ (F : PrimeField) (most : ℕ) where
       → out′ ≡ cond (unscaleFits most s′ out) (unscaled F (length out) (seriesOf F s′)) out
       → out′ ≡ product F f g
   product-is f g a b s out {a′} {b′} {s′} fits la lb ls qa qb qs qo =
-      let ea = scale-is f a la (omega arith) qa in
-      let eb = scale-is g b lb (omega arith) qb in
+      let ea = scale-is F most f a la (omega arith) qa in
+      let eb = scale-is F most g b lb (omega arith) qb in
       let na : length a′ ≡ length f = ap length ea ∙ length-scaledWords F f in
       let nb : length b′ ≡ length g = ap length eb ∙ length-scaledWords F g in
-      let es = convolve-is a′ b′ s (omega arith) (omega arith) (omega arith) qs in
+      let es = convolve-is F most a′ b′ s (omega arith) (omega arith) (omega arith) qs in
       let ns : length s′ ≡ length a′ + length b′ - 1 = ap length es ∙ length-convolution F a′ b′ in
-      unscale-is s′ out (omega arith) (fits .short) qo
+      unscale-is F most s′ out (omega arith) (fits .short) qo
       ∙ ap (λ x. unscaled F (length out) (seriesOf F x)) (es ∙ ap₂ (convolution F) ea eb)
       ∙ product-words f g (length out) (fits .first) (fits .second) (fits .size)
 
@@ -107,13 +86,3 @@ module _ (F : PrimeField) (most : ℕ) where
     where
       size : m ≡ suc (naiveDegree out - naiveDegree f)
       size = let l = fits .list .some in let r = fits .room in omega arith
-
-  -- f itself, where it is as long as the result
-  pub raise-copy : {p : ℕ} → F .p ≡ p → most ≤ p → (f out : List ℕ) {out′ : List ℕ} → RaiseFits p most f out → length f ≡ length out
-      → out′ ≡ f → out′ ≡ raise F (naiveDegree out) f
-  unfolding naiveDegree
-  raise-copy {p} q l f out fits e h =
-      h
-      ∙ sym
-      (ap (λ n. raise F (n - 1) f) (sym e)
-      ∙ raise-same F f (record { short = let s = fits .list .short in omega arith; below = λ k. rw q (fits .list .words k) }) (fits .list .some))

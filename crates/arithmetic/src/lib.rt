@@ -150,26 +150,11 @@ fn product_into(f: &[u16], g: &[u16], out: &mut [u16])
     product_in(f, g, &mut a[..d], &mut b[..e], &mut s[..n], out);
 }
 
-fn copy(from: &[u16], to: &mut [u16])
-    requires { ⌜ length (now from) ≡ length (now to) ⌝ }
-    ensures { λ _. ⌜ now (to .exit) ≡ now (from .entry) ⌝ }
-{
-    let mut k = 0;
-    while k < to.len() {
-        to[k] = from[k];
-        k += 1;
-    }
-}
-
-// f raised to the naive degree of out: as it is where it has that degree, else times a list of ones, which means 1.
+// f raised to the naive degree of out: f times a list of ones, which means 1.
 fn raise_into(f: &[u16], out: &mut [u16])
     requires { ⌜ RaiseFits p maxWords (now f) (now out) ⌝ }
     ensures { λ _. ⌜ now (out .exit) ≡ of.raise F65521 (naiveDegree (now (out .entry))) (now (f .entry)) ⌝ }
 {
-    if f.len() == out.len() {
-        copy(f, out);
-        return;
-    }
     let ones = [1u16; refusal::MAX_WORDS];
     let m = out.len() - f.len() + 1;
     product_into(f, &ones[..m], out);

@@ -38,7 +38,8 @@ use Rattle.euclid.specs.Gcds.{room, identityDegree, roundsOf, gcdOf, countOf, c
 use Rattle.euclid.specs.Cofactors.{cofactors-are, cofactors-only}
 use Rattle.euclid.specs.Loops.{rounds-room, topInverse-room, padded-is}
 use Rattle.reduction.specs.Steps.{Low}
-use Rattle.rounds.specs.Round.{inverseOrZero, writeFits, writtenList}
+use Rattle.field.specs.Field.{inverseOrZero}
+use Rattle.rounds.specs.Round.{writeFits, writtenList}
 use Rattle.rounds.specs.Turns.{write-fits}
 use Rattle.gcd.specs.declared.Gcd.{Gcd}
 use Rattle.gcd.specs.declared.Gcd.the-variants as G

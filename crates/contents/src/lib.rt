@@ -82,7 +82,7 @@ fn byte_at(album: &[u8], i: usize) -> usize
     ensures { λ r. ⌜ (r ≡ getD (now (album .entry)) i 0) × (r < 256) ⌝ }
 {
     if i < album.len() {
-        album::wide(album[i])
+        album[i] as usize
     } else {
         0
     }

@@ -1,4 +1,4 @@
--- What the field's inverse answers, and what a division answers, writes and promises.
+-- What a division answers, writes and promises.
 -- Assumes nothing.
 use mathlib.Core.Path.{_≡_, sym, _∙_, ap}
 use mathlib.Core.List.{List, [], _∷_}
@@ -18,25 +18,6 @@ use Rattle.field.proofs.Answers.{Found, answered}
 use Rattle.euclid.specs.Quotients.{quotientOf, remainderOf}
 use Rattle.euclid.specs.Divided.{Divisible, length-quotient, length-remainder, division-identity, division-only}
 use Rattle.division.specs.Calls.{Equation, DividesSo}
-
--- the answer of the field's inverse for a coefficient that is not 0
-module _ (F : PrimeField) {p : ℕ} (is : F .p ≡ p) (a : ℕ) (some : 0 < a) (low : a < p) (w : Word)
-    (e : wordReply w ≡ reply (lowest (inverseRefusals p a)) (inverseOf F a ∷ [])) where
-  answer : wordReply w ≡ record { number = 0; values = inverseOf F a ∷ [] }
-  answer =
-      let h = inverse-is F a some (rw is low) in
-      let found : Found p a (inverseOf F a) = record { high = rw (← is) (h .high); one = rw (← is) (h .one) } in
-      e ∙ sym (answered F is a (inverseOf F a) some low found .answer)
-
-  pub done-word : {b : ℕ} → w ≡ Word.Done b → b ≡ inverseOf F a
-  done-word {b} q =
-      let s : b ∷ [] ≡ inverseOf F a ∷ [] = ap (λ (x : Reply). x .values) (sym (ap wordReply q) ∙ answer) in cc
-
-  pub no-refusal : {why : Refusal} → w ≡ Word.Refused why → ⊥
-  no-refusal q =
-      let s : [] ≡ inverseOf F a ∷ [] = ap (λ (x : Reply). x .values) (sym (ap wordReply q) ∙ answer) in
-      let z : _≡_ {A = ℕ} 0 1 = cc in
-      omega arith
 
 -- the quotient and the remainder keep the promise
 pub divides-so : (F : PrimeField) (g f : List ℕ) → Divisible F g f → DividesSo F g f (quotientOf F g f) (remainderOf F g f)

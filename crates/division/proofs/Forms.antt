@@ -7,27 +7,25 @@ use Prim.Native.Nat.{ℕ, suc, _+_, _-_, _≤_, _<_}
 use native.Mathlib.Nat.{pos-of-ne-zero}
 use native.Mathlib.Decide.{decLt}
 use native.Mathlib.Omega.{arith}
-use lib.ListN.{length, getD, take, length-take, List·getD-eq-default}
+use lib.ListN.{length, getD, List·getD-eq-default}
 use borrow.Author.Tests.{eq-eqb, le-leb}
 use Rattle.algebra.specs.Ring.{CommRing}
 use Rattle.algebra.specs.Series.{ext}
 use Rattle.algebra.specs.PrimeField.{PrimeField, scalarField, positive, residue, inverse, value-lt}
 use Rattle.algebra.specs.Division.{quotient, remainder}
-use Rattle.field.specs.Field.{inverseOf}
+use Rattle.field.specs.Field.{inverseOf, inverseOrZero}
 use Rattle.field.specs.Theorems.{residue-inverse}
+use Rattle.field.proofs.OrZero.{inverse-some}
 use Rattle.lists.specs.Degrees.{naiveDegree}
 use Rattle.lists.specs.Lists.{word, scaled, unscaled}
 use Rattle.lists.specs.Scaled.{length-naive, coefficient-last, coeff-scaled}
 use Rattle.lists.specs.Words.{seriesOf, coeff-seriesOf, scaledWords, length-scaledWords, getD-scaledWords, seriesOf-scaledWords, Carries, carries-seriesOf}
 use Rattle.kernels.specs.Kernels.{scaleFits, unscaleFits}
+use Rattle.kernels.proofs.Fits.{scale-is, unscale-is}
 use Rattle.reduction.specs.Rows.{reduced, digits, reduceFits}
 use Rattle.reduction.specs.Steps.{reduced-remainder, digits-quotient, length-reduced, length-digits}
 use Rattle.euclid.specs.Quotients.{steps, quotientOf, remainderOf}
 use Rattle.division.specs.Workers.{DivideFits}
-
--- a part of an array
-pub prefix-length : (k n : ℕ) (l : List ℕ) → length l ≡ n → k ≤ n → length (take k l) ≡ k
-prefix-length k n l e h = simp length-take (omega arith)
 
 module _ (F : PrimeField) where
   open CommRing (F .series .ring) using (Carrier as S)
@@ -55,23 +53,13 @@ module _ (F : PrimeField) where
       ∙ ap (scalarField F .inv) (sym (coeff-scaled F f (naiveDegree f) ∙ coefficient-last F f))
 
   -- the divisor's last word has an inverse
-  pub last-word : {p most : ℕ} → F .p ≡ p → {g f q r : List ℕ} → DivideFits F most g f q r
-      → (0 < getD f (length f - 1) 0) × (getD f (length f - 1) 0 < p)
+  pub last-inverse : {most : ℕ} {g f q r : List ℕ} → DivideFits F most g f q r
+      → inverseOrZero F (getD f (length f - 1) 0) ≡ inverseOf F (getD f (length f - 1) 0)
   unfolding naiveDegree
-  last-word is {f = f} fits = (pos-of-ne-zero (fits .divisible .end), rw (← is) (fits .divisible .divisor .below (length f - 1)))
+  last-inverse {f = f} fits =
+      inverse-some F (getD f (length f - 1) 0) (pos-of-ne-zero (fits .divisible .end)) (fits .divisible .divisor .below (length f - 1))
 
   module _ (most : ℕ) where
-    -- what the kernels write where the lengths fit
-    scale-is : (f a : List ℕ) {a′ : List ℕ} → length a ≡ length f → length f ≤ most
-        → a′ ≡ cond (scaleFits most f a) (scaledWords F f) a → a′ ≡ scaledWords F f
-    unfolding scaleFits
-    scale-is f a e l q = q ∙ rw (eq-eqb (length a) (length f) e, le-leb (length f) most l)
-
-    unscale-is : (s out : List ℕ) {out′ : List ℕ} → length out ≤ length s → length out ≤ most
-        → out′ ≡ cond (unscaleFits most s out) (unscaled F (length out) (seriesOf F s)) out → out′ ≡ unscaled F (length out) (seriesOf F s)
-    unfolding unscaleFits
-    unscale-is s out l h q = q ∙ rw (le-leb (length out) (length s) l, le-leb (length out) most h)
-
     reduce-fits : (x y k : List ℕ) → 0 < length y → length x + 1 ≡ length y + length k → reduceFits x y k ≡ true
     unfolding reduceFits
     reduce-fits x y k s e = rw (le-leb 1 (length y) s, eq-eqb (length x + 1) (length y + length k) e)
@@ -83,10 +71,10 @@ module _ (F : PrimeField) where
         (qx : x′ ≡ cond (scaleFits most g x) (scaledWords F g) x)
         (qy : y′ ≡ cond (scaleFits most f y) (scaledWords F f) y) where
       ex : x′ ≡ scaledWords F g
-      ex = scale-is g x lx (fits .short) qx
+      ex = scale-is F most g x lx (fits .short) qx
 
       ey : y′ ≡ scaledWords F f
-      ey = let o = fits .divisible .order in let s = fits .short in scale-is f y ly (omega arith) qy
+      ey = let o = fits .divisible .order in let s = fits .short in scale-is F most f y ly (omega arith) qy
 
       nx : length x′ ≡ length g
       nx = ap length ex ∙ length-scaledWords F g
@@ -136,7 +124,7 @@ module _ (F : PrimeField) where
             let s = fits .divisible .some in
             let w = fits .quotient-words in
             let t = fits .short in
-            unscale-is k′ q (omega (arith, nk)) (omega arith) qq
+            unscale-is F most k′ q (omega (arith, nk)) (omega arith) qq
             ∙ ap₂ (unscaled F) (sym lk) (series-of-carries ck)
             ∙ ap (λ n. unscaled F n (quotient (F .series) (scalarField F) n (naiveDegree f) (scaled F g) (scaled F f))) count
 
@@ -160,6 +148,6 @@ module _ (F : PrimeField) where
             let o = fits .divisible .order in
             let w = fits .remainder-words in
             let t = fits .short in
-            unscale-is x″ r (omega (arith, nl, nx)) (omega arith) qr
+            unscale-is F most x″ r (omega (arith, nl, nx)) (omega arith) qr
             ∙ ap₂ (unscaled F) words (series-of-carries cl)
             ∙ ap (λ n. unscaled F (naiveDegree f) (remainder (F .series) (scalarField F) n (naiveDegree f) (scaled F g) (scaled F f))) count

@@ -7,11 +7,10 @@ ghost use Rattle.algebra.specs.PrimeField.{F65521};
 ghost use Rattle.refusal.specs.Limits.{maxWords};
 ghost use Rattle.refusal.specs.Refusal.{reply, outcomeReply, written};
 ghost use Rattle.refusal.specs.Lowest.{lowest};
-ghost use Rattle.field.specs.Field.{p, inverseOf};
+ghost use Rattle.field.specs.Field.{p};
 ghost use Rattle.euclid.specs.Quotients.{quotientOf, remainderOf};
 ghost use Rattle.division.specs.Calls.{divideRefusals, DividesSo};
 ghost use Rattle.division.specs.Workers.{DivideFits};
-use field::Word;
 use refusal::Outcome;
 use refusal::Refusal;
 
@@ -54,17 +53,6 @@ fn judge_divide(g: &[u16], f: &[u16], q: &[u16], r: &[u16]) -> Outcome
     Outcome::Done
 }
 
-// The inverse of a coefficient that is not 0.
-fn inverse_word(a: u16) -> u16
-    requires { ⌜ (0 < a) × (a < p) ⌝ }
-    ensures { λ r. ⌜ r ≡ inverseOf F65521 a ⌝ }
-{
-    match field::inverse(a) {
-        Word::Done(b) => b,
-        Word::Refused(_) => 0,
-    }
-}
-
 // The scaled forms of g and f in x and y, the quotient of them in k and the remainder in x, and back into q and r.
 fn divide_in(
     g: &[u16],
@@ -80,7 +68,7 @@ fn divide_in(
     ensures quotient { λ _. ⌜ now (q .exit) ≡ quotientOf F65521 (now (g .entry)) (now (f .entry)) ⌝ }
     ensures remainder { λ _. ⌜ now (r .exit) ≡ remainderOf F65521 (now (g .entry)) (now (f .entry)) ⌝ }
 {
-    let inv = inverse_word(f[f.len() - 1]);
+    let inv = field::inverse_or_zero(f[f.len() - 1]);
     kernels::scale(g, x);
     kernels::scale(f, y);
     reduction::reduce(x, y, inv, k);

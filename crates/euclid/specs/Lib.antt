@@ -6,4 +6,3 @@ pub mod Loops
 pub mod Powers
 pub mod Cofactors
 pub mod Greatest
-pub mod Examples

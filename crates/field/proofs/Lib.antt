@@ -2,3 +2,4 @@ pub mod Words
 pub mod Answers
 pub mod Table
 pub mod Euclid
+pub mod OrZero

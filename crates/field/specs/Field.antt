@@ -5,17 +5,18 @@
 --     sumOf, differenceOf, productOf      the sum, difference and product of two coefficients modulo p
 --     IsInverse p a b     b is the inverse of a: from 1 to p - 1, a · b leaves 1 modulo p, and no other such word does
 --     inverseOf           the inverse of a coefficient, as the field Z/p has it
+--     inverseOrZero       the inverse of a coefficient that is not 0; else 0
 --     inverseTable n F    the table of inverses: 0, then the inverses of 1, …, n
 --     hasInverse          some word below p is an inverse of a
 --     operandRefusals, inverseRefusals    the rows of document 01's table for a call on two operands, and for the inverse
 --     Inverts             what the inverse's answer is to its operand; no case gives 11
 -- Assumes nothing.
 use mathlib.Core.Path.{_≡_}
-use mathlib.Core.Bool.{Bool, false, not, _&&_, _||_}
+use mathlib.Core.Bool.{Bool, false, cond, not, _&&_, _||_}
 use mathlib.Core.Logic.{_⊎_}
 use mathlib.Core.List.{List, [], _∷_}
 use Prim.Native.Nat.{ℕ, zero, suc, _+_, _-_, _*_, _%_, _≤_, _<_}
-use lib.Dec.{leb, eqb}
+use lib.Dec.{leb, ltb, eqb}
 use Rattle.algebra.specs.PrimeField.{PrimeField, residue, value, inverse}
 use Rattle.refusal.specs.Refusal.{Reply, number}
 use Rattle.refusal.specs.Lowest.{Condition, _given-when_}
@@ -53,6 +54,9 @@ pub record IsInverse (p a b : ℕ) : Type 0 where
 
 unfoldable pub inverseOf : PrimeField → ℕ → ℕ
 inverseOf F a = value F (inverse F (residue F a))
+
+unfoldable pub inverseOrZero : PrimeField → ℕ → ℕ
+inverseOrZero F a = cond (ltb 0 a && ltb a (F .p)) (inverseOf F a) 0
 
 -- the inverses of the n numbers k, k + 1, …
 unfoldable pub inversesFrom : ℕ → ℕ → PrimeField → List ℕ

@@ -5,7 +5,7 @@ ghost use Prim.Native.Nat.{_+_, _-_, _*_, _%_};
 ghost use Rattle.algebra.specs.PrimeField.{F65521};
 ghost use Rattle.refusal.specs.Refusal.{reply};
 ghost use Rattle.refusal.specs.Lowest.{lowest};
-ghost use Rattle.field.specs.Field.{p, wordReply, operandRefusals, sumOf, differenceOf, productOf, inverseRefusals, inverseOf, Inverts, inverseTable};
+ghost use Rattle.field.specs.Field.{p, wordReply, operandRefusals, sumOf, differenceOf, productOf, inverseRefusals, inverseOf, inverseOrZero, Inverts, inverseTable};
 use refusal::Refusal;
 
 pub const P: u32 = 65521;
@@ -351,6 +351,16 @@ pub fn inverse(a: u16) -> Word
     }
 }
 
+// The inverse of a coefficient that is not 0; else 0.
+pub fn inverse_or_zero(a: u16) -> u16
+    ensures { λ r. ⌜ r ≡ inverseOrZero F65521 a ⌝ }
+{
+    match inverse(a) {
+        Word::Done(b) => b,
+        Word::Refused(_) => 0,
+    }
+}
+
 // The table of inverses.
 pub fn inverses() -> InverseTable
     ensures { λ r. ⌜ r ≡ inverseTable 256 F65521 ⌝ }
@@ -382,13 +392,6 @@ pub fn add_mul(x: u16, m: u16, y: u16) -> u16
     ensures { λ r. ⌜ r ≡ (x + m * y) % p ⌝ }
 {
     ((x as u32 + m as u32 * y as u32) % P) as u16
-}
-
-// x less m times y
-pub fn sub_mul(x: u16, m: u16, y: u16) -> u16
-    ensures { λ r. ⌜ r ≡ (x + (p - m * y % p)) % p ⌝ }
-{
-    ((x as u32 + (P - m as u32 * y as u32 % P)) % P) as u16
 }
 
 pub fn reduce(x: u64) -> u16

@@ -21,8 +21,9 @@ use Rattle.refusal.specs.Refusal.{reply, written}
 use Rattle.refusal.specs.declared.Refusal.{Refusal}
 use Rattle.refusal.specs.declared.Outcome.{Outcome}
 use Rattle.refusal.specs.declared.Outcome.the-variants.{Done, Refused}
-use Rattle.field.specs.Field.{inverseOf}
+use Rattle.field.specs.Field.{inverseOf, inverseOrZero}
 use Rattle.field.specs.Theorems.{residue-inverse}
+use Rattle.field.proofs.OrZero.{inverse-some}
 use Rattle.lists.specs.declared.NaiveDegree.{NaiveDegree}
 use Rattle.lists.specs.Degrees.{naiveDegree, significant, extent}
 use Rattle.lists.specs.Extents.{significant-le, extent-largest}
@@ -32,7 +33,7 @@ use Rattle.euclid.specs.Gcds.{gcdOf, countOf, commonPower, padded}
 use Rattle.euclid.specs.Gcd.{length-gcd, size-last, gcd-ends, gcd-rounds}
 use Rattle.euclid.specs.Greatest.{gcd-is-greatest}
 use Rattle.euclid.specs.Loops.{count-room, size-room, gcd-room, getD-padded}
-use Rattle.rounds.specs.Round.{inverseOrZero, writeFits, writtenList}
+use Rattle.rounds.specs.Round.{writeFits, writtenList}
 use Rattle.rounds.specs.Turns.{significant-series, write-fits}
 use Rattle.gcd.specs.declared.Gcd.{Gcd}
 use Rattle.gcd.specs.declared.Gcd.the-variants as G
@@ -117,10 +118,7 @@ module _ (F : PrimeField) where
       last-word = extent-largest last some .0
 
       inverse-word : inverseOrZero F (getD last (significant last - 1) 0) ≡ inverseOf F (getD last (significant last - 1) 0)
-      unfolding inverseOrZero
-      inverse-word =
-          let w = last-word in
-          rw (lt-ltb 0 (getD last (significant last - 1) 0) (omega arith), lt-ltb (getD last (significant last - 1) 0) (F .p) (b .below _))
+      inverse-word = let w = last-word in inverse-some F (getD last (significant last - 1) 0) (omega arith) (b .below _)
 
       -- 1 over the last coefficient
       pub last-inverse : residue F (inverseOrZero F (getD last (significant last - 1) 0))

@@ -7,7 +7,7 @@ use native.Mathlib.Nat.{le-of-suc-le-suc, not-suc-le-zero, div-add-mod}
 use native.Mathlib.Omega.{arith}
 use lib.ListN.{length, getD, set, length-set}
 use Rattle.lists.specs.Tabulate.{length-tabulate, getD-tabulate}
-use Rattle.kernels.proofs.Filled.{Filled, fill-step}
+use Rattle.lists.proofs.Filled.{Filled, fill-step}
 use Rattle.host.specs.Bytes.{wordCount, wordsOf, bytesOf}
 
 pub length-wordsOf : (s : List ℕ) → length (wordsOf s) ≡ wordCount s

@@ -1,3 +1,3 @@
-pub mod Filled
 pub mod Rows
 pub mod Convolution
+pub mod Fits

@@ -1,2 +1,3 @@
 pub mod Search
 pub mod Judged
+pub mod Filled

@@ -10,4 +10,3 @@ pub mod Extents
 pub mod Trims
 pub mod Sums
 pub mod Calculus
-pub mod Examples

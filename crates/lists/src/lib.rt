@@ -31,7 +31,7 @@ pub fn smaller(a: usize, b: usize) -> usize
 }
 
 // Whether a list has 0 words or more than 256.
-pub fn wrong_length(list: &[u16]) -> bool
+fn wrong_length(list: &[u16]) -> bool
     ensures { λ r. ⌜ r ≡ wrongLength maxWords (now (list .entry)) ⌝ }
 {
     if list.len() == 0 {
@@ -41,7 +41,7 @@ pub fn wrong_length(list: &[u16]) -> bool
 }
 
 // Whether a word of a list is 65,521 or more.
-pub fn has_loose(list: &[u16]) -> bool
+fn has_loose(list: &[u16]) -> bool
     ensures { λ r. ⌜ r ≡ hasLoose 65521 (now (list .entry)) ⌝ }
 {
     let mut i = 0;

@@ -13,14 +13,14 @@ use lib.ListN.{length, getD, take, drop, take-append-drop}
 use lib.Seq.{length-take-le}
 use borrow.Author.Tests.{le-leb, lt-leb, lt-ltb, le-ltb}
 use Rattle.algebra.specs.PrimeField.{PrimeField}
-use Rattle.field.specs.Field.{inverseOf}
+use Rattle.field.specs.Field.{inverseOf, inverseOrZero}
+use Rattle.field.proofs.OrZero.{inverse-some}
 use Rattle.lists.specs.Degrees.{significant, extent}
 use Rattle.lists.specs.Extents.{significant-le, extent-largest}
 use Rattle.reduction.specs.Rows.{reduced, digits, reduceFits}
 use Rattle.reduction.proofs.Loops.{reduce-fits}
-use Rattle.rounds.specs.Round.{inverseOrZero, lastWord, roundSteps, roundFits, remaining, quotientWords}
+use Rattle.rounds.specs.Round.{lastWord, roundSteps, roundFits, remaining, quotientWords}
 use Rattle.rounds.specs.Turns.{round-ready}
-use Rattle.rounds.proofs.Answers.{inverse-some}
 
 unfit : (p : ℕ) (x y q : List ℕ) → (0 < significant y → lastWord y < p → roundSteps x y ≤ length q → ⊥) → roundFits p x y q ≡ false
 unfolding roundFits

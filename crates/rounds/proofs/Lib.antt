@@ -1,4 +1,3 @@
-pub mod Answers
 pub mod Partway
 pub mod Written
 pub mod Divided

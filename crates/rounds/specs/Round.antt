@@ -1,5 +1,4 @@
 -- One of Euclid's rounds on words, and the writing of a result, for every input.
---     inverseOrZero      the inverse of a coefficient that is not 0; else 0
 --     lastWord           the last word that is not 0
 --     roundSteps         the number of steps of a round: as many as bring x below y
 --     remaining          the words that are left of x after a round with y
@@ -24,9 +23,6 @@ use Rattle.lists.specs.Lists.{unscaled}
 use Rattle.lists.specs.Words.{seriesOf}
 use Rattle.euclid.specs.Gcds.{padded}
 use Rattle.reduction.specs.Rows.{reduced, digits}
-
-unfoldable pub inverseOrZero : PrimeField → ℕ → ℕ
-inverseOrZero F a = cond (ltb 0 a && ltb a (F .p)) (inverseOf F a) 0
 
 unfoldable pub lastWord : List ℕ → ℕ
 lastWord y = getD y (significant y - 1) 0

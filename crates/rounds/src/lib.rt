@@ -7,18 +7,7 @@ ghost use Rattle.algebra.specs.PrimeField.{F65521};
 ghost use Rattle.refusal.specs.Limits.{maxWords};
 ghost use Rattle.field.specs.Field.{p};
 ghost use Rattle.euclid.specs.Gcds.{commonPower};
-ghost use Rattle.rounds.specs.Round.{inverseOrZero, roundSteps, roundFits, remaining, quotientWords, multiplied, zeroedFrom, writeFits, writtenList};
-use field::Word;
-
-// The inverse of a coefficient that is not 0; else 0.
-pub fn inverse_or_zero(a: u16) -> u16
-    ensures { λ r. ⌜ r ≡ inverseOrZero F65521 a ⌝ }
-{
-    match field::inverse(a) {
-        Word::Done(b) => b,
-        Word::Refused(_) => 0,
-    }
-}
+ghost use Rattle.rounds.specs.Round.{roundSteps, roundFits, remaining, quotientWords, multiplied, zeroedFrom, writeFits, writtenList};
 
 // x becomes the remainder of x by y; the words of the quotient go to q. Their number.
 pub fn round(x: &mut [u16], y: &[u16], q: &mut [u16]) -> usize
@@ -42,7 +31,7 @@ pub fn round(x: &mut [u16], y: &[u16], q: &mut [u16]) -> usize
     if q.len() < k {
         return 0;
     }
-    let inv = inverse_or_zero(last);
+    let inv = field::inverse_or_zero(last);
     reduction::reduce(&mut x[..nx], &y[..ny], inv, &mut q[..k]);
     k
 }

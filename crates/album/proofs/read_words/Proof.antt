@@ -6,7 +6,8 @@ use native.Mathlib.Omega.{arith}
 use lib.ListN.{length, length-set}
 use Rattle.album.specs.Layout.{listAt}
 use Rattle.album.specs.Places.{entry-inside, body-inside}
-use Rattle.album.proofs.Words.{list-word, Filled, fill-start, fill-next, fill-end}
+use Rattle.lists.proofs.Filled.{Filled, fill-start, fill-step}
+use Rattle.album.proofs.Words.{list-word, list-end}
 use borrow.Author.Needs.{needs}
 use Rattle.album.proofs.read_words.Statement.{statement}
 use Rattle.album.proofs.read_words.Tie as tie
@@ -63,7 +64,7 @@ loop-again c = (
   omega arith,
   simp length-set (omega arith),
   omega arith,
-  fill-next _ (c .before .before .loop .inv .3) (omega arith)
+  fill-step _ (c .before .before .loop .inv .3) (omega arith)
       (c .word-or-zero .ensures
       ∙ list-word _ _ _ _ _ (c .before .before .before .before .before .before .before .before .pre .0) (c .before .before .before .before .before .before .before .before .pre .1 .0) (c .before .before .before .before .before .word .ensures .0) (omega arith)),
 )
@@ -72,7 +73,7 @@ same-length : tie.Need-same-length Inv-loop μ-loop
 same-length c = search needs
 
 returns : tie.Need-returns Inv-loop μ-loop
-returns c = (c .before .before .wide .ensures .0, fill-end _ _ 256 (c .before .loop .inv .3) (omega arith) (omega arith) (omega arith))
+returns c = (c .before .before .wide .ensures .0, list-end _ _ 256 (c .before .loop .inv .3) (omega arith) (omega arith) (omega arith))
 
 pub read-words-spec : {M : Type 1} → statement M
 read-words-spec =

@@ -6,7 +6,7 @@ use native.Mathlib.Omega.{arith}
 use lib.ListN.{length, length-set}
 use borrow.Author.Needs.{needs}
 use Rattle.algebra.specs.PrimeField.{F65521, p-is}
-use Rattle.kernels.proofs.Filled.{Filled, fill-start, fill-step, fill-end}
+use Rattle.lists.proofs.Filled.{Filled, fill-start, fill-step, fill-end}
 use Rattle.arithmetic.specs.Workers.{wordSums}
 use Rattle.arithmetic.proofs.Sums.{sum-word, length-wordSums}
 use Rattle.arithmetic.proofs.add_words.Statement.{statement}

@@ -3,7 +3,7 @@
 use mathlib.Core.Path.{refl, sym}
 use native.Mathlib.Omega.{arith}
 use borrow.Author.Needs.{needs}
-use Rattle.arithmetic.proofs.Products.{prefix-length}
+use Rattle.kernels.proofs.Fits.{prefix-length}
 use Rattle.arithmetic.proofs.difference_into.Statement.{statement}
 use Rattle.arithmetic.proofs.difference_into.Tie as tie
 

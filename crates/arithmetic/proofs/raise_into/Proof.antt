@@ -1,4 +1,4 @@
--- `arithmetic::raise_into` meets its contract: the list itself, or its product with a list of ones.
+-- `arithmetic::raise_into` meets its contract: the product with a list of ones.
 -- Assumes nothing.
 use mathlib.Core.Path.{refl, sym}
 use Prim.Native.Nat.{_+_, _-_}
@@ -7,19 +7,10 @@ use lib.Dec.{lit≤}
 use lib.ListN.{length, replicate}
 use borrow.Author.Needs.{needs}
 use Rattle.algebra.specs.PrimeField.{F65521, p-is}
-use Rattle.arithmetic.proofs.Products.{prefix-length, raise-copy, raise-is}
+use Rattle.kernels.proofs.Fits.{prefix-length}
+use Rattle.arithmetic.proofs.Products.{raise-is}
 use Rattle.arithmetic.proofs.raise_into.Statement.{statement}
 use Rattle.arithmetic.proofs.raise_into.Tie as tie
-
-copy-requires : tie.Need-copy-requires
-copy-requires c κs = search needs
-
-same-length : tie.Need-same-length
-same-length c = search needs
-
-returns : tie.Need-returns
-returns c =
-    raise-copy F65521 256 p-is (lit≤ tt) _ _ (c .before .before .before .before .before .before .before .pre) (c .before .before .before .before .if1 .taken) (c .before .before .copy .ensures)
 
 sub-m : tie.Need-sub-m
 sub-m c = search needs
@@ -35,28 +26,25 @@ slice-aggregate-product-into c = sym (prefix-length _ 256 _ refl (omega arith))
 
 product-into-requires : tie.Need-product-into-requires
 product-into-requires c κs =
-    let args = c .before .before .before .before .before .args in
+    let args = c .before .before .before .before .args in
     let m = prefix-length (length (args .out .now) - length (args .f .now) + 1) 256 (replicate 256 1) refl (omega arith) in
     record { first = omega arith; second = omega arith; size = omega arith; short = omega arith }
 
-same-length-2 : tie.Need-same-length-2
-same-length-2 c = search needs
+same-length : tie.Need-same-length
+same-length c = search needs
 
-returns-2 : tie.Need-returns-2
-returns-2 c =
-    raise-is F65521 256 _ _ _ (c .before .before .before .before .before .before .before .before .pre) refl (c .before .before .product-into .ensures)
+returns : tie.Need-returns
+returns c =
+    raise-is F65521 256 _ _ _ (c .before .before .before .before .before .before .before .pre) refl (c .before .before .product-into .ensures)
 
 pub raise-into-spec : {M : Type 1} → statement M
 raise-into-spec =
     tie.close
     (tie.spec
-    copy-requires
-    same-length
-    returns
     sub-m
     add-m
     array-share-prefix-ones
     slice-aggregate-product-into
     product-into-requires
-    same-length-2
-    returns-2)
+    same-length
+    returns)

@@ -7,7 +7,7 @@ use lib.ListN.{length, length-set}
 use borrow.Author.Needs.{needs}
 use Rattle.algebra.specs.PrimeField.{F65521, p-is}
 use Rattle.lists.specs.Operations.{derivative}
-use Rattle.kernels.proofs.Filled.{Filled, fill-start, fill-step, fill-end}
+use Rattle.lists.proofs.Filled.{Filled, fill-start, fill-step, fill-end}
 use Rattle.calculus.proofs.Derived.{length-is, word-is}
 use Rattle.calculus.proofs.differences.Statement.{statement}
 use Rattle.calculus.proofs.differences.Tie as tie

@@ -2,7 +2,8 @@
 -- Assumes nothing.
 use borrow.Author.Needs.{needs}
 use Rattle.algebra.specs.PrimeField.{F65521}
-use Rattle.calculus.proofs.Trimmed.{scaled-is, trimmed}
+use Rattle.kernels.proofs.Fits.{scale-is}
+use Rattle.calculus.proofs.Trimmed.{trimmed}
 use Rattle.calculus.proofs.trim_in.Statement.{statement}
 use Rattle.calculus.proofs.trim_in.Tie as tie
 
@@ -22,7 +23,7 @@ returns : tie.Need-returns
 returns c =
     let start = c .before .before .before .before .before .before .before .before .before .before .before .before in
     let f = start .args .f .now in
-    let form = scaled-is F65521 f (start .args .s .now) (start .pre .1) (start .pre .0 .short) (c .before .before .before .before .before .before .before .scale .ensures) in
+    let form = scale-is F65521 256 f (start .args .s .now) (start .pre .1) (start .pre .0 .short) (c .before .before .before .before .before .before .before .scale .ensures) in
     trimmed F65521 f (start .pre .0) form (c .before .before .unscale .ensures)
 
 pub trim-in-spec : {M : Type 1} → statement M

@@ -3,7 +3,7 @@
 use mathlib.Core.Path.{_∙_}
 use borrow.Author.Needs.{needs}
 use Rattle.algebra.specs.PrimeField.{F65521, p-is}
-use Rattle.calculus.proofs.Trimmed.{scaled-is}
+use Rattle.kernels.proofs.Fits.{scale-is}
 use Rattle.calculus.proofs.Values.{evaluated}
 use Rattle.calculus.proofs.value_in.Statement.{statement}
 use Rattle.calculus.proofs.value_in.Tie as tie
@@ -24,7 +24,7 @@ returns : tie.Need-returns
 returns c =
     let start = c .before .before .before .before .before .before .before .before .before in
     let f = start .args .f .now in
-    let form = scaled-is F65521 f (start .args .s .now) (start .pre .0) (start .pre .1) (c .before .before .before .before .before .scale .ensures) in
+    let form = scale-is F65521 256 f (start .args .s .now) (start .pre .0) (start .pre .1) (c .before .before .before .before .before .scale .ensures) in
     c .homogeneous .ensures ∙ evaluated F65521 p-is f (start .args .x) form (c .before .before .sub .ensures)
 
 pub value-in-spec : {M : Type 1} → statement M

@@ -1,22 +1,23 @@
 -- `division::divide_in` meets its contract.
 -- Assumes nothing.
+use mathlib.Core.Path.{_∙_}
 use Rattle.algebra.specs.PrimeField.{F65521, p-is}
-use Rattle.division.proofs.Forms.{last-word, quotient-is, remainder-is}
+use Rattle.division.proofs.Forms.{last-inverse, quotient-is, remainder-is}
 use borrow.Author.Needs.{needs}
 use Rattle.division.proofs.divide_in.Statement.{statement}
 use Rattle.division.proofs.divide_in.Tie as tie
 
-sub-inverse-word : tie.Need-sub-inverse-word
-sub-inverse-word c = search needs
+sub-inverse-or-zero : tie.Need-sub-inverse-or-zero
+sub-inverse-or-zero c = search needs
 
-mul-inverse-word : tie.Need-mul-inverse-word
-mul-inverse-word c = search needs
+mul-inverse-or-zero : tie.Need-mul-inverse-or-zero
+mul-inverse-or-zero c = search needs
 
-shared-slice-read-inverse-word : tie.Need-shared-slice-read-inverse-word
-shared-slice-read-inverse-word c = search needs
+shared-slice-read-inverse-or-zero : tie.Need-shared-slice-read-inverse-or-zero
+shared-slice-read-inverse-or-zero c = search needs
 
-inverse-word-requires : tie.Need-inverse-word-requires
-inverse-word-requires c κs = last-word F65521 p-is (c .before .before .before .before .before .before .before .before .pre .0)
+inverse-or-zero-requires : tie.Need-inverse-or-zero-requires
+inverse-or-zero-requires c κs = search needs
 
 scale-requires : tie.Need-scale-requires
 scale-requires c κs = search needs
@@ -55,7 +56,7 @@ returns c =
     let lx = s .pre .1 .0 in
     let ly = s .pre .1 .1 in
     let lk = s .pre .1 .2 in
-    let top = c .before .before .before .before .before .before .before .before .before .before .before .before .before .before .before .before .before .before .before .before .before .before .before .before .before .before .inverse-word .ensures in
+    let top = c .before .before .before .before .before .before .before .before .before .before .before .before .before .before .before .before .before .before .before .before .before .before .before .before .before .before .inverse-or-zero .ensures ∙ last-inverse F65521 fits in
     let x = c .before .before .before .before .before .before .before .before .before .before .before .before .before .before .before .before .before .before .before .before .before .before .before .before .scale .ensures in
     let y = c .before .before .before .before .before .before .before .before .before .before .before .before .before .before .before .before .before .before .before .before .scale2 .ensures in
     let parts = c .before .before .before .before .before .before .before .before .before .before .before .before .before .before .reduce .ensures in (
@@ -67,10 +68,10 @@ pub divide-in-spec : {M : Type 1} → statement M
 divide-in-spec =
     tie.close
     (tie.spec
-    sub-inverse-word
-    mul-inverse-word
-    shared-slice-read-inverse-word
-    inverse-word-requires
+    sub-inverse-or-zero
+    mul-inverse-or-zero
+    shared-slice-read-inverse-or-zero
+    inverse-or-zero-requires
     scale-requires
     scale-requires-2
     reduce-requires

@@ -5,7 +5,7 @@ use Prim.Native.Nat.{_*_, _-_, _≤_}
 use native.Mathlib.Omega.{arith}
 use lib.ListN.{length, length-set}
 use borrow.Author.Needs.{needs}
-use Rattle.kernels.proofs.Filled.{Filled, fill-start, fill-end}
+use Rattle.lists.proofs.Filled.{Filled, fill-start, fill-end}
 use Rattle.host.specs.Bytes.{bytesOf}
 use Rattle.host.proofs.Words.{length-bytesOf, two-more}
 use Rattle.host.proofs.write_words.Statement.{statement}

@@ -7,7 +7,7 @@ use lib.ListN.{length, length-set}
 use borrow.Author.Needs.{needs}
 use Rattle.algebra.specs.PrimeField.{F65521}
 use Rattle.kernels.specs.Kernels.{convolution}
-use Rattle.kernels.proofs.Filled.{Filled, fill-start, fill-step, fill-end}
+use Rattle.lists.proofs.Filled.{Filled, fill-start, fill-step, fill-end}
 use Rattle.kernels.proofs.Convolution.{length-convolution}
 use Rattle.kernels.proofs.convolve_in.Statement.{statement}
 use Rattle.kernels.proofs.convolve_in.Tie as tie

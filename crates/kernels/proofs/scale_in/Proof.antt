@@ -9,7 +9,7 @@ use Rattle.algebra.specs.PrimeField.{F65521, p-is, residue}
 use Rattle.field.specs.Theorems.{table-length}
 use Rattle.lists.specs.Lists.{binomial}
 use Rattle.lists.specs.Words.{scaledWords, length-scaledWords}
-use Rattle.kernels.proofs.Filled.{Filled, fill-start, fill-step, fill-end}
+use Rattle.lists.proofs.Filled.{Filled, fill-start, fill-step, fill-end}
 use Rattle.kernels.proofs.Rows.{scaled-word, row-start, row-next}
 use Rattle.kernels.proofs.scale_in.Statement.{statement}
 use Rattle.kernels.proofs.scale_in.Tie as tie

@@ -10,7 +10,7 @@ use Rattle.field.specs.Theorems.{table-length}
 use Rattle.lists.specs.Lists.{binomial, unscaled}
 use Rattle.lists.specs.Scaled.{length-unscaled}
 use Rattle.lists.specs.Words.{seriesOf}
-use Rattle.kernels.proofs.Filled.{Filled, fill-start, fill-step, fill-end}
+use Rattle.lists.proofs.Filled.{Filled, fill-start, fill-step, fill-end}
 use Rattle.kernels.proofs.Rows.{unscaled-word, inverse-row-start, inverse-row-next}
 use Rattle.kernels.proofs.unscale_in.Statement.{statement}
 use Rattle.kernels.proofs.unscale_in.Tie as tie

@@ -1,0 +1,18 @@
+-- `demand1::gcd_of` meets its contract.
+-- Assumes nothing.
+use borrow.Author.Needs.{needs}
+use Rattle.demand1.specs.Demand1Holds.{replies, no-slice, and-slice}
+use Rattle.demand1.proofs.gcd_of.Statement.{statement}
+use Rattle.demand1.proofs.gcd_of.Tie as tie
+
+gcd-of-requires : tie.Need-gcd-of-requires
+gcd-of-requires c κs = search needs
+
+same-length : tie.Need-same-length
+same-length c = search needs
+
+returns : tie.Need-returns
+returns c = let e = c .before .before .gcd-of .ensures in replies _ (e .0) (and-slice _ (e .1 .0) no-slice)
+
+pub gcd-of-spec : {M : Type 1} → statement M
+gcd-of-spec = tie.close (tie.spec gcd-of-requires same-length returns)

@@ -1,0 +1,21 @@
+-- `demand1::host_bernstein_gcd` meets its contract.
+-- Assumes nothing.
+use borrow.Author.Needs.{needs}
+use Rattle.demand1.specs.Demand1Holds.{demand1, no-slice, and-slice}
+use Rattle.demand1.proofs.host_bernstein_gcd.Statement.{statement}
+use Rattle.demand1.proofs.host_bernstein_gcd.Tie as tie
+
+bernstein-gcd-requires : tie.Need-bernstein-gcd-requires
+bernstein-gcd-requires c κs = search needs
+
+same-length : tie.Need-same-length
+same-length c = search needs
+
+same-length-2 : tie.Need-same-length-2
+same-length-2 c = search needs
+
+returns : tie.Need-returns
+returns c = let e = c .before .before .before .before .bernstein-gcd .ensures in demand1 _ _ _ (e .0) (and-slice _ (e .1 .0) (and-slice _ (e .1 .1) no-slice))
+
+pub host-bernstein-gcd-spec : {M : Type 1} → statement M
+host-bernstein-gcd-spec = tie.close (tie.spec bernstein-gcd-requires same-length same-length-2 returns)

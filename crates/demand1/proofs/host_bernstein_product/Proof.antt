@@ -1,0 +1,18 @@
+-- `demand1::host_bernstein_product` meets its contract.
+-- Assumes nothing.
+use borrow.Author.Needs.{needs}
+use Rattle.demand1.specs.Demand1Holds.{demand1, no-slice, and-slice}
+use Rattle.demand1.proofs.host_bernstein_product.Statement.{statement}
+use Rattle.demand1.proofs.host_bernstein_product.Tie as tie
+
+bernstein-product-requires : tie.Need-bernstein-product-requires
+bernstein-product-requires c κs = search needs
+
+same-length : tie.Need-same-length
+same-length c = search needs
+
+returns : tie.Need-returns
+returns c = let e = c .before .before .bernstein-product .ensures in demand1 _ _ _ (e .0) (and-slice _ (e .1) no-slice)
+
+pub host-bernstein-product-spec : {M : Type 1} → statement M
+host-bernstein-product-spec = tie.close (tie.spec bernstein-product-requires same-length returns)

@@ -1,0 +1,154 @@
+// Demand 1 of every public call: each function is only the call that it names, and its contract is the demand's one form, which the call's
+// own contract implies. `contents::contents` lends a slice of structs, which the prover's walk does not cover: `of-contents` in
+// specs/Demand1Holds.antt states the same of it.
+ghost use mathlib.Core.List.{[], _∷_};
+ghost use Rattle.refusal.specs.Refusal.{outcomeReply};
+ghost use Rattle.field.specs.Field.{p, wordReply, operandRefusals, inverseRefusals};
+ghost use Rattle.arithmetic.specs.Calls.{productRefusals, raiseRefusals, sumRefusals};
+ghost use Rattle.calculus.specs.Calls.{extentReply, extentRefusals, trimRefusals, derivativeRefusals, evaluateRefusals};
+ghost use Rattle.division.specs.Calls.{divideRefusals};
+ghost use Rattle.gcd.specs.Calls.{gcdReply, gcdRefusals};
+ghost use Rattle.cofactors.specs.Calls.{cofactorRefusals};
+ghost use Rattle.album.specs.Calls.{listedReply, checkRefusals, readRefusals};
+ghost use Rattle.album_gcd.specs.Calls.{albumGcdRefusals};
+ghost use Rattle.host.specs.Calls.{productRows, divisionRows, gcdRows};
+ghost use Rattle.demand1.specs.Demand1.{Demand1, slice, EmptyRefused};
+use album::Listed;
+use calculus::Found;
+use field::Word;
+use gcd::Gcd;
+use lists::NaiveDegree;
+use refusal::Outcome;
+
+fn field_sum(a: u16, b: u16) -> Word
+    ensures { λ r. ⌜ Demand1 (operandRefusals p a b) (wordReply r .number) [] ⌝ }
+{
+    field::sum(a, b)
+}
+
+fn field_difference(a: u16, b: u16) -> Word
+    ensures { λ r. ⌜ Demand1 (operandRefusals p a b) (wordReply r .number) [] ⌝ }
+{
+    field::difference(a, b)
+}
+
+fn field_product(a: u16, b: u16) -> Word
+    ensures { λ r. ⌜ Demand1 (operandRefusals p a b) (wordReply r .number) [] ⌝ }
+{
+    field::product(a, b)
+}
+
+fn field_inverse(a: u16) -> Word
+    ensures { λ r. ⌜ Demand1 (inverseRefusals p a) (wordReply r .number) [] ⌝ }
+{
+    field::inverse(a)
+}
+
+fn arithmetic_product(f: &[u16], g: &[u16], out: &mut [u16]) -> Outcome
+    ensures { λ r. ⌜ Demand1 (productRefusals p (now (f .entry)) (now (g .entry)) (now (out .entry))) (outcomeReply r .number) (slice (now (out .entry)) (now (out .exit)) ∷ []) ⌝ }
+{
+    arithmetic::product(f, g, out)
+}
+
+fn arithmetic_raise(f: &[u16], to: NaiveDegree, out: &mut [u16]) -> Outcome
+    ensures { λ r. ⌜ Demand1 (raiseRefusals p (now (f .entry)) (to .0) (now (out .entry))) (outcomeReply r .number) (slice (now (out .entry)) (now (out .exit)) ∷ []) ⌝ }
+{
+    arithmetic::raise(f, to, out)
+}
+
+fn arithmetic_sum(f: &[u16], g: &[u16], out: &mut [u16]) -> Outcome
+    ensures { λ r. ⌜ Demand1 (sumRefusals p (now (f .entry)) (now (g .entry)) (now (out .entry))) (outcomeReply r .number) (slice (now (out .entry)) (now (out .exit)) ∷ []) ⌝ }
+{
+    arithmetic::sum(f, g, out)
+}
+
+fn arithmetic_difference(f: &[u16], g: &[u16], out: &mut [u16]) -> Outcome
+    ensures { λ r. ⌜ Demand1 (sumRefusals p (now (f .entry)) (now (g .entry)) (now (out .entry))) (outcomeReply r .number) (slice (now (out .entry)) (now (out .exit)) ∷ []) ⌝ }
+{
+    arithmetic::difference(f, g, out)
+}
+
+fn calculus_find_extent(f: &[u16]) -> Found
+    ensures { λ r. ⌜ Demand1 (extentRefusals p (now (f .entry))) (extentReply r .number) [] ⌝ }
+{
+    calculus::find_extent(f)
+}
+
+fn calculus_trim(f: &[u16], out: &mut [u16]) -> Outcome
+    ensures { λ r. ⌜ Demand1 (trimRefusals p (now (f .entry)) (now (out .entry))) (outcomeReply r .number) (slice (now (out .entry)) (now (out .exit)) ∷ []) ⌝ }
+{
+    calculus::trim(f, out)
+}
+
+fn calculus_derivative(f: &[u16], out: &mut [u16]) -> Outcome
+    ensures { λ r. ⌜ Demand1 (derivativeRefusals p (now (f .entry)) (now (out .entry))) (outcomeReply r .number) (slice (now (out .entry)) (now (out .exit)) ∷ []) ⌝ }
+{
+    calculus::derivative(f, out)
+}
+
+fn calculus_evaluate(f: &[u16], x: u16) -> Word
+    ensures { λ r. ⌜ Demand1 (evaluateRefusals p (now (f .entry)) x) (wordReply r .number) [] ⌝ }
+{
+    calculus::evaluate(f, x)
+}
+
+fn division_divide(g: &[u16], f: &[u16], q: &mut [u16], r: &mut [u16]) -> Outcome
+    ensures { λ a. ⌜ Demand1 (divideRefusals p (now (g .entry)) (now (f .entry)) (now (q .entry)) (now (r .entry))) (outcomeReply a .number) (slice (now (q .entry)) (now (q .exit)) ∷ slice (now (r .entry)) (now (r .exit)) ∷ []) ⌝ }
+{
+    division::divide(g, f, q, r)
+}
+
+fn gcd_of(f: &[u16], g: &[u16], h: &mut [u16]) -> Gcd
+    ensures { λ r. ⌜ Demand1 (gcdRefusals p (now (f .entry)) (now (g .entry)) (now (h .entry))) (gcdReply r .number) (slice (now (h .entry)) (now (h .exit)) ∷ []) ⌝ }
+{
+    gcd::gcd_of(f, g, h)
+}
+
+fn find_cofactors(f: &[u16], g: &[u16], h: &mut [u16], a: &mut [u16], b: &mut [u16]) -> Gcd
+    ensures { λ r. ⌜ Demand1 (cofactorRefusals p (now (f .entry)) (now (g .entry)) (now (h .entry)) (now (a .entry)) (now (b .entry))) (gcdReply r .number) (slice (now (h .entry)) (now (h .exit)) ∷ slice (now (a .entry)) (now (a .exit)) ∷ slice (now (b .entry)) (now (b .exit)) ∷ []) ⌝ }
+{
+    cofactors::find_cofactors(f, g, h, a, b)
+}
+
+fn album_check(album: &[u8], i: usize) -> Outcome
+    ensures { λ r. ⌜ Demand1 (checkRefusals p (now (album .entry)) i) (outcomeReply r .number) [] ⌝ }
+{
+    album::check(album, i)
+}
+
+fn album_read_list(album: &[u8], i: usize, out: &mut [u16]) -> Listed
+    ensures { λ r. ⌜ Demand1 (readRefusals p (now (album .entry)) i (now (out .entry))) (listedReply r .number) (slice (now (out .entry)) (now (out .exit)) ∷ []) ⌝ }
+{
+    album::read_list(album, i, out)
+}
+
+// The part is empty when refused, and `album_check` gives the number.
+fn album_body(album: &[u8], i: usize) -> &[u8]
+    ensures { λ r. ⌜ EmptyRefused (checkRefusals p (now (album .entry)) i) (now r) ⌝ }
+{
+    album::body(album, i)
+}
+
+fn gcd_of_album(album: &[u8], h: &mut [u16]) -> Gcd
+    ensures { λ r. ⌜ Demand1 (albumGcdRefusals p (now (album .entry)) (now (h .entry))) (gcdReply r .number) (slice (now (h .entry)) (now (h .exit)) ∷ []) ⌝ }
+{
+    album_gcd::gcd_of_album(album, h)
+}
+
+fn host_bernstein_product(f: &[u8], g: &[u8], out: &mut [u8]) -> u8
+    ensures { λ r. ⌜ Demand1 (productRows p (now (f .entry)) (now (g .entry)) (now (out .entry))) r (slice (now (out .entry)) (now (out .exit)) ∷ []) ⌝ }
+{
+    host::bernstein_product(f, g, out)
+}
+
+fn host_bernstein_division(g: &[u8], f: &[u8], q: &mut [u8], r: &mut [u8]) -> u8
+    ensures { λ a. ⌜ Demand1 (divisionRows p (now (g .entry)) (now (f .entry)) (now (q .entry)) (now (r .entry))) a (slice (now (q .entry)) (now (q .exit)) ∷ slice (now (r .entry)) (now (r .exit)) ∷ []) ⌝ }
+{
+    host::bernstein_division(g, f, q, r)
+}
+
+fn host_bernstein_gcd(f: &[u8], g: &[u8], h: &mut [u8], answer: &mut [u8]) -> u8
+    ensures { λ r. ⌜ Demand1 (gcdRows p (now (f .entry)) (now (g .entry)) (now (h .entry)) (now (answer .entry))) r (slice (now (h .entry)) (now (h .exit)) ∷ slice (now (answer .entry)) (now (answer .exit)) ∷ []) ⌝ }
+{
+    host::bernstein_gcd(f, g, h, answer)
+}

@@ -11,6 +11,7 @@ ghost use Rattle.gcd.specs.Calls.{gcdReply, gcdRefusals};
 ghost use Rattle.cofactors.specs.Calls.{cofactorRefusals};
 ghost use Rattle.album.specs.Calls.{listedReply, checkRefusals, readRefusals};
 ghost use Rattle.album_gcd.specs.Calls.{albumGcdRefusals};
+ghost use Rattle.report_text.specs.Calls.{textReply, reportRefusals};
 ghost use Rattle.host.specs.Calls.{productRows, divisionRows, gcdRows};
 ghost use Rattle.demand1.specs.Demand1.{Demand1, slice, EmptyRefused};
 use album::Listed;
@@ -19,6 +20,7 @@ use field::Word;
 use gcd::Gcd;
 use lists::NaiveDegree;
 use refusal::Outcome;
+use report_text::Text;
 
 fn field_sum(a: u16, b: u16) -> Word
     ensures { λ r. ⌜ Demand1 (operandRefusals p a b) (wordReply r .number) [] ⌝ }
@@ -133,6 +135,12 @@ fn gcd_of_album(album: &[u8], h: &mut [u16]) -> Gcd
     ensures { λ r. ⌜ Demand1 (albumGcdRefusals p (now (album .entry)) (now (h .entry))) (gcdReply r .number) (slice (now (h .entry)) (now (h .exit)) ∷ []) ⌝ }
 {
     album_gcd::gcd_of_album(album, h)
+}
+
+fn write_report(album: &[u8], out: &mut [u8]) -> Text
+    ensures { λ r. ⌜ Demand1 (reportRefusals (now (out .entry))) (textReply r .number) (slice (now (out .entry)) (now (out .exit)) ∷ []) ⌝ }
+{
+    report_text::write_report(album, out)
 }
 
 fn host_bernstein_product(f: &[u8], g: &[u8], out: &mut [u8]) -> u8

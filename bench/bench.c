@@ -1,0 +1,277 @@
+/* The engine's product, division and GCD of two lists against FLINT doing the same work from the same bytes. Build and run: bench/run */
+#include "../include/bernstein.h"
+#include <flint/flint.h>
+#include <flint/nmod_poly.h>
+#include <flint/ulong_extras.h>
+#include <stdio.h>
+#include <stdlib.h>
+#include <string.h>
+#include <time.h>
+
+enum { P = 65521, MAX_WORDS = 256, MAX_BYTES = 2 * MAX_WORDS, PAIRS = 32, BATCHES = 101, BATCH_NS = 2000000 };
+
+typedef struct {
+  size_t words;
+  uint8_t bytes[MAX_BYTES];
+} list;
+
+/* For a division f is the divisor and g the dividend. */
+typedef struct {
+  list f, g;
+} pair;
+
+/* Product: the product. Division: q and r. GCD: h and the answer, of which FLINT's side gives w and c. */
+typedef struct {
+  uint8_t first[MAX_BYTES], second[MAX_BYTES];
+} result;
+
+static void fail(const char *what, const char *task) {
+  fprintf(stderr, "bench: %s: %s\n", task, what);
+  exit(1);
+}
+
+static unsigned word(const uint8_t *bytes, size_t k) { return bytes[2 * k] | (unsigned)bytes[2 * k + 1] << 8; }
+
+static void put(uint8_t *bytes, size_t k, unsigned w) {
+  bytes[2 * k] = w & 255;
+  bytes[2 * k + 1] = w >> 8;
+}
+
+/* ---- The engine's side: the exported calls. ---- */
+
+static void completed(uint8_t number) {
+  if (number != 0) fail("the engine refused a call", "engine");
+}
+
+static void engine_product(const pair *in, result *out) {
+  const list *f = &in->f, *g = &in->g;
+  completed(bernstein_product(f->bytes, 2 * f->words, g->bytes, 2 * g->words, out->first, 2 * (f->words + g->words - 1)));
+}
+
+static void engine_division(const pair *in, result *out) {
+  const list *f = &in->f, *g = &in->g;
+  completed(bernstein_division(g->bytes, 2 * g->words, f->bytes, 2 * f->words, out->first, 2 * (g->words - f->words + 1), out->second,
+                               2 * (f->words - 1)));
+}
+
+static void engine_gcd(const pair *in, result *out) {
+  const list *f = &in->f, *g = &in->g;
+  completed(bernstein_gcd(f->bytes, 2 * f->words, g->bytes, 2 * g->words, out->first, MAX_BYTES, out->second, 6));
+}
+
+/* ---- FLINT's side: scale, compute in the monomial basis of u, scale back. ---- */
+
+/* A constant of the field with the quotient that FLINT's n_mulmod_shoup wants, its quickest product by a known constant. */
+typedef struct {
+  mp_limb_t value, quotient;
+} factor;
+
+/* C(n,k) modulo P and its inverse, in row n, filled before anything is timed. */
+static factor binomials[MAX_WORDS][MAX_WORDS], inverses[MAX_WORDS][MAX_WORDS];
+
+/* Kept from call to call, so that FLINT allocates its operands once. */
+static nmod_poly_t scaled_f, scaled_g, first, second;
+
+static factor factor_of(mp_limb_t value) { return (factor){value, n_mulmod_precomp_shoup(value, P)}; }
+
+static mp_limb_t times(const factor *c, mp_limb_t x) { return n_mulmod_shoup(c->value, x, c->quotient, P); }
+
+static void prepare_flint(void) {
+  for (size_t n = 0; n < MAX_WORDS; n++)
+    for (size_t k = 0; k <= n; k++) {
+      mp_limb_t c = k == 0 || k == n ? 1 : n_addmod(binomials[n - 1][k - 1].value, binomials[n - 1][k].value, P);
+      binomials[n][k] = factor_of(c);
+      inverses[n][k] = factor_of(n_invmod(c, P));
+    }
+  nmod_poly_init2(scaled_f, P, MAX_WORDS);
+  nmod_poly_init2(scaled_g, P, MAX_WORDS);
+  nmod_poly_init2(first, P, MAX_WORDS);
+  nmod_poly_init2(second, P, MAX_WORDS);
+}
+
+/* The scaled form of a list. */
+static void scale(const list *from, nmod_poly_t to) {
+  const factor *row = binomials[from->words - 1];
+  for (size_t k = 0; k < from->words; k++) to->coeffs[k] = times(&row[k], word(from->bytes, k));
+  _nmod_poly_set_length(to, from->words);
+  _nmod_poly_normalise(to);
+}
+
+/* The list of so many words with a given scaled form. */
+static void unscale(const nmod_poly_t from, size_t words, uint8_t *bytes) {
+  const factor *row = inverses[words - 1];
+  size_t length = from->length;
+  for (size_t k = 0; k < length; k++) put(bytes, k, times(&row[k], from->coeffs[k]));
+  memset(bytes + 2 * length, 0, 2 * (words - length));
+}
+
+static void flint_product(const pair *in, result *out) {
+  scale(&in->f, scaled_f);
+  scale(&in->g, scaled_g);
+  nmod_poly_mul(first, scaled_f, scaled_g);
+  unscale(first, in->f.words + in->g.words - 1, out->first);
+}
+
+static void flint_division(const pair *in, result *out) {
+  scale(&in->f, scaled_f);
+  scale(&in->g, scaled_g);
+  nmod_poly_divrem(first, second, scaled_g, scaled_f);
+  unscale(first, in->g.words - in->f.words + 1, out->first);
+  unscale(second, in->f.words - 1, out->second);
+}
+
+/* FLINT's GCD is monic, and C(w,w) is 1, so h ends in 1 as it has to. */
+static void flint_gcd(const pair *in, result *out) {
+  scale(&in->f, scaled_f);
+  scale(&in->g, scaled_g);
+  nmod_poly_gcd(first, scaled_f, scaled_g);
+  size_t words = first->length, power_f = in->f.words - scaled_f->length, power_g = in->g.words - scaled_g->length;
+  unscale(first, words, out->first);
+  memset(out->first + 2 * words, 0, MAX_BYTES - 2 * words);
+  put(out->second, 0, words - 1);
+  put(out->second, 1, power_f < power_g ? power_f : power_g);
+}
+
+/* ---- Inputs, the same in each start of the program. ---- */
+
+/* splitmix64 */
+static uint64_t next_random(void) {
+  static uint64_t state = 65521;
+  uint64_t z = state += 0x9E3779B97F4A7C15;
+  z = (z ^ z >> 30) * 0xBF58476D1CE4E5B9;
+  z = (z ^ z >> 27) * 0x94D049BB133111EB;
+  return z ^ z >> 31;
+}
+
+/* A random list of naive degree n whose last word is not 0, so that its extent is n as well. */
+static void draw_list(list *l, size_t n) {
+  l->words = n + 1;
+  for (size_t k = 0; k < n; k++) put(l->bytes, k, next_random() % P);
+  put(l->bytes, n, 1 + next_random() % (P - 1));
+}
+
+static void draw_product(pair *in) {
+  draw_list(&in->f, 127);
+  draw_list(&in->g, 128);
+}
+
+static void draw_division(pair *in) {
+  draw_list(&in->f, 128);
+  draw_list(&in->g, 255);
+}
+
+/* Two random lists are nearly always coprime; compare() makes sure of it. */
+static void draw_coprime(pair *in) {
+  draw_list(&in->f, 255);
+  draw_list(&in->g, 255);
+}
+
+/* to becomes the product of shared and a random list, of naive degree 255. */
+static void draw_multiple(const list *shared, list *to) {
+  pair in = {.f = *shared};
+  result out;
+  draw_list(&in.g, MAX_WORDS - shared->words);
+  flint_product(&in, &out);
+  to->words = MAX_WORDS;
+  memcpy(to->bytes, out.first, MAX_BYTES);
+}
+
+static void draw_shared(pair *in) {
+  list shared;
+  draw_list(&shared, 100);
+  draw_multiple(&shared, &in->f);
+  draw_multiple(&shared, &in->g);
+}
+
+/* ---- The rows of the table. ---- */
+
+typedef void call(const pair *in, result *out);
+
+/* The numbers of words of the two results that are compared, and what w has to be where the row is a GCD. */
+typedef struct {
+  const char *name;
+  void (*draw)(pair *in);
+  call *engine, *flint;
+  size_t first_words, second_words;
+  int w;
+} task;
+
+static const task tasks[] = {
+    {"product, 127 by 128", draw_product, engine_product, flint_product, 256, 0, -1},
+    {"division, 255 by 128", draw_division, engine_division, flint_division, 128, 128, -1},
+    {"GCD, 255 and 255, coprime", draw_coprime, engine_gcd, flint_gcd, 256, 2, 0},
+    {"GCD, 255 and 255, factor of 100", draw_shared, engine_gcd, flint_gcd, 256, 2, 100},
+};
+
+/* Stops the program where the two sides differ in a word. The results start out different, so a word that is not written is seen. */
+static void compare(const task *t, const pair *in) {
+  result a, b;
+  memset(&a, 0x55, sizeof a);
+  memset(&b, 0xAA, sizeof b);
+  t->engine(in, &a);
+  t->flint(in, &b);
+  if (memcmp(a.first, b.first, 2 * t->first_words) != 0) fail("the results differ", t->name);
+  if (memcmp(a.second, b.second, 2 * t->second_words) != 0) fail("the results differ", t->name);
+  if (t->w >= 0 && word(a.second, 0) != (unsigned)t->w) fail("the GCD has another degree than the row says", t->name);
+}
+
+/* ---- Timing. ---- */
+
+static double now_ns(void) {
+  struct timespec t;
+  clock_gettime(CLOCK_MONOTONIC, &t);
+  return 1e9 * t.tv_sec + t.tv_nsec;
+}
+
+/* Nanoseconds per call. A batch is the pairs in turn, again and again, until it is long enough for the clock. */
+static double batch(call *f, const pair *in) {
+  static result out;
+  double start = now_ns(), passed;
+  size_t calls = 0;
+  do {
+    for (size_t i = 0; i < PAIRS; i++) f(&in[i], &out);
+    calls += PAIRS;
+    passed = now_ns() - start;
+  } while (passed < BATCH_NS);
+  return passed / calls;
+}
+
+static int ascending(const void *a, const void *b) {
+  double x = *(const double *)a, y = *(const double *)b;
+  return (x > y) - (x < y);
+}
+
+static double median(double *times) {
+  qsort(times, BATCHES, sizeof *times, ascending);
+  return times[BATCHES / 2];
+}
+
+/* The two sides take turns, so that what else the machine does falls on both alike. */
+static void measure(const task *t) {
+  static pair in[PAIRS];
+  double engine[BATCHES], flint[BATCHES];
+  for (size_t i = 0; i < PAIRS; i++) {
+    t->draw(&in[i]);
+    compare(t, &in[i]);
+  }
+  for (size_t i = 0; i < BATCHES; i++) {
+    engine[i] = batch(t->engine, in);
+    flint[i] = batch(t->flint, in);
+  }
+  double e = median(engine) / 1000, f = median(flint) / 1000;
+  printf("%-32s %10.2f us %10.2f us %8.2f\n", t->name, e, f, e / f);
+  fflush(stdout);
+}
+
+int main(void) {
+#ifdef __clang__
+  const char *compiler = "";
+#else
+  const char *compiler = "gcc ";
+#endif
+  printf("FLINT %s, GMP %s, compiler %s%s\n", flint_version, gmp_version, compiler, __VERSION__);
+  printf("%-32s %13s %13s %8s\n", "naive degrees", "engine", "FLINT", "ratio");
+  prepare_flint();
+  for (size_t i = 0; i < sizeof tasks / sizeof *tasks; i++) measure(&tasks[i]);
+  return 0;
+}

@@ -1,0 +1,18 @@
+-- `demand1::write_report` meets its contract.
+-- Assumes nothing.
+use borrow.Author.Needs.{needs}
+use Rattle.demand1.specs.Demand1Holds.{replies, no-slice, and-slice}
+use Rattle.demand1.proofs.write_report.Statement.{statement}
+use Rattle.demand1.proofs.write_report.Tie as tie
+
+write-report-requires : tie.Need-write-report-requires
+write-report-requires c κs = search needs
+
+same-length : tie.Need-same-length
+same-length c = search needs
+
+returns : tie.Need-returns
+returns c = let e = c .before .before .write-report .ensures in replies _ (e .0) (and-slice _ (e .1) no-slice)
+
+pub write-report-spec : {M : Type 1} → statement M
+write-report-spec = tie.close (tie.spec write-report-requires same-length returns)

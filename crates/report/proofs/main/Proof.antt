@@ -1,0 +1,71 @@
+-- `report::main` meets its contract: the text lies in its array.
+-- Assumes nothing.
+use mathlib.Core.Path.{sym}
+use Prim.Native.Nat.{_≤_}
+use lib.ListN.{length}
+use lib.Seq.{length-take-le}
+use borrow.Author.Needs.{needs}
+use Rattle.report_text.proofs.Whole.{text-inside}
+use Rattle.report.proofs.main.Statement.{statement}
+use Rattle.report.proofs.main.Tie as tie
+
+slice-aggregate-read-full : tie.Need-slice-aggregate-read-full
+slice-aggregate-read-full c = search needs
+
+read-full-requires : tie.Need-read-full-requires
+read-full-requires c κs = search needs
+
+array-share-prefix-album : tie.Need-array-share-prefix-album
+array-share-prefix-album c = search needs
+
+slice-aggregate-write-report : tie.Need-slice-aggregate-write-report
+slice-aggregate-write-report c = search needs
+
+slice-aggregate-write-report-2 : tie.Need-slice-aggregate-write-report-2
+slice-aggregate-write-report-2 c = search needs
+
+write-report-requires : tie.Need-write-report-requires
+write-report-requires c κs = search needs
+
+enum-known-k : tie.Need-enum-known-k
+enum-known-k c = search needs
+
+-- the text's length is at most the array's
+inside : (c : tie.After-k) → c .k .given .0 .0 ≤ length (c .before .before .before .write-report .last .1 .0)
+inside c = let e = c .before .before .before .write-report .ensures in text-inside _ _ (c .k .given .1) (e .0) (e .1)
+
+array-share-prefix-text : tie.Need-array-share-prefix-text
+array-share-prefix-text c = inside (c .before)
+
+slice-aggregate-write-all : tie.Need-slice-aggregate-write-all
+slice-aggregate-write-all c = sym (length-take-le _ _ (inside (c .before .before)))
+
+write-all-requires : tie.Need-write-all-requires
+write-all-requires c κs = search needs
+
+enum-told : tie.Need-enum-told
+enum-told c = search needs
+
+returns : tie.Need-returns
+returns c = search needs
+
+returns-2 : tie.Need-returns-2
+returns-2 c = search needs
+
+pub main-spec : {M : Type 1} → statement M
+main-spec =
+    tie.close
+    (tie.spec
+    slice-aggregate-read-full
+    read-full-requires
+    array-share-prefix-album
+    slice-aggregate-write-report
+    slice-aggregate-write-report-2
+    write-report-requires
+    enum-known-k
+    array-share-prefix-text
+    slice-aggregate-write-all
+    write-all-requires
+    enum-told
+    returns
+    returns-2)

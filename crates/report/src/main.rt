@@ -1,0 +1,13 @@
+// The program `report`: reads an album from standard input and writes the report on it.
+use libc::STDIN_FILENO;
+use libc::STDOUT_FILENO;
+use report_text::Text;
+
+fn main() {
+    let mut album = [0u8; 8242];
+    let mut text = [0u8; report_text::MAX_TEXT];
+    let n = io::read_full(STDIN_FILENO, &mut album);
+    if let Text::Done(k) = report_text::write_report(&album[..n], &mut text) {
+        io::write_all(STDOUT_FILENO, &text[..k]);
+    }
+}

@@ -1,0 +1,87 @@
+-- The report fits: every number has at most five digits, an album at most 16 lists, and h at most 256 words.
+-- Assumes nothing.
+use mathlib.Core.Path.{_≡_, refl}
+use mathlib.Core.List.{List, [], _∷_, map}
+use Prim.Native.Nat.{ℕ, suc, _+_, _-_, _*_, _≤_, _<_}
+use native.Mathlib.Decide.{ℕ-discrete}
+use native.Mathlib.Omega.{arith}
+use lib.ListN.{length, getD, length-append}
+use Rattle.refusal.specs.Refusal.{number}
+use Rattle.refusal.specs.declared.Refusal.{Refusal}
+use Rattle.refusal.specs.declared.Refusal.the-variants.{Count, Contents, Index, Length, LooseWord, Over, Backwards, Vanishes, AllZero, Misfit, NoInverse}
+use Rattle.lists.specs.Degrees.{naiveDegree, significant}
+use Rattle.lists.specs.Extents.{significant-le}
+use Rattle.report_text.specs.Text.{decimal, line}
+use Rattle.report_text.specs.Report.{⟨refused⟩, listLine, listLines, gcdLines, refusedLine}
+use Rattle.report_text.specs.Workers.{lineEnd}
+use Rattle.report_text.proofs.Digits.{decimal-short}
+use Rattle.report_text.proofs.Lines.{fields, named-line, end-zero, end-nonzero, list-line, gcd-lines, words-line}
+
+-- a word has at most five digits
+digits : (n : ℕ) → n < 65536 → length (decimal n) ≤ 5
+digits n l = decimal-short 4 n (omega arith)
+
+pub named-fits : (name : List ℕ) (n : ℕ) → n < 65536 → length (line (name ∷ decimal n ∷ [])) ≤ length name + 7
+named-fits name n l = rw (named-line name n) (simp length-append (omega (arith, digits n l)))
+
+number-small : (why : Refusal) → number why < 65536
+number-small Count = omega arith
+number-small Contents = omega arith
+number-small Index = omega arith
+number-small Length = omega arith
+number-small LooseWord = omega arith
+number-small Over = omega arith
+number-small Backwards = omega arith
+number-small Vanishes = omega arith
+number-small AllZero = omega arith
+number-small Misfit = omega arith
+number-small NoInverse = omega arith
+
+pub refused-fits : (why : Refusal) → length (refusedLine why) ≤ 14
+unfolding refusedLine
+refused-fits why = named-fits ⟨refused⟩ (number why) (number-small why)
+
+end-fits : (c : List ℕ) → length c ≤ 65536 → length (lineEnd c) ≤ 13
+end-fits c l = go (ℕ-discrete (significant c) 0)
+  where
+    go : Dec (significant c ≡ 0) → length (lineEnd c) ≤ 13
+    go (yes z) = rw (end-zero c refl z) (omega arith)
+    go (no f) =
+        let s = significant-le c in
+        rw (end-nonzero c refl f)
+        (simp length-append (omega (arith, digits (significant c - 1) (omega arith), digits (length c - significant c) (omega arith))))
+
+list-fits : (i : ℕ) (c : List ℕ) → i < 65536 → length c ≤ 65536 → length (listLine i c) ≤ 24
+list-fits i c li lc =
+    let d : naiveDegree c < 65536 = unfold naiveDegree in omega arith in
+    rw (list-line i c) (simp length-append (omega (arith, digits i li, digits (naiveDegree c) d, end-fits c lc)))
+
+pub lines-fit : (lists : List (List ℕ)) (i : ℕ) → i + length lists ≤ 65536
+    → ((j : ℕ) → j < length lists → length (getD lists j []) ≤ 65536) → length (listLines i lists) ≤ 24 * length lists
+unfolding listLines
+lines-fit [] i l each = omega arith
+lines-fit (c ∷ lists) i l each =
+    let a = list-fits i c (omega arith) (each 0 (omega arith)) in
+    let b = lines-fit lists (suc i) (omega arith) (λ j k. each (suc j) (omega arith)) in
+    rw length-append (omega arith)
+
+fields-fit : (h : List ℕ) → ((k : ℕ) → getD h k 0 < 65536) → length (fields h) ≤ 6 * length h
+fields-fit [] small = omega arith
+fields-fit (x ∷ h) small =
+    let a = digits x (small 0) in
+    let b = fields-fit h (λ k. small (suc k)) in
+    simp length-append (omega arith)
+
+words-fit : (h : List ℕ) → 0 < length h → ((k : ℕ) → getD h k 0 < 65536) → length (line (map decimal h)) ≤ 6 * length h
+words-fit [] some small = absurd (omega arith)
+words-fit (x ∷ h) some small =
+    let a = digits x (small 0) in
+    let b = fields-fit h (λ k. small (suc k)) in
+    rw (words-line (x ∷ h) some) (simp length-append (omega arith))
+
+pub gcd-fits : (h : List ℕ) (c : ℕ) → 0 < length h → length h + c ≤ 65536 → ((k : ℕ) → getD h k 0 < 65536)
+    → length (gcdLines h c) ≤ 16 + 6 * length h
+gcd-fits h c some few small =
+    let d : naiveDegree h + c < 65536 = unfold naiveDegree in omega arith in
+    rw (gcd-lines h c)
+    (simp length-append (omega (arith, digits (naiveDegree h + c) d, digits c (omega arith), words-fit h some small)))

@@ -1,0 +1,6 @@
+pub mod Puts
+pub mod Digits
+pub mod Lines
+pub mod Fits
+pub mod Sound
+pub mod Whole

@@ -1,0 +1,98 @@
+-- `report_text::put_lists` meets its contract: the lines of the lists below i are put.
+-- Assumes nothing.
+use mathlib.Core.Path.{_≡_, refl, sym, _∙_, ap}
+use mathlib.Core.List.{[]}
+use Prim.Native.Nat.{_-_, _≤_}
+use native.Mathlib.Omega.{arith}
+use lib.ListN.{length, drop}
+use borrow.Author.Needs.{needs}
+use Rattle.refusal.specs.Limits.{maxWords}
+use Rattle.album.specs.Layout.{listsOf}
+use Rattle.album_gcd.proofs.Lists.{held-take, length-lists, list-at, passed-obeys}
+use Rattle.album_gcd.proofs.Turning.{held-length}
+use Rattle.report_text.specs.Report.{listLine, listLines}
+use Rattle.report_text.proofs.Puts.{Left, put-none, put-is, room-is, left-start, left-next, left-room, left-end}
+use Rattle.report_text.proofs.Lines.{lines-next, lines-end}
+use Rattle.report_text.proofs.put_lists.Statement.{statement}
+use Rattle.report_text.proofs.put_lists.Tie as tie
+
+abbrev Inv-loop : tie.InvT-loop
+Inv-loop album list₀ at out₀ n place₀ i₀ list out place i = (i ≤ n) × (length list ≡ maxWords) × Left (listLines 0 (listsOf album)) (listLines i (drop i (listsOf album))) at out₀ out place
+
+abbrev μ-loop : tie.MeasureT-loop
+μ-loop album list₀ at out₀ n place₀ i₀ list out place i = n - i
+
+shared-slice-read-n : tie.Need-shared-slice-read-n Inv-loop μ-loop
+shared-slice-read-n c = omega (arith, passed-obeys 65521 _ (c .before .before .before .before .pre .0 .0) .some)
+
+cast-n : tie.Need-cast-n Inv-loop μ-loop
+cast-n c = omega (arith, c .shared-slice-known2 .given 0)
+
+loop-holds : tie.Need-loop-holds Inv-loop μ-loop
+loop-holds c = (omega arith, c .before .before .before .before .pre .0 .1, left-start)
+
+read-requires : tie.Need-read-requires Inv-loop μ-loop
+read-requires c κs = (c .before .before .before .before .before .before .before .pre .0 .0, (omega arith, c .before .before .loop .inv .1))
+
+slice-reshare-prefix-put-list : tie.Need-slice-reshare-prefix-put-list Inv-loop μ-loop
+slice-reshare-prefix-put-list c = let e = c .before .before .read .ensures in omega (arith, held-length e, e .words, e .listed .short)
+
+slice-aggregate-put-list : tie.Need-slice-aggregate-put-list Inv-loop μ-loop
+slice-aggregate-put-list c = let e = c .before .before .before .read .ensures in e .words ∙ ap length (sym (held-take e))
+
+put-list-requires : tie.Need-put-list-requires Inv-loop μ-loop
+put-list-requires c κs =
+    let e = c .before .before .before .before .read .ensures in
+    let l = length-lists (c .before .before .before .before .before .before .before .before .before .before .before .before .args .album .now) in (
+      omega (arith, ap length (held-take e), e .listed .some),
+      room-is (ap (listLine _) (list-at (c .before .before .before .before .before .before .before .before .before .before .before .before .args .album .now) _ (omega arith) ∙ sym (held-take e)))
+          (left-room _ _ (lines-next (listsOf (c .before .before .before .before .before .before .before .before .before .before .before .before .args .album .now)) _ (omega arith)) (c .before .before .before .before .before .before .before .loop .inv .2) (c .before .before .before .before .before .before .before .before .before .before .before .before .pre .1)),
+    )
+
+add-i : tie.Need-add-i Inv-loop μ-loop
+add-i c = omega (arith, c .before .before .before .before .before .before .before .before .before .before .before .shared-slice-known2 .given 0)
+
+loop-less : tie.Need-loop-less Inv-loop μ-loop
+loop-less c = omega arith
+
+loop-again : tie.Need-loop-again Inv-loop μ-loop
+loop-again c =
+    let e = c .before .before .before .before .before .before .before .read .ensures in
+    let l = length-lists (c .before .before .before .before .before .before .before .before .before .before .before .before .before .before .before .args .album .now) in (
+      omega arith,
+      held-length e,
+      left-next _ _ (lines-next (listsOf (c .before .before .before .before .before .before .before .before .before .before .before .before .before .before .before .args .album .now)) _ (omega arith)) (c .before .before .before .before .before .before .before .before .before .before .loop .inv .2)
+          (put-is (ap (listLine _) (held-take e ∙ sym (list-at (c .before .before .before .before .before .before .before .before .before .before .before .before .before .before .before .args .album .now) _ (omega arith)))) refl (c .before .before .put-list .ensures)),
+    )
+
+same-length : tie.Need-same-length Inv-loop μ-loop
+same-length c = c .before .loop .inv .1 ∙ sym (c .before .before .before .before .before .before .pre .0 .1)
+
+same-length-2 : tie.Need-same-length-2 Inv-loop μ-loop
+same-length-2 c = search needs
+
+returns : tie.Need-returns Inv-loop μ-loop
+returns c =
+    let s = c .before .before .before .before .before .before .args .album .now in
+    let l = length-lists s in
+    left-end (left-next [] [] (lines-end (listsOf s) (c .before .loop .i) (omega arith)) (c .before .loop .inv .2) (put-none _ _))
+
+pub put-lists-spec : {M : Type 1} → statement M
+put-lists-spec =
+    tie.close
+    (tie.spec
+    Inv-loop
+    μ-loop
+    shared-slice-read-n
+    cast-n
+    loop-holds
+    read-requires
+    slice-reshare-prefix-put-list
+    slice-aggregate-put-list
+    put-list-requires
+    add-i
+    loop-less
+    loop-again
+    same-length
+    same-length-2
+    returns)

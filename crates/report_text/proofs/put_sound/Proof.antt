@@ -1,0 +1,55 @@
+-- `report_text::put_sound` meets its contract.
+-- Assumes nothing.
+use native.Mathlib.Omega.{arith}
+use lib.Dec.{leb→le}
+use borrow.Author.Needs.{needs}
+use Rattle.algebra.specs.PrimeField.{F65521}
+use Rattle.album_gcd.proofs.Lists.{passed-obeys}
+use Rattle.report_text.proofs.Whole.{first-room, lists-room, answer-room, put-whole-report}
+use Rattle.report_text.proofs.put_sound.Statement.{statement}
+use Rattle.report_text.proofs.put_sound.Tie as tie
+
+slice-aggregate-put-named : tie.Need-slice-aggregate-put-named
+slice-aggregate-put-named c = search needs
+
+shared-slice-read-put-named : tie.Need-shared-slice-read-put-named
+shared-slice-read-put-named c = omega (arith, passed-obeys 65521 _ (c .before .before .before .before .before .before .pre .0) .some)
+
+cast-put-named : tie.Need-cast-put-named
+cast-put-named c = omega (arith, c .shared-slice-known2 .given 0)
+
+put-named-requires : tie.Need-put-named-requires
+put-named-requires c κs = first-room 65521 (c .before .before .before .before .before .before .before .args .album .now) (c .before .before .before .before .before .before .before .pre .0) (leb→le 1 65521 tt) (λ i. omega (arith, c .before .before .before .before .before .before .shared-slice-known .given i)) (c .before .before .before .before .before .before .before .pre .1 .2)
+
+put-lists-requires : tie.Need-put-lists-requires
+put-lists-requires c κs = ((c .before .before .before .before .before .before .before .before .before .before .before .before .pre .0, c .before .before .before .before .before .before .before .before .before .before .before .before .pre .1 .0), lists-room 65521 (c .before .before .before .before .before .before .before .before .before .before .before .before .args .album .now) (c .before .before .before .before .before .before .before .before .before .before .before .before .pre .0) (leb→le 1 65521 tt) (λ i. omega (arith, c .before .before .before .before .before .before .before .before .before .before .before .shared-slice-known .given i)) (c .before .before .before .before .before .before .before .before .before .before .before .before .pre .1 .2) (c .before .before .before .before .put-named .ensures))
+
+put-answer-requires : tie.Need-put-answer-requires
+put-answer-requires c κs = ((c .before .before .before .before .before .before .before .before .before .before .before .before .before .before .before .before .before .before .before .pre .0, c .before .before .before .before .before .before .before .before .before .before .before .before .before .before .before .before .before .before .before .pre .1 .1), answer-room 65521 (c .before .before .before .before .before .before .before .before .before .before .before .before .before .before .before .before .before .before .before .args .album .now) (c .before .before .before .before .before .before .before .before .before .before .before .before .before .before .before .before .before .before .before .pre .0) (leb→le 1 65521 tt) (λ i. omega (arith, c .before .before .before .before .before .before .before .before .before .before .before .before .before .before .before .before .before .before .shared-slice-known .given i)) (c .before .before .before .before .before .before .before .before .before .before .before .before .before .before .before .before .before .before .before .pre .1 .2) (c .before .before .before .before .before .before .before .before .before .before .before .put-named .ensures) (c .before .before .before .before .before .before .put-lists .ensures))
+
+same-length : tie.Need-same-length
+same-length c = search needs
+
+same-length-2 : tie.Need-same-length-2
+same-length-2 c = search needs
+
+same-length-3 : tie.Need-same-length-3
+same-length-3 c = search needs
+
+returns : tie.Need-returns
+returns c = put-whole-report F65521 (c .before .before .before .before .before .before .before .before .before .before .before .before .before .before .before .before .before .before .before .before .before .before .before .before .args .album .now) (c .before .before .before .before .before .before .before .before .before .before .before .before .before .before .before .before .put-named .ensures) (c .before .before .before .before .before .before .before .before .before .before .before .put-lists .ensures) (c .before .before .before .before .put-answer .ensures)
+
+pub put-sound-spec : {M : Type 1} → statement M
+put-sound-spec =
+    tie.close
+    (tie.spec
+    slice-aggregate-put-named
+    shared-slice-read-put-named
+    cast-put-named
+    put-named-requires
+    put-lists-requires
+    put-answer-requires
+    same-length
+    same-length-2
+    same-length-3
+    returns)

@@ -1,0 +1,234 @@
+// The report on an album, as text in a slice of bytes.
+ghost use mathlib.Core.Path.{_≡_};
+ghost use mathlib.Core.List.{[], _∷_, map};
+ghost use Prim.Native.Nat.{_+_, _≤_, _<_};
+ghost use lib.ListN.{length, take};
+ghost use Rattle.algebra.specs.PrimeField.{F65521};
+ghost use Rattle.refusal.specs.Limits.{maxWords};
+ghost use Rattle.refusal.specs.Refusal.{reply, written};
+ghost use Rattle.refusal.specs.Lowest.{lowest};
+ghost use Rattle.field.specs.Field.{p};
+ghost use Rattle.euclid.specs.Gcds.{padded};
+ghost use Rattle.album.specs.Layout.{count, listAt, listsOf};
+ghost use Rattle.album_gcd.specs.Workers.{Passed, Held};
+ghost use Rattle.report_text.specs.Text.{decimal, line};
+ghost use Rattle.report_text.specs.Report.{listLine, listLines, gcdLines, refusedLine, soundReport, reportOf};
+ghost use Rattle.report_text.specs.Calls.{maxText, reportRefusals, textReply};
+ghost use Rattle.report_text.specs.Workers.{Room, Put, lineEnd, maxAnswer, answerLines};
+use album::Listed;
+use gcd::Gcd;
+use refusal::Outcome;
+use refusal::Refusal;
+
+// The bytes of the result slice.
+pub const MAX_TEXT: usize = 2048;
+
+// The answer of writing a report: the number of its bytes.
+pub enum Text {
+    Done(usize),
+    Refused(Refusal),
+}
+
+// The report on an album, zeros after it.
+pub fn write_report(album: &[u8], out: &mut [u8]) -> Text
+    ensures answer { λ r. ⌜ textReply r ≡ reply (lowest (reportRefusals (now (out .entry)))) (length (reportOf p F65521 (now (album .entry))) ∷ []) ⌝ }
+    ensures writes { λ _. ⌜ now (out .exit) ≡ written (lowest (reportRefusals (now (out .entry)))) (padded maxText (reportOf p F65521 (now (album .entry)))) (now (out .entry)) ⌝ }
+{
+    if out.len() != MAX_TEXT {
+        return Text::Refused(Refusal::Misfit);
+    }
+    let mut list = [0u16; 256];
+    let mut h = [0u16; 256];
+    let n = report_in(album, &mut list, &mut h, out);
+    clear(n, out);
+    Text::Done(n)
+}
+
+// Zeros from a place on.
+fn clear(from: usize, out: &mut [u8])
+    requires { ⌜ from ≤ length (now out) ⌝ }
+    ensures { λ _. ⌜ now (out .exit) ≡ padded (length (now (out .entry))) (take from (now (out .entry))) ⌝ }
+{
+    let mut i = from;
+    while i < out.len() {
+        out[i] = 0;
+        i += 1;
+    }
+}
+
+// The report by way of buffers for a list and for h.
+fn report_in(album: &[u8], list: &mut [u16], h: &mut [u16], out: &mut [u8]) -> usize
+    requires { ⌜ (length (now list) ≡ maxWords) × (length (now h) ≡ maxWords) × (length (now out) ≡ maxText) ⌝ }
+    ensures { λ r. ⌜ Put (reportOf p F65521 (now (album .entry))) 0 (now (out .entry)) (now (out .exit)) r ⌝ }
+{
+    match album::judge_album(album) {
+        Outcome::Refused(why) => put_refused(why, 0, out),
+        Outcome::Done => put_sound(album, list, h, out),
+    }
+}
+
+// The report on an album that is not refused.
+fn put_sound(album: &[u8], list: &mut [u16], h: &mut [u16], out: &mut [u8]) -> usize
+    requires { ⌜ Passed p (now album) ⌝ }
+    requires { ⌜ (length (now list) ≡ maxWords) × (length (now h) ≡ maxWords) × (length (now out) ≡ maxText) ⌝ }
+    ensures { λ r. ⌜ Put (soundReport F65521 (listsOf (now (album .entry)))) 0 (now (out .entry)) (now (out .exit)) r ⌝ }
+{
+    let first = put_named(b"lists", album[0] as usize, 0, out);
+    let at = put_lists(album, list, first, out);
+    put_answer(album, h, at, out)
+}
+
+// What the report says of the GCD; h is room for it.
+fn put_answer(album: &[u8], h: &mut [u16], at: usize, out: &mut [u8]) -> usize
+    requires { ⌜ (Passed p (now album)) × (length (now h) ≡ maxWords) ⌝ }
+    requires { ⌜ at + maxAnswer ≤ length (now out) ⌝ }
+    ensures { λ r. ⌜ Put (answerLines F65521 (listsOf (now (album .entry)))) at (now (out .entry)) (now (out .exit)) r ⌝ }
+{
+    match album_gcd::gcd_of_album(album, h) {
+        Gcd::Done(w, c, _) => put_gcd(&h[..w.0 + 1], c, at, out),
+        Gcd::Refused(why) => put_refused(why, at, out),
+    }
+}
+
+// One byte.
+fn put(byte: u8, at: usize, out: &mut [u8]) -> usize
+    requires { ⌜ Room (byte ∷ []) at (now out) ⌝ }
+    ensures { λ r. ⌜ Put (byte ∷ []) at (now (out .entry)) (now (out .exit)) r ⌝ }
+{
+    out[at] = byte;
+    at + 1
+}
+
+// Some bytes.
+fn put_bytes(bytes: &[u8], at: usize, out: &mut [u8]) -> usize
+    requires { ⌜ Room (now bytes) at (now out) ⌝ }
+    ensures { λ r. ⌜ Put (now (bytes .entry)) at (now (out .entry)) (now (out .exit)) r ⌝ }
+{
+    let mut i = 0;
+    while i < bytes.len() {
+        out[at + i] = bytes[i];
+        i += 1;
+    }
+    at + i
+}
+
+// A number in decimal digits.
+fn put_number(n: usize, at: usize, out: &mut [u8]) -> usize
+    requires { ⌜ Room (decimal n) at (now out) ⌝ }
+    ensures { λ r. ⌜ Put (decimal n) at (now (out .entry)) (now (out .exit)) r ⌝ }
+{
+    if n < 10 {
+        return put(48 + n as u8, at, out);
+    }
+    let last = put_number(n / 10, at, out);
+    put(48 + (n % 10) as u8, last, out)
+}
+
+// A space and a number.
+fn put_field(n: usize, at: usize, out: &mut [u8]) -> usize
+    requires { ⌜ Room (32 ∷ decimal n) at (now out) ⌝ }
+    ensures { λ r. ⌜ Put (32 ∷ decimal n) at (now (out .entry)) (now (out .exit)) r ⌝ }
+{
+    let next = put(32, at, out);
+    put_number(n, next, out)
+}
+
+// A line of a name and a number.
+fn put_named(name: &[u8], n: usize, at: usize, out: &mut [u8]) -> usize
+    requires { ⌜ Room (line (now name ∷ decimal n ∷ [])) at (now out) ⌝ }
+    ensures { λ r. ⌜ Put (line (now (name .entry) ∷ decimal n ∷ [])) at (now (out .entry)) (now (out .exit)) r ⌝ }
+{
+    let named = put_bytes(name, at, out);
+    let end = put_field(n, named, out);
+    put(10, end, out)
+}
+
+// The line of a refusal.
+fn put_refused(why: Refusal, at: usize, out: &mut [u8]) -> usize
+    requires { ⌜ Room (refusedLine why) at (now out) ⌝ }
+    ensures { λ r. ⌜ Put (refusedLine why) at (now (out .entry)) (now (out .exit)) r ⌝ }
+{
+    put_named(b"refused", refusal::number_of(why) as usize, at, out)
+}
+
+// The extent and the power of a list, `-` for each where it is zero, and the end of its line.
+fn put_extent(list: &[u16], at: usize, out: &mut [u8]) -> usize
+    requires { ⌜ Room (lineEnd (now list)) at (now out) ⌝ }
+    ensures { λ r. ⌜ Put (lineEnd (now (list .entry))) at (now (out .entry)) (now (out .exit)) r ⌝ }
+{
+    let used = lists::significant_words(list);
+    if used == 0 {
+        return put_bytes(b" - -\n", at, out);
+    }
+    let extent = used - 1;
+    let power = list.len() - used;
+    let next = put_field(extent, at, out);
+    let end = put_field(power, next, out);
+    put(10, end, out)
+}
+
+// The line of list i.
+fn put_list(i: usize, list: &[u16], at: usize, out: &mut [u8]) -> usize
+    requires { ⌜ (0 < length (now list)) × (Room (listLine i (now list)) at (now out)) ⌝ }
+    ensures { λ r. ⌜ Put (listLine i (now (list .entry))) at (now (out .entry)) (now (out .exit)) r ⌝ }
+{
+    let number = put_number(i, at, out);
+    let degree = put_field(list.len() - 1, number, out);
+    put_extent(list, degree, out)
+}
+
+// The words of h, one space between them.
+fn put_words(h: &[u16], at: usize, out: &mut [u8]) -> usize
+    requires { ⌜ (0 < length (now h)) × (Room (line (map decimal (now h))) at (now out)) ⌝ }
+    ensures { λ r. ⌜ Put (line (map decimal (now (h .entry)))) at (now (out .entry)) (now (out .exit)) r ⌝ }
+{
+    let mut place = put_number(h[0] as usize, at, out);
+    let mut k = 1;
+    while k < h.len() {
+        place = put_field(h[k] as usize, place, out);
+        k += 1;
+    }
+    put(10, place, out)
+}
+
+// The two lines of the GCD.
+fn put_gcd(h: &[u16], c: usize, at: usize, out: &mut [u8]) -> usize
+    requires { ⌜ (0 < length (now h)) × (length (now h) ≤ maxWords) × (c < maxWords) ⌝ }
+    requires { ⌜ Room (gcdLines (now h) c) at (now out) ⌝ }
+    ensures { λ r. ⌜ Put (gcdLines (now (h .entry)) c) at (now (out .entry)) (now (out .exit)) r ⌝ }
+{
+    let named = put_bytes(b"gcd", at, out);
+    let degree = put_field(h.len() - 1 + c, named, out);
+    let power = put_field(c, degree, out);
+    let end = put(10, power, out);
+    put_words(h, end, out)
+}
+
+// List i, to a slice of 256 words. The number of its words.
+fn read(album: &[u8], i: usize, list: &mut [u16]) -> usize
+    requires { ⌜ Passed p (now album) ⌝ }
+    requires { ⌜ (i < count (now album)) × (length (now list) ≡ maxWords) ⌝ }
+    ensures { λ r. ⌜ Held p (now (list .exit)) r (listAt (now (album .entry)) i) ⌝ }
+{
+    match album::read_list(album, i, list) {
+        Listed::Done(degree) => degree.0 + 1,
+        Listed::Refused(_) => 0,
+    }
+}
+
+// The lines of the lists; `list` is room for one.
+fn put_lists(album: &[u8], list: &mut [u16], at: usize, out: &mut [u8]) -> usize
+    requires { ⌜ (Passed p (now album)) × (length (now list) ≡ maxWords) ⌝ }
+    requires { ⌜ Room (listLines 0 (listsOf (now album))) at (now out) ⌝ }
+    ensures { λ r. ⌜ Put (listLines 0 (listsOf (now (album .entry)))) at (now (out .entry)) (now (out .exit)) r ⌝ }
+{
+    let n = album[0] as usize;
+    let mut place = at;
+    let mut i = 0;
+    while i < n {
+        let m = read(album, i, list);
+        place = put_list(i, &list[..m], place, out);
+        i += 1;
+    }
+    place
+}

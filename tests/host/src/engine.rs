@@ -1,0 +1,135 @@
+//! The engine: its three functions for a C host, and the program `report`.
+
+use crate::album::bytes;
+use crate::model::MAX_WORDS;
+use std::io::{Read, Write};
+use std::process::{Command, Stdio};
+use std::{env, thread, time::Duration};
+
+#[derive(Clone, Copy, Debug, PartialEq)]
+pub enum Operation {
+    Product,
+    Division,
+    Gcd,
+}
+
+/// One call: its lists in the order of the parameters (a division has g first), and what its result slices hold before.
+#[derive(Clone, Debug)]
+pub struct Call {
+    pub operation: Operation,
+    pub lists: [Vec<u8>; 2],
+    pub results: Vec<Vec<u8>>,
+}
+
+impl Call {
+    /// A call on two lists of words, with result slices that fit, full of zeros.
+    pub fn fitting(operation: Operation, first: &[u32], second: &[u32]) -> Call {
+        let words = match operation {
+            Operation::Product => vec![first.len() + second.len() - 1],
+            Operation::Division => vec![(first.len() + 1).saturating_sub(second.len()), second.len() - 1],
+            Operation::Gcd => vec![MAX_WORDS, 3],
+        };
+        let results = words.iter().map(|n| vec![0; 2 * n]).collect();
+        Call { operation, lists: [bytes(first), bytes(second)], results }
+    }
+}
+
+/// What is there after a call. `stray` says that a byte beside a list or a result was changed.
+#[derive(Clone, Debug, PartialEq)]
+pub struct Answer {
+    pub number: u8,
+    pub lists: [Vec<u8>; 2],
+    pub results: Vec<Vec<u8>>,
+    pub stray: bool,
+}
+
+type In = *const u8;
+type Out = *mut u8;
+
+#[link(name = "host", kind = "static")]
+unsafe extern "C" {
+    fn bernstein_product(f: In, f_len: usize, g: In, g_len: usize, out: Out, out_len: usize) -> u8;
+    fn bernstein_division(g: In, g_len: usize, f: In, f_len: usize, q: Out, q_len: usize, r: Out, r_len: usize) -> u8;
+    fn bernstein_gcd(f: In, f_len: usize, g: In, g_len: usize, h: Out, h_len: usize, answer: Out, answer_len: usize) -> u8;
+}
+
+/// Bytes with a margin on both sides, to see whether something is written there; an odd one, so that words lie at odd addresses
+/// too.
+struct Lent(Vec<u8>);
+
+const MARGIN: [u8; 7] = [0xA5; 7];
+
+impl Lent {
+    fn new(bytes: &[u8]) -> Lent {
+        Lent([&MARGIN, bytes, &MARGIN].concat())
+    }
+
+    fn part(&mut self) -> &mut [u8] {
+        let end = self.0.len() - MARGIN.len();
+        &mut self.0[MARGIN.len()..end]
+    }
+
+    fn is_stray(&self) -> bool {
+        !self.0.starts_with(&MARGIN) || !self.0.ends_with(&MARGIN)
+    }
+}
+
+pub fn run(call: &Call) -> Answer {
+    let mut lists = call.lists.each_ref().map(|list| Lent::new(list));
+    let mut results: Vec<Lent> = call.results.iter().map(|result| Lent::new(result)).collect();
+    let number = call_host(call.operation, lists.each_mut().map(Lent::part), results.iter_mut().map(Lent::part).collect());
+    Answer {
+        number,
+        stray: lists.iter().chain(&results).any(Lent::is_stray),
+        lists: lists.each_mut().map(|list| list.part().to_vec()),
+        results: results.iter_mut().map(|result| result.part().to_vec()).collect(),
+    }
+}
+
+fn call_host(operation: Operation, lists: [&mut [u8]; 2], mut results: Vec<&mut [u8]>) -> u8 {
+    let [first, second] = lists;
+    let (x, x_len, y, y_len) = (first.as_ptr(), first.len(), second.as_ptr(), second.len());
+    let mut result = |i: usize| (results[i].as_mut_ptr(), results[i].len());
+    // SAFETY: each pointer goes with the length of a slice that is borrowed until the call returns, and no two overlap.
+    match operation {
+        Operation::Product => {
+            let (out, out_len) = result(0);
+            unsafe { bernstein_product(x, x_len, y, y_len, out, out_len) }
+        }
+        Operation::Division => {
+            let ((q, q_len), (r, r_len)) = (result(0), result(1));
+            unsafe { bernstein_division(x, x_len, y, y_len, q, q_len, r, r_len) }
+        }
+        Operation::Gcd => {
+            let ((h, h_len), (answer, answer_len)) = (result(0), result(1));
+            unsafe { bernstein_gcd(x, x_len, y, y_len, h, h_len, answer, answer_len) }
+        }
+    }
+}
+
+/// What `report` writes on this input. The environment variable REPORT may name another program.
+pub fn report(input: &[u8]) -> Result<Vec<u8>, String> {
+    report_in_pieces(input, usize::MAX)
+}
+
+/// The same with the input written in pieces, a moment apart, so that the program's reads are short.
+pub fn report_in_pieces(input: &[u8], size: usize) -> Result<Vec<u8>, String> {
+    let program = env::var("REPORT").unwrap_or("target/bin/report".into());
+    let started = Command::new(&program).stdin(Stdio::piped()).stdout(Stdio::piped()).spawn();
+    let mut child = started.map_err(|error| format!("{program}: {error}"))?;
+    let mut pipe = child.stdin.take().expect("a pipe");
+    for (i, piece) in input.chunks(size).enumerate() {
+        if i > 0 {
+            thread::sleep(Duration::from_millis(1));
+        }
+        // the program need not read all of an input that is too long, and may have ended
+        if pipe.write_all(piece).is_err() {
+            break;
+        }
+    }
+    drop(pipe);
+    let mut text = vec![];
+    child.stdout.take().expect("a pipe").read_to_end(&mut text).expect("the report is read");
+    let status = child.wait().expect("the program ends");
+    if status.success() { Ok(text) } else { Err(format!("{program}: {status}")) }
+}

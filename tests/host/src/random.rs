@@ -1,0 +1,226 @@
+//! Inputs drawn with a fixed seed: lists, calls for a C host, and albums, valid and damaged.
+
+use crate::album::{self, bytes};
+use crate::engine::{Call, Operation};
+use crate::field::P;
+use crate::model::{List, MAX_WORDS, multiply};
+use crate::poly;
+
+/// The generator splitmix64.
+pub struct Random(pub u64);
+
+impl Random {
+    fn next(&mut self) -> u64 {
+        self.0 = self.0.wrapping_add(0x9E37_79B9_7F4A_7C15);
+        let z = (self.0 ^ (self.0 >> 30)).wrapping_mul(0xBF58_476D_1CE4_E5B9);
+        let z = (z ^ (z >> 27)).wrapping_mul(0x94D0_49BB_1331_11EB);
+        z ^ (z >> 31)
+    }
+
+    pub fn below(&mut self, n: usize) -> usize {
+        (self.next() % n as u64) as usize
+    }
+
+    pub fn percent(&mut self, n: usize) -> bool {
+        self.below(100) < n
+    }
+
+    fn word(&mut self) -> u32 {
+        self.below(P as usize) as u32
+    }
+
+    fn nonzero(&mut self) -> u32 {
+        1 + self.below(P as usize - 1) as u32
+    }
+
+    fn loose(&mut self) -> u32 {
+        P + self.below(15) as u32
+    }
+
+    /// A list of 1 to 256 words, mostly few.
+    fn any_list(&mut self) -> List {
+        let length = match self.below(20) {
+            0..=11 => 1 + self.below(8),
+            12..=16 => 1 + self.below(40),
+            17 | 18 => 1 + self.below(MAX_WORDS),
+            _ => MAX_WORDS - self.below(2),
+        };
+        self.list(length)
+    }
+
+    /// A list of at most this many words.
+    fn list_up_to(&mut self, longest: usize) -> List {
+        let length = 1 + self.below(longest);
+        self.list(length)
+    }
+
+    fn list(&mut self, length: usize) -> List {
+        let mut list: List = (0..length).map(|_| self.word()).collect();
+        match self.below(12) {
+            0 => list.fill(0),
+            1 => list.iter_mut().for_each(|word| *word %= 3),
+            2 => list.iter_mut().for_each(|word| *word = [0, 1, P - 2, P - 1][*word as usize % 4]),
+            // factors t, factors 1-t, and a constant at a higher naive degree
+            3 => list[..self.below(length)].fill(0),
+            4 | 5 => list[self.below(length)..].fill(0),
+            6 => list.fill(self.nonzero()),
+            _ => {}
+        }
+        list
+    }
+
+    /// Lists with a common factor, some with powers of 1-t; at most 251 words each.
+    fn planted(&mut self, count: usize) -> Vec<List> {
+        let size = if self.percent(85) { 5 } else { 80 };
+        let factor = self.list_up_to(size);
+        let mut list = || {
+            let power = self.below(2) * self.below(size);
+            let one_minus_t = poly::to_list(&poly::one_minus_t(power), power);
+            multiply(&multiply(&factor, &self.list_up_to(size)), &one_minus_t)
+        };
+        (0..count).map(|_| list()).collect()
+    }
+
+    /// Two lists whose Euclid's quotients have chosen degrees, and so few or many rounds; at most 256 words each.
+    fn chained(&mut self) -> [List; 2] {
+        let (mut x, mut y) = (self.list_up_to(4), vec![]);
+        x.push(self.nonzero());
+        for _ in 0..self.below(20) {
+            let mut quotient: List = (0..1 + self.below(10)).map(|_| self.word()).collect();
+            quotient.push(self.nonzero());
+            (x, y) = (poly::plus(&poly::times(&quotient, &x), &y), x);
+        }
+        [x, y].map(|s| poly::unscaled(&s, s.len().max(1) - 1 + self.below(10)))
+    }
+
+    pub fn pair(&mut self) -> [List; 2] {
+        let mut pair = match self.below(10) {
+            0..=3 => [(); 2].map(|()| self.any_list()),
+            4..=6 => self.planted(2).try_into().expect("two lists"),
+            7 | 8 => self.chained(),
+            _ => {
+                let list = self.list_up_to(30);
+                [multiply(&list, &[self.nonzero()]), list]
+            }
+        };
+        if self.percent(50) {
+            pair.reverse();
+        }
+        pair
+    }
+
+    /// A call that nothing is wrong with but what the lists themselves bring.
+    fn fair_call(&mut self, operation: Operation) -> Call {
+        let mut pair = self.pair();
+        match operation {
+            Operation::Product if self.percent(10) => {
+                // naive degrees that reach 255 together, or just pass it
+                let length = 1 + self.below(MAX_WORDS);
+                pair = [length, (MAX_WORDS + 1 + self.below(2) - length).min(MAX_WORDS)].map(|length| self.list(length));
+            }
+            Operation::Division => {
+                if pair[0].len() < pair[1].len() && self.percent(85) {
+                    pair.reverse();
+                }
+                if let (Some(last @ 0), true) = (pair[1].last_mut(), self.percent(70)) {
+                    *last = self.nonzero();
+                }
+            }
+            Operation::Gcd if self.percent(8) => pair.iter_mut().for_each(|list| list.fill(0)),
+            _ => {}
+        }
+        Call::fitting(operation, &pair[0], &pair[1])
+    }
+
+    pub fn call(&mut self, operation: Operation) -> Call {
+        let mut call = self.fair_call(operation);
+        let damages = if self.percent(60) { 0 } else { 1 + self.below(2) };
+        for _ in 0..damages {
+            if self.percent(65) {
+                let which = self.below(2);
+                self.damage_list(&mut call.lists[which]);
+            } else {
+                let which = self.below(call.results.len());
+                self.damage_length(&mut call.results[which]);
+            }
+        }
+        call.results.iter_mut().flatten().for_each(|byte| *byte = self.below(256) as u8);
+        call
+    }
+
+    fn damage_list(&mut self, list: &mut Vec<u8>) {
+        match self.below(10) {
+            0 => list.clear(),
+            1 => self.damage_length(list),
+            // longer than 256 words
+            2 => {
+                let words = MAX_WORDS + 1 + self.below(40);
+                *list = bytes(&self.list(words));
+            }
+            _ if list.len() < 2 => list.push(0),
+            _ => {
+                let at = 2 * self.below(list.len() / 2);
+                list[at..at + 2].copy_from_slice(&bytes(&[self.loose()]));
+            }
+        }
+    }
+
+    fn damage_length(&mut self, part: &mut Vec<u8>) {
+        let length = match self.below(6) {
+            0 => part.len() + 1,
+            1 => part.len().saturating_sub(1),
+            2 => part.len() + 2,
+            3 => part.len().saturating_sub(2),
+            4 => 0,
+            _ => self.below(600),
+        };
+        part.resize(length, 0);
+    }
+
+    fn lists(&mut self) -> Vec<List> {
+        let count = 1 + self.below(16);
+        let mut lists = if self.percent(60) { self.planted(count) } else { (0..count).map(|_| self.any_list()).collect() };
+        let zeros = [0, 0, 30, 90, 100][self.below(5)];
+        for list in &mut lists {
+            if self.percent(zeros) {
+                list.fill(0);
+            }
+        }
+        lists
+    }
+
+    pub fn album(&mut self) -> Vec<u8> {
+        let lists = self.lists();
+        let mut album = album::written(&lists);
+        let damages = if self.percent(55) { 0 } else { 1 + self.below(2) };
+        for _ in 0..damages {
+            self.damage_album(&mut album, lists.len());
+        }
+        album
+    }
+
+    fn damage_album(&mut self, album: &mut Vec<u8>, count: usize) {
+        let bodies = 1 + 3 * count;
+        let entry = 1 + 3 * self.below(count);
+        let byte = self.below(256) as u8;
+        match self.below(16) {
+            _ if album.len() < bodies + 2 => album.push(byte),
+            0 => album[0] = [0, 17, 18 + byte % 238][self.below(3)],
+            1 => album[0] = 1 + byte % 16,
+            // a wrong degree, and a wrong offset: low byte, high byte, off by one
+            2 => album[entry] = byte,
+            3 => album[entry + 1] = byte,
+            4 => album[entry + 2] = byte,
+            5 => album[entry + 1] = album[entry + 1].wrapping_add(1),
+            6 => album.truncate(album.len() - 1 - self.below(2)),
+            7 => album.truncate(self.below(album.len())),
+            8 => album.extend(vec![byte; 1 + self.below(3)]),
+            // a gap between two bodies, or before the first
+            9 => album.insert(bodies, byte),
+            _ => {
+                let at = bodies + 2 * self.below((album.len() - bodies) / 2);
+                album[at..at + 2].copy_from_slice(&bytes(&[self.loose()]));
+            }
+        }
+    }
+}

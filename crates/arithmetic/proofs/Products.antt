@@ -15,9 +15,10 @@ use Rattle.lists.specs.Lists.{binomial, scaled, unscaled}
 use Rattle.lists.specs.Operations.{product, raise}
 use Rattle.lists.specs.Words.{seriesOf, coeff-seriesOf, scaledWords, length-scaledWords, seriesOf-scaledWords}
 use Rattle.lists.specs.Products.{ones, product-unscaled, raise-product}
-use Rattle.kernels.specs.Kernels.{scaleFits, unscaleFits, convolveFits, convolution}
-use Rattle.kernels.proofs.Fits.{scale-is, convolve-is, unscale-is}
-use Rattle.kernels.proofs.Convolution.{length-convolution}
+use Rattle.kernels.specs.Kernels.{scaleFits, unscaleFits}
+use Rattle.kernels.proofs.Fits.{scale-is, unscale-is}
+use Rattle.convolution.specs.Convolution.{convolveFits, convolution}
+use Rattle.convolution.proofs.Convolution.{length-convolution, convolve-is}
 use Rattle.arithmetic.specs.Workers.{ProductFits, RaiseFits}
 
 -- a part of an array of ones

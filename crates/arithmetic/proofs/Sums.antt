@@ -1,6 +1,7 @@
 -- Sums and differences of raised lists, word by word.
 -- Assumes nothing.
 use mathlib.Core.Path.{_≡_, sym, _∙_, ap, ap₂}
+use mathlib.Core.Bool.{Bool, true, false, cond}
 use mathlib.Core.List.{List}
 use Prim.Native.Nat.{ℕ, _+_, _-_, _%_, _<_}
 use native.Mathlib.Nat.{mod-lt}
@@ -14,7 +15,7 @@ use Rattle.lists.specs.Lists.{word}
 use Rattle.lists.specs.Operations.{raise, larger, sumOf, differenceOf}
 use Rattle.lists.specs.Words.{value-is}
 use Rattle.lists.specs.Products.{length-raise}
-use Rattle.arithmetic.specs.Workers.{SumFits, wordSums, wordDifferences}
+use Rattle.arithmetic.specs.Workers.{SumFits, combinedWords, combined}
 
 module _ (F : PrimeField) (most : ℕ) where
   open CommRing (scalars F) using (neg as ⊖_, add as _⊕_)
@@ -26,26 +27,21 @@ module _ (F : PrimeField) (most : ℕ) where
   unfolding naiveDegree larger
   degree f g out a fits e = let s = fits .size in let l = fits .first .some in let r = fits .second .some in omega arith
 
-  -- f and g raised into a and b, and added or subtracted
-  pub sum-is : {p : ℕ} (f g a b out : List ℕ) {a′ b′ out′ : List ℕ} → SumFits p most f g out → length a ≡ length out → length b ≡ length out
-      → a′ ≡ raise F (naiveDegree a) f → b′ ≡ raise F (naiveDegree b) g → out′ ≡ wordSums F a′ b′ → out′ ≡ sumOf F f g
-  unfolding sumOf wordSums
-  sum-is f g a b out {a′} {b′} {out′} fits la lb qa qb q =
-      let ea = qa ∙ ap (λ n. raise F n f) (degree f g out a fits la) in
-      let eb = qb ∙ ap (λ n. raise F n g) (degree f g out b fits lb) in
-      q
-      ∙ ap₂ (wordSums F) ea eb
-      ∙ ap (λ n. tabulate n (λ k. value F (word F (raise F (larger F f g) f) k ⊕ word F (raise F (larger F f g) g) k))) (length-raise F (larger F f g) f)
+  raised : (minus : Bool) (f g : List ℕ) → combinedWords F minus (raise F (larger F f g) f) (raise F (larger F f g) g) ≡ combined F minus f g
+  unfolding sumOf differenceOf combinedWords
+  raised true f g =
+      ap (λ n. tabulate n (λ k. value F (word F (raise F (larger F f g) f) k ⊕ ⊖ word F (raise F (larger F f g) g) k))) (length-raise F (larger F f g) f)
+  raised false f g =
+      ap (λ n. tabulate n (λ k. value F (word F (raise F (larger F f g) f) k ⊕ word F (raise F (larger F f g) g) k))) (length-raise F (larger F f g) f)
 
-  pub difference-is : {p : ℕ} (f g a b out : List ℕ) {a′ b′ out′ : List ℕ} → SumFits p most f g out → length a ≡ length out → length b ≡ length out
-      → a′ ≡ raise F (naiveDegree a) f → b′ ≡ raise F (naiveDegree b) g → out′ ≡ wordDifferences F a′ b′ → out′ ≡ differenceOf F f g
-  unfolding differenceOf wordDifferences
-  difference-is f g a b out {a′} {b′} {out′} fits la lb qa qb q =
+  -- f and g raised into a and b, and added or subtracted
+  pub combined-is : {p : ℕ} (minus : Bool) (f g a b out : List ℕ) {a′ b′ out′ : List ℕ} → SumFits p most f g out
+      → length a ≡ length out → length b ≡ length out
+      → a′ ≡ raise F (naiveDegree a) f → b′ ≡ raise F (naiveDegree b) g → out′ ≡ combinedWords F minus a′ b′ → out′ ≡ combined F minus f g
+  combined-is minus f g a b out {a′} {b′} {out′} fits la lb qa qb q =
       let ea = qa ∙ ap (λ n. raise F n f) (degree f g out a fits la) in
       let eb = qb ∙ ap (λ n. raise F n g) (degree f g out b fits lb) in
-      q
-      ∙ ap₂ (wordDifferences F) ea eb
-      ∙ ap (λ n. tabulate n (λ k. value F (word F (raise F (larger F f g) f) k ⊕ ⊖ word F (raise F (larger F f g) g) k))) (length-raise F (larger F f g) f)
+      q ∙ ap₂ (combinedWords F minus) ea eb ∙ raised minus f g
 
 -- one word of a sum and of a difference
 module _ (F : PrimeField) {m : ℕ} (e : F .p ≡ m) where
@@ -53,26 +49,20 @@ module _ (F : PrimeField) {m : ℕ} (e : F .p ≡ m) where
 
   infixl 65 _⊕_
   infix 80 ⊖_
-  pub sum-word : (a b : List ℕ) (k : ℕ) {w : ℕ} → k < length a → w ≡ (getD a k 0 + getD b k 0) % m → w ≡ getD (wordSums F a b) k 0
-  unfolding wordSums word
-  sum-word a b k {w} l q =
+  pub combined-word : (minus : Bool) (a b : List ℕ) (k : ℕ) {w : ℕ} → k < length a
+      → w ≡ cond minus ((getD a k 0 + (m - getD b k 0 % m)) % m) ((getD a k 0 + getD b k 0) % m) → w ≡ getD (combinedWords F minus a b) k 0
+  unfolding combinedWords word
+  combined-word false a b k {w} l q =
       let h = mod-lt (getD a k 0 + getD b k 0) (positive F) in
       value-is F w _ (rw (q, ← e) h) (ap (residue F) (q ∙ ap (λ n. (getD a k 0 + getD b k 0) % n) (sym e)) ∙ residue-add-mod F _ _)
       ∙ sym (getD-tabulate (length a) _ k l)
-
-  pub difference-word : (a b : List ℕ) (k : ℕ) {w : ℕ} → k < length a → w ≡ (getD a k 0 + (m - getD b k 0 % m)) % m → w ≡ getD (wordDifferences F a b) k 0
-  unfolding wordDifferences word
-  difference-word a b k {w} l q =
+  combined-word true a b k {w} l q =
       let h = mod-lt (getD a k 0 + (F .p - getD b k 0 % F .p)) (positive F) in
       value-is F w _ (rw (q, ← e) h)
       (ap (residue F) (q ∙ ap (λ n. (getD a k 0 + (n - getD b k 0 % n)) % n) (sym e)) ∙ residue-add-mod F _ _
       ∙ ap (λ x. residue F (getD a k 0) ⊕ x) (residue-neg F (getD b k 0)))
       ∙ sym (getD-tabulate (length a) _ k l)
 
-pub length-wordSums : (F : PrimeField) (a b : List ℕ) → length (wordSums F a b) ≡ length a
-unfolding wordSums
-length-wordSums F a b = length-tabulate (length a) _
-
-pub length-wordDifferences : (F : PrimeField) (a b : List ℕ) → length (wordDifferences F a b) ≡ length a
-unfolding wordDifferences
-length-wordDifferences F a b = length-tabulate (length a) _
+pub length-combinedWords : (F : PrimeField) (minus : Bool) (a b : List ℕ) → length (combinedWords F minus a b) ≡ length a
+unfolding combinedWords
+length-combinedWords F minus a b = length-tabulate (length a) _

@@ -2,9 +2,11 @@
 --     ProductFits                  two lists and a result slice as long as their product
 --     RaiseFits                    a list and a result slice that is no shorter
 --     SumFits                      two lists and a result slice as long as their sum
---     wordSums, wordDifferences    two lists of one length, added and subtracted word by word
+--     combinedWords                two lists of one length, added word by word, or subtracted where `minus`
+--     combined                     the sum of two lists, or, where `minus`, their difference
 -- Assumes nothing.
 use mathlib.Core.Path.{_≡_}
+use mathlib.Core.Bool.{Bool, cond}
 use mathlib.Core.List.{List}
 use Prim.Native.Nat.{ℕ, _+_, _≤_, _<_, max}
 use lib.ListN.{length}
@@ -13,6 +15,7 @@ use Rattle.algebra.specs.PrimeField.{PrimeField, scalars, value}
 use Rattle.lists.specs.Tabulate.{tabulate}
 use Rattle.lists.specs.Lists.{word}
 use Rattle.lists.specs.Refused.{Listed}
+use Rattle.lists.specs.Operations.{sumOf, differenceOf}
 
 pub record ProductFits (most : ℕ) (f g out : List ℕ) : Type 0 where
   pub first : 0 < length f
@@ -35,8 +38,8 @@ module _ (F : PrimeField) where
 
   infixl 65 _⊕_
   infix 80 ⊖_
-  unfoldable pub wordSums : (a b : List ℕ) → List ℕ
-  wordSums a b = tabulate (length a) (λ k. value F (word F a k ⊕ word F b k))
+  unfoldable pub combinedWords : Bool → (a b : List ℕ) → List ℕ
+  combinedWords minus a b = tabulate (length a) (λ k. value F (word F a k ⊕ cond minus (⊖ word F b k) (word F b k)))
 
-  unfoldable pub wordDifferences : (a b : List ℕ) → List ℕ
-  wordDifferences a b = tabulate (length a) (λ k. value F (word F a k ⊕ ⊖ word F b k))
+  abbrev pub combined : Bool → (f g : List ℕ) → List ℕ
+  combined minus f g = cond minus (differenceOf F f g) (sumOf F f g)

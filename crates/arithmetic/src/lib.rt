@@ -1,7 +1,8 @@
 // Product, raise, sum and difference of lists.
 ghost use mathlib.Core.Path.{_≡_};
+ghost use mathlib.Core.Bool.{cond};
 ghost use mathlib.Core.List.{[]};
-ghost use Prim.Native.Nat.{max};
+ghost use Prim.Native.Nat.{_+_, _-_, _%_, max};
 ghost use lib.ListN.{length};
 ghost use Rattle.algebra.specs.PrimeField.{F65521};
 ghost use Rattle.refusal.specs.Limits.{maxWords};
@@ -11,7 +12,7 @@ ghost use Rattle.field.specs.Field.{p};
 ghost use Rattle.lists.specs.Degrees.{naiveDegree};
 ghost use Rattle.lists.specs.Operations as of;
 ghost use Rattle.arithmetic.specs.Calls.{productRefusals, raiseRefusals, sumRefusals};
-ghost use Rattle.arithmetic.specs.Workers.{ProductFits, RaiseFits, SumFits, wordSums, wordDifferences};
+ghost use Rattle.arithmetic.specs.Workers.{ProductFits, RaiseFits, SumFits, combinedWords, combined};
 use lists::NaiveDegree;
 use refusal::Outcome;
 use refusal::Refusal;
@@ -54,7 +55,7 @@ pub fn sum(f: &[u16], g: &[u16], out: &mut [u16]) -> Outcome
     let answer = judge_sum(f, g, out);
     match answer {
         Outcome::Done => {
-            sum_into(f, g, out);
+            combine_into(f, g, false, out);
         }
         Outcome::Refused(_) => {}
     }
@@ -69,7 +70,7 @@ pub fn difference(f: &[u16], g: &[u16], out: &mut [u16]) -> Outcome
     let answer = judge_sum(f, g, out);
     match answer {
         Outcome::Done => {
-            difference_into(f, g, out);
+            combine_into(f, g, true, out);
         }
         Outcome::Refused(_) => {}
     }
@@ -133,7 +134,7 @@ fn product_in(f: &[u16], g: &[u16], a: &mut [u16], b: &mut [u16], s: &mut [u16],
 {
     kernels::scale(f, a);
     kernels::scale(g, b);
-    kernels::convolve(a, b, s);
+    convolution::convolve(a, b, s);
     kernels::unscale(s, out);
 }
 
@@ -160,68 +161,46 @@ fn raise_into(f: &[u16], out: &mut [u16])
     product_into(f, &ones[..m], out);
 }
 
-// a plus b, word by word.
-fn add_words(a: &[u16], b: &[u16], out: &mut [u16])
+// a plus b, or a less b.
+fn combine_word(a: u16, b: u16, minus: bool) -> u16
+    ensures { λ r. ⌜ r ≡ cond minus ((a + (p - b % p)) % p) ((a + b) % p) ⌝ }
+{
+    if minus {
+        field::sub(a, b)
+    } else {
+        field::add(a, b)
+    }
+}
+
+// The same word by word.
+fn combine_words(a: &[u16], b: &[u16], minus: bool, out: &mut [u16])
     requires { ⌜ (length (now a) ≡ length (now out)) × (length (now b) ≡ length (now out)) ⌝ }
-    ensures { λ _. ⌜ now (out .exit) ≡ wordSums F65521 (now (a .entry)) (now (b .entry)) ⌝ }
+    ensures { λ _. ⌜ now (out .exit) ≡ combinedWords F65521 minus (now (a .entry)) (now (b .entry)) ⌝ }
 {
     let mut k = 0;
     while k < out.len() {
-        out[k] = field::add(a[k], b[k]);
+        out[k] = combine_word(a[k], b[k], minus);
         k += 1;
     }
 }
 
-// a less b, word by word.
-fn subtract_words(a: &[u16], b: &[u16], out: &mut [u16])
-    requires { ⌜ (length (now a) ≡ length (now out)) × (length (now b) ≡ length (now out)) ⌝ }
-    ensures { λ _. ⌜ now (out .exit) ≡ wordDifferences F65521 (now (a .entry)) (now (b .entry)) ⌝ }
-{
-    let mut k = 0;
-    while k < out.len() {
-        out[k] = field::sub(a[k], b[k]);
-        k += 1;
-    }
-}
-
-// f and g raised into a and b, and their sum.
-fn sum_in(f: &[u16], g: &[u16], a: &mut [u16], b: &mut [u16], out: &mut [u16])
+// f and g raised into a and b, and their sum or difference.
+fn combine_in(f: &[u16], g: &[u16], minus: bool, a: &mut [u16], b: &mut [u16], out: &mut [u16])
     requires { ⌜ SumFits p maxWords (now f) (now g) (now out) ⌝ }
     requires { ⌜ (length (now a) ≡ length (now out)) × (length (now b) ≡ length (now out)) ⌝ }
-    ensures { λ _. ⌜ now (out .exit) ≡ of.sumOf F65521 (now (f .entry)) (now (g .entry)) ⌝ }
+    ensures { λ _. ⌜ now (out .exit) ≡ combined F65521 minus (now (f .entry)) (now (g .entry)) ⌝ }
 {
     raise_into(f, a);
     raise_into(g, b);
-    add_words(a, b, out);
+    combine_words(a, b, minus, out);
 }
 
-fn sum_into(f: &[u16], g: &[u16], out: &mut [u16])
+fn combine_into(f: &[u16], g: &[u16], minus: bool, out: &mut [u16])
     requires { ⌜ SumFits p maxWords (now f) (now g) (now out) ⌝ }
-    ensures { λ _. ⌜ now (out .exit) ≡ of.sumOf F65521 (now (f .entry)) (now (g .entry)) ⌝ }
+    ensures { λ _. ⌜ now (out .exit) ≡ combined F65521 minus (now (f .entry)) (now (g .entry)) ⌝ }
 {
     let n = out.len();
     let mut a = [0u16; refusal::MAX_WORDS];
     let mut b = [0u16; refusal::MAX_WORDS];
-    sum_in(f, g, &mut a[..n], &mut b[..n], out);
-}
-
-// f and g raised into a and b, and their difference.
-fn difference_in(f: &[u16], g: &[u16], a: &mut [u16], b: &mut [u16], out: &mut [u16])
-    requires { ⌜ SumFits p maxWords (now f) (now g) (now out) ⌝ }
-    requires { ⌜ (length (now a) ≡ length (now out)) × (length (now b) ≡ length (now out)) ⌝ }
-    ensures { λ _. ⌜ now (out .exit) ≡ of.differenceOf F65521 (now (f .entry)) (now (g .entry)) ⌝ }
-{
-    raise_into(f, a);
-    raise_into(g, b);
-    subtract_words(a, b, out);
-}
-
-fn difference_into(f: &[u16], g: &[u16], out: &mut [u16])
-    requires { ⌜ SumFits p maxWords (now f) (now g) (now out) ⌝ }
-    ensures { λ _. ⌜ now (out .exit) ≡ of.differenceOf F65521 (now (f .entry)) (now (g .entry)) ⌝ }
-{
-    let n = out.len();
-    let mut a = [0u16; refusal::MAX_WORDS];
-    let mut b = [0u16; refusal::MAX_WORDS];
-    difference_in(f, g, &mut a[..n], &mut b[..n], out);
+    combine_in(f, g, minus, &mut a[..n], &mut b[..n], out);
 }

@@ -3,14 +3,14 @@
 use mathlib.Core.Path.{_≡_, _∙_}
 use mathlib.Core.Bool.{cond}
 use mathlib.Core.List.{List}
-use Prim.Native.Nat.{ℕ, _+_, _≤_}
+use Prim.Native.Nat.{ℕ, _≤_}
 use native.Mathlib.Omega.{arith}
 use lib.ListN.{length, take, length-take}
 use borrow.Author.Tests.{eq-eqb, le-leb}
 use Rattle.algebra.specs.PrimeField.{PrimeField}
 use Rattle.lists.specs.Lists.{unscaled}
 use Rattle.lists.specs.Words.{seriesOf, scaledWords}
-use Rattle.kernels.specs.Kernels.{scaleFits, unscaleFits, convolveFits, convolution}
+use Rattle.kernels.specs.Kernels.{scaleFits, unscaleFits}
 
 -- a part of an array
 pub prefix-length : (k n : ℕ) (l : List ℕ) → length l ≡ n → k ≤ n → length (take k l) ≡ k
@@ -21,12 +21,6 @@ module _ (F : PrimeField) (most : ℕ) where
       → a′ ≡ cond (scaleFits most f a) (scaledWords F f) a → a′ ≡ scaledWords F f
   unfolding scaleFits
   scale-is f a e l q = q ∙ rw (eq-eqb (length a) (length f) e, le-leb (length f) most l)
-
-  pub convolve-is : (a b s : List ℕ) {s′ : List ℕ} → length a ≤ most → length b ≤ most → length s + 1 ≡ length a + length b
-      → s′ ≡ cond (convolveFits most a b s) (convolution F a b) s → s′ ≡ convolution F a b
-  unfolding convolveFits
-  convolve-is a b s l h e q =
-      q ∙ rw (le-leb (length a) most l, le-leb (length b) most h, eq-eqb (length s + 1) (length a + length b) e)
 
   pub unscale-is : (s out : List ℕ) {out′ : List ℕ} → length out ≤ length s → length out ≤ most
       → out′ ≡ cond (unscaleFits most s out) (unscaled F (length out) (seriesOf F s)) out → out′ ≡ unscaled F (length out) (seriesOf F s)

@@ -1,26 +1,14 @@
--- What the loops on words compute, and the lengths that fit.
---     scaleFits, unscaleFits, convolveFits     the slices' lengths fit; where they do not, nothing is written
---     convolution                              the words of the product of two series that two lists of words are
+-- The lengths that fit the loops on words.
+--     scaleFits, unscaleFits     the slices' lengths fit; where they do not, nothing is written
 -- Assumes nothing.
 use mathlib.Core.Bool.{Bool, _&&_}
 use mathlib.Core.List.{List}
-use Prim.Native.Nat.{ℕ, _+_, _-_}
+use Prim.Native.Nat.{ℕ}
 use lib.Dec.{leb, eqb}
 use lib.ListN.{length}
-use Rattle.algebra.specs.PrimeField.{PrimeField, value}
-use Rattle.lists.specs.Tabulate.{tabulate}
-use Rattle.lists.specs.Words.{seriesOf}
 
 unfoldable pub scaleFits : ℕ → (list out : List ℕ) → Bool
 scaleFits most list out = eqb (length out) (length list) && leb (length list) most
 
 unfoldable pub unscaleFits : ℕ → (form out : List ℕ) → Bool
 unscaleFits most form out = leb (length out) (length form) && leb (length out) most
-
-unfoldable pub convolveFits : ℕ → (a b out : List ℕ) → Bool
-convolveFits most a b out = leb (length a) most && (leb (length b) most && eqb (length out + 1) (length a + length b))
-
-unfoldable pub convolution : PrimeField → (a b : List ℕ) → List ℕ
-convolution F a b =
-    tabulate (length a + length b - 1)
-    (λ k. value F (F .series .coeff (F .series .ring .mul (seriesOf F a) (seriesOf F b)) k))

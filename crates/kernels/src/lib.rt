@@ -1,15 +1,15 @@
-// Loops on words: a list's scaled form, the list of a scaled form, and the product of two scaled forms. Each is total: where the
-// slices' lengths do not fit, nothing is written.
+// Loops on words: a list's scaled form, and the list of a scaled form. Both are total: where the slices' lengths do not fit, nothing is
+// written.
 ghost use mathlib.Core.Path.{_≡_};
 ghost use mathlib.Core.Bool.{cond};
-ghost use Prim.Native.Nat.{_+_, _-_, _%_, _<_, _≤_, min};
-ghost use lib.ListN.{length, getD};
+ghost use Prim.Native.Nat.{_≤_};
+ghost use lib.ListN.{length};
 ghost use Rattle.algebra.specs.PrimeField.{F65521};
 ghost use Rattle.refusal.specs.Limits.{maxWords};
 ghost use Rattle.field.specs.Field.{inverseTable};
 ghost use Rattle.lists.specs.Lists.{unscaled};
 ghost use Rattle.lists.specs.Words.{seriesOf, scaledWords};
-ghost use Rattle.kernels.specs.Kernels.{scaleFits, unscaleFits, convolveFits, convolution};
+ghost use Rattle.kernels.specs.Kernels.{scaleFits, unscaleFits};
 
 // Word k of the list times C(n,k).
 fn scale_in(list: &[u16], table: &[u16], out: &mut [u16])
@@ -69,55 +69,4 @@ pub fn unscale(form: &[u16], out: &mut [u16])
     }
     let table = field::inverses();
     unscale_in(form, &table, out);
-}
-
-// a less b, or 0 where b is more.
-fn monus(a: usize, b: usize) -> usize
-    ensures { λ r. ⌜ r ≡ a - b ⌝ }
-{
-    if a < b { 0 } else { a - b }
-}
-
-// The sum of a[j] * b[k - j], not reduced: 64 bits hold it.
-fn convolve_at(a: &[u16], b: &[u16], k: usize) -> u64
-    requires { ⌜ (length (now a) ≤ maxWords) × (length (now b) ≤ maxWords) × (k + 1 < length (now a) + length (now b)) ⌝ }
-    ensures { λ r. ⌜ r % 65521 ≡ getD (convolution F65521 (now (a .entry)) (now (b .entry))) k 0 ⌝ }
-{
-    let from = monus(k + 1, b.len());
-    let end = lists::smaller(k + 1, a.len());
-    let mut sum: u64 = 0;
-    let mut j = from;
-    while j < end {
-        sum += (a[j] as u64) * (b[k - j] as u64);
-        j += 1;
-    }
-    sum
-}
-
-// Word k of the product: the sum at k, reduced.
-fn convolve_in(a: &[u16], b: &[u16], out: &mut [u16])
-    requires { ⌜ (length (now a) ≤ maxWords) × (length (now b) ≤ maxWords) × (length (now out) + 1 ≡ length (now a) + length (now b)) ⌝ }
-    ensures { λ _. ⌜ now (out .exit) ≡ convolution F65521 (now (a .entry)) (now (b .entry)) ⌝ }
-{
-    let mut k = 0;
-    while k < out.len() {
-        out[k] = field::reduce(convolve_at(a, b, k));
-        k += 1;
-    }
-}
-
-// The words of the product of two scaled forms: one reduction for each word.
-pub fn convolve(a: &[u16], b: &[u16], out: &mut [u16])
-    ensures { λ _. ⌜ now (out .exit) ≡ cond (convolveFits maxWords (now (a .entry)) (now (b .entry)) (now (out .entry))) (convolution F65521 (now (a .entry)) (now (b .entry))) (now (out .entry)) ⌝ }
-{
-    if 256 < a.len() {
-        return;
-    }
-    if 256 < b.len() {
-        return;
-    }
-    if out.len() + 1 != a.len() + b.len() {
-        return;
-    }
-    convolve_in(a, b, out);
 }

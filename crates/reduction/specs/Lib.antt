@@ -1,3 +1,4 @@
 pub mod Rows
 pub mod RowWords
 pub mod Steps
+pub mod Montgomery

@@ -1,6 +1,7 @@
 -- The steps of polynomial division on words, for every input.
 --     rowAt             word i of x + m · y modulo p, where y reaches; else word i of x
 --     row               the words of x + m · y
+--     Partway           the words of x below i are those of the row, and the rest is as it was
 --     rowFrom           the words of x + m · u^k · y: the row step from word k on
 --     digit             a word of the quotient: word d + k of x times the inverse of the divisor's last word, d + 1 words being the divisor's
 --     negated           minus a word, modulo p
@@ -9,9 +10,10 @@
 --     lessProduct       the words of s - q · t, in as many words as s has
 --     reduceFits, lessProductFits      the slices' lengths fit; where they do not, nothing is written
 -- Assumes nothing.
+use mathlib.Core.Path.{_≡_}
 use mathlib.Core.Bool.{Bool, cond, _&&_}
 use mathlib.Core.List.{List, [], _∷_, _++_}
-use Prim.Native.Nat.{ℕ, zero, suc, _+_, _-_, _*_, _%_}
+use Prim.Native.Nat.{ℕ, zero, suc, _+_, _-_, _*_, _%_, _≤_, _<_}
 use lib.Dec.{leb, ltb, eqb}
 use lib.ListN.{length, getD, take, drop}
 use Rattle.lists.specs.Tabulate.{tabulate}
@@ -21,6 +23,11 @@ rowAt p x m y i = cond (ltb i (length y)) ((getD x i 0 + m * getD y i 0) % p) (g
 
 unfoldable pub row : (p : ℕ) → List ℕ → ℕ → List ℕ → List ℕ
 row p x m y = tabulate (length x) (rowAt p x m y)
+
+pub record Partway (p : ℕ) (old : List ℕ) (m : ℕ) (y x : List ℕ) (i : ℕ) : Type 0 where
+  pub size : length x ≡ length old
+  pub done : (j : ℕ) → j < i → getD x j 0 ≡ rowAt p old m y j
+  pub rest : (j : ℕ) → i ≤ j → getD x j 0 ≡ getD old j 0
 
 unfoldable pub rowFrom : (p k : ℕ) → List ℕ → ℕ → List ℕ → List ℕ
 rowFrom p k x m y = take k x ++ row p (drop k x) m y

@@ -13,8 +13,8 @@ judge-sum-requires c κs = search needs
 enum-told : tie.Need-enum-told
 enum-told c = search needs
 
-sum-into-requires : tie.Need-sum-into-requires
-sum-into-requires c κs =
+combine-into-requires : tie.Need-combine-into-requires
+combine-into-requires c κs =
     sum-fits 65521 (lit< tt) _ _ _ (sym (c .before .enum-told .given .1) ∙ c .before .before .before .judge-sum .ensures)
 
 enum-told-2 : tie.Need-enum-told-2
@@ -25,7 +25,7 @@ same-length c = search needs
 
 returns : tie.Need-returns
 returns c =
-    done (c .before .before .before .before .before .before .judge-sum .ensures) (c .before .before .before .before .enum-told .given .1) _ _ (c .before .before .sum-into .ensures)
+    done (c .before .before .before .before .before .before .judge-sum .ensures) (c .before .before .before .before .enum-told .given .1) _ _ (c .before .before .combine-into .ensures)
 
 same-length-2 : tie.Need-same-length-2
 same-length-2 c = search needs
@@ -39,7 +39,7 @@ sum-spec =
     (tie.spec
     judge-sum-requires
     enum-told
-    sum-into-requires
+    combine-into-requires
     enum-told-2
     same-length
     returns

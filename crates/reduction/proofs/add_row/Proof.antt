@@ -1,81 +1,70 @@
--- `reduction::add_row` meets its contract. The loop's invariant: the words below i are those of the row, and the rest is as it was.
+-- `reduction::add_row` meets its contract: the words of whole groups, and then the rest.
 -- Assumes nothing.
-use Prim.Native.Nat.{_≤_, _-_}
 use native.Mathlib.Omega.{arith}
-use Rattle.reduction.proofs.Loops.{Partway, start, next, finish}
+use Rattle.reduction.proofs.Loops.{joined}
 use borrow.Author.Needs.{needs}
 use Rattle.reduction.proofs.add_row.Statement.{statement}
 use Rattle.reduction.proofs.add_row.Tie as tie
 
-abbrev Inv-loop : tie.InvT-loop
-Inv-loop x₀ m y n i₀ x i = (i ≤ n) × Partway 65521 x₀ m y x i
-
-abbrev μ-loop : tie.MeasureT-loop
-μ-loop x₀ m y n i₀ x i = n - i
-
-smaller-requires : tie.Need-smaller-requires Inv-loop μ-loop
+smaller-requires : tie.Need-smaller-requires
 smaller-requires c κs = search needs
 
-loop-holds : tie.Need-loop-holds Inv-loop μ-loop
-loop-holds c = (search needs, start 65521 _ _ _)
+sub-wide : tie.Need-sub-wide
+sub-wide c = search needs
 
-mul-add-mul : tie.Need-mul-add-mul Inv-loop μ-loop
-mul-add-mul c = search needs
+montgomery-row-requires : tie.Need-montgomery-row-requires
+montgomery-row-requires c κs = search needs
 
-slice-read-add-mul : tie.Need-slice-read-add-mul Inv-loop μ-loop
-slice-read-add-mul c = search needs
+mul-add-rest : tie.Need-mul-add-rest
+mul-add-rest c = search needs
 
-mul-add-mul-2 : tie.Need-mul-add-mul-2 Inv-loop μ-loop
-mul-add-mul-2 c = search needs
+sub-add-rest : tie.Need-sub-add-rest
+sub-add-rest c = search needs
 
-shared-slice-read-add-mul : tie.Need-shared-slice-read-add-mul Inv-loop μ-loop
-shared-slice-read-add-mul c = search needs
+part-add-rest-start : tie.Need-part-add-rest-start
+part-add-rest-start c = search needs
 
-add-mul-requires : tie.Need-add-mul-requires Inv-loop μ-loop
-add-mul-requires c κs = search needs
+part-add-rest-end : tie.Need-part-add-rest-end
+part-add-rest-end c = search needs
 
-mul-x : tie.Need-mul-x Inv-loop μ-loop
-mul-x c = search needs
+mul-add-rest-2 : tie.Need-mul-add-rest-2
+mul-add-rest-2 c = search needs
 
-slice-write-x : tie.Need-slice-write-x Inv-loop μ-loop
-slice-write-x c = search needs
+sub-add-rest-2 : tie.Need-sub-add-rest-2
+sub-add-rest-2 c = search needs
 
-add-i : tie.Need-add-i Inv-loop μ-loop
-add-i c = search needs
+part-add-rest-start-2 : tie.Need-part-add-rest-start-2
+part-add-rest-start-2 c = search needs
 
-loop-less : tie.Need-loop-less Inv-loop μ-loop
-loop-less c = search needs
+part-add-rest-end-2 : tie.Need-part-add-rest-end-2
+part-add-rest-end-2 c = search needs
 
-loop-again : tie.Need-loop-again Inv-loop μ-loop
-loop-again c =
-    let n = c .before .before .before .before .before .smaller .ensures in (
-      search needs,
-      next 65521 _ _ _ _ _ (omega arith) (omega arith) (c .before .before .before .before .loop .inv .1) (c .add-mul .ensures),
-    )
+add-rest-requires : tie.Need-add-rest-requires
+add-rest-requires c κs = search needs
 
-same-length : tie.Need-same-length Inv-loop μ-loop
+same-length : tie.Need-same-length
 same-length c = search needs
 
-returns : tie.Need-returns Inv-loop μ-loop
-returns c = finish 65521 _ _ _ _ _ _ (c .before .before .smaller .ensures) (c .loop-test .left) (c .before .loop .inv .1)
+returns : tie.Need-returns
+returns c =
+    let e = c .before .before .before .before .before .before .before .before .before .smaller .ensures in
+    joined 65521 _ _ _ _ _ (c .before .before .before .before .before .before .before .montgomery-row .ensures) (omega arith) (c .before .before .add-rest .ensures)
 
 pub add-row-spec : {M : Type 1} → statement M
 add-row-spec =
     tie.close
     (tie.spec
-    Inv-loop
-    μ-loop
     smaller-requires
-    loop-holds
-    mul-add-mul
-    slice-read-add-mul
-    mul-add-mul-2
-    shared-slice-read-add-mul
-    add-mul-requires
-    mul-x
-    slice-write-x
-    add-i
-    loop-less
-    loop-again
+    sub-wide
+    montgomery-row-requires
+    mul-add-rest
+    sub-add-rest
+    part-add-rest-start
+    part-add-rest-end
+    mul-add-rest-2
+    sub-add-rest-2
+    part-add-rest-start-2
+    part-add-rest-end-2
+    add-rest-requires
     same-length
     returns)

@@ -1,0 +1,75 @@
+-- `convolution::widen` meets its contract.
+-- Assumes nothing.
+use mathlib.Core.Path.{_≡_, refl}
+use Prim.Native.Nat.{_≤_, _-_}
+use native.Mathlib.Omega.{arith}
+use lib.ListN.{length, length-set}
+use borrow.Author.Needs.{needs}
+use Rattle.convolution.proofs.Buffers.{Copied, copy-start, copy-step, copy-end}
+use Rattle.convolution.proofs.widen.Statement.{statement}
+use Rattle.convolution.proofs.widen.Tie as tie
+
+abbrev Inv-loop : tie.InvT-loop
+Inv-loop list d s₀ k₀ s k = (k ≤ length list) × (length s ≡ length s₀) × Copied d list k s
+
+abbrev μ-loop : tie.MeasureT-loop
+μ-loop list d s₀ k₀ s k = length list - k
+
+loop-holds : tie.Need-loop-holds Inv-loop μ-loop
+loop-holds c = (search needs, search needs, copy-start _ _ (c .pre .1))
+
+mul-s : tie.Need-mul-s Inv-loop μ-loop
+mul-s c = search needs
+
+shared-slice-read-s : tie.Need-shared-slice-read-s Inv-loop μ-loop
+shared-slice-read-s c = search needs
+
+cast-s : tie.Need-cast-s Inv-loop μ-loop
+cast-s c = omega (arith, c .shared-slice-known .given (c .before .before .loop .k))
+
+add-s : tie.Need-add-s Inv-loop μ-loop
+add-s c = search needs
+
+mul-s-2 : tie.Need-mul-s-2 Inv-loop μ-loop
+mul-s-2 c = search needs
+
+slice-write-s : tie.Need-slice-write-s Inv-loop μ-loop
+slice-write-s c = search needs
+
+add-k : tie.Need-add-k Inv-loop μ-loop
+add-k c = search needs
+
+loop-less : tie.Need-loop-less Inv-loop μ-loop
+loop-less c = search needs
+
+loop-again : tie.Need-loop-again Inv-loop μ-loop
+loop-again c = (
+  search needs,
+  simp length-set (omega arith),
+  copy-step _ (c .before .before .loop .inv .2) (omega arith) refl,
+)
+
+same-length : tie.Need-same-length Inv-loop μ-loop
+same-length c = search needs
+
+returns : tie.Need-returns Inv-loop μ-loop
+returns c = copy-end (c .before .loop .inv .2) (omega arith)
+
+pub widen-spec : {M : Type 1} → statement M
+widen-spec =
+    tie.close
+    (tie.spec
+    Inv-loop
+    μ-loop
+    loop-holds
+    mul-s
+    shared-slice-read-s
+    cast-s
+    add-s
+    mul-s-2
+    slice-write-s
+    add-k
+    loop-less
+    loop-again
+    same-length
+    returns)

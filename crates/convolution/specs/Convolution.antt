@@ -1,0 +1,20 @@
+-- The product of two series on words, and the lengths that fit.
+--     convolveFits     the slices' lengths fit; where they do not, nothing is written
+--     convolution      the words of the product of two series that two lists of words are
+-- Assumes nothing.
+use mathlib.Core.Bool.{Bool, _&&_}
+use mathlib.Core.List.{List}
+use Prim.Native.Nat.{ℕ, _+_, _-_}
+use lib.Dec.{leb, eqb}
+use lib.ListN.{length}
+use Rattle.algebra.specs.PrimeField.{PrimeField, value}
+use Rattle.lists.specs.Tabulate.{tabulate}
+use Rattle.lists.specs.Words.{seriesOf}
+
+unfoldable pub convolveFits : ℕ → (a b out : List ℕ) → Bool
+convolveFits most a b out = leb (length a) most && (leb (length b) most && eqb (length out + 1) (length a + length b))
+
+unfoldable pub convolution : PrimeField → (a b : List ℕ) → List ℕ
+convolution F a b =
+    tabulate (length a + length b - 1)
+    (λ k. value F (F .series .coeff (F .series .ring .mul (seriesOf F a) (seriesOf F b)) k))

@@ -1,0 +1,22 @@
+-- `reduction::high_half` meets its contract.
+-- Assumes nothing.
+use Prim.Native.Nat.{_*_, _≤_}
+use native.Mathlib.Omega.{arith}
+use Rattle.reduction.proofs.Montgomery.{product-bound}
+use Rattle.reduction.proofs.high_half.Statement.{statement}
+use Rattle.reduction.proofs.high_half.Tie as tie
+
+product : (c : tie.Start) → c .args .a * c .args .b ≤ 4294836225
+product c = product-bound (c .fits .a .fits) (c .fits .b .fits)
+
+mul-result : tie.Need-mul-result
+mul-result c = omega (arith, product c)
+
+cast-result : tie.Need-cast-result
+cast-result c = omega (arith, product c)
+
+returns : tie.Need-returns
+returns c = omega arith
+
+pub high-half-spec : {M : Type 1} → statement M
+high-half-spec = tie.close (tie.spec mul-result cast-result returns)

@@ -1,4 +1,5 @@
-/* The engine's product, division and GCD of two lists against FLINT doing the same work from the same bytes. Build and run: bench/run */
+/* The engine's product, division, GCD, evaluation and cofactors against FLINT doing the same work from the same bytes. Build and run:
+   bench/run */
 #include "../include/bernstein.h"
 #include <flint/flint.h>
 #include <flint/nmod_poly.h>
@@ -10,19 +11,34 @@
 
 enum { P = 65521, MAX_WORDS = 256, MAX_BYTES = 2 * MAX_WORDS, PAIRS = 32, BATCHES = 101, BATCH_NS = 2000000 };
 
+/* What the library bench_calls exports: the value of f at x, 0 where refused; and h (256 words), a and b, with the refusal's number. These
+   take words, which x86-64 keeps low byte first, as the bytes are. */
+uint16_t bench_evaluate(const uint16_t *f, size_t f_len, uint16_t x);
+uint8_t bench_cofactors(const uint16_t *f, size_t f_len, const uint16_t *g, size_t g_len, uint16_t *h, size_t h_len, uint16_t *a, size_t a_len,
+                        uint16_t *b, size_t b_len);
+
 typedef struct {
   size_t words;
-  uint8_t bytes[MAX_BYTES];
+  union {
+    uint8_t bytes[MAX_BYTES];
+    uint16_t whole[MAX_WORDS];
+  };
 } list;
 
-/* For a division f is the divisor and g the dividend. */
+/* For a division f is the divisor and g the dividend; for an evaluation g is the point, one word. */
 typedef struct {
   list f, g;
 } pair;
 
-/* Product: the product. Division: q and r. GCD: h and the answer, of which FLINT's side gives w and c. */
-typedef struct {
-  uint8_t first[MAX_BYTES], second[MAX_BYTES];
+/* Product: the product. Division: q and r. GCD: h and the answer, of which FLINT's side gives w and c. Evaluation: the value. Cofactors: h, a
+   and b. */
+typedef union {
+  struct {
+    uint8_t first[MAX_BYTES], second[MAX_BYTES], third[MAX_BYTES];
+  };
+  struct {
+    uint16_t first_whole[MAX_WORDS], second_whole[MAX_WORDS], third_whole[MAX_WORDS];
+  };
 } result;
 
 static void fail(const char *what, const char *task) {
@@ -59,6 +75,18 @@ static void engine_gcd(const pair *in, result *out) {
   completed(bernstein_gcd(f->bytes, 2 * f->words, g->bytes, 2 * g->words, out->first, MAX_BYTES, out->second, 6));
 }
 
+static void engine_evaluation(const pair *in, result *out) {
+  const list *f = &in->f, *g = &in->g;
+  out->first_whole[0] = bench_evaluate(f->whole, f->words, g->whole[0]);
+}
+
+/* With d and e above 0, m is d + e - 1, so a has e words and b has d. */
+static void engine_cofactors(const pair *in, result *out) {
+  const list *f = &in->f, *g = &in->g;
+  completed(bench_cofactors(f->whole, f->words, g->whole, g->words, out->first_whole, MAX_WORDS, out->second_whole, g->words - 1,
+                            out->third_whole, f->words - 1));
+}
+
 /* ---- FLINT's side: scale, compute in the monomial basis of u, scale back. ---- */
 
 /* A constant of the field with the quotient that FLINT's n_mulmod_shoup wants, its quickest product by a known constant. */
@@ -70,7 +98,7 @@ typedef struct {
 static factor binomials[MAX_WORDS][MAX_WORDS], inverses[MAX_WORDS][MAX_WORDS];
 
 /* Kept from call to call, so that FLINT allocates its operands once. */
-static nmod_poly_t scaled_f, scaled_g, first, second;
+static nmod_poly_t scaled_f, scaled_g, first, second, third;
 
 static factor factor_of(mp_limb_t value) { return (factor){value, n_mulmod_precomp_shoup(value, P)}; }
 
@@ -87,6 +115,7 @@ static void prepare_flint(void) {
   nmod_poly_init2(scaled_g, P, MAX_WORDS);
   nmod_poly_init2(first, P, MAX_WORDS);
   nmod_poly_init2(second, P, MAX_WORDS);
+  nmod_poly_init2(third, P, MAX_WORDS);
 }
 
 /* The scaled form of a list. */
@@ -120,16 +149,39 @@ static void flint_division(const pair *in, result *out) {
   unscale(second, in->f.words - 1, out->second);
 }
 
-/* FLINT's GCD is monic, and C(w,w) is 1, so h ends in 1 as it has to. */
+/* h in its 256 words. FLINT's GCD is monic, and C(w,w) is 1, so h ends in 1 as it has to. */
+static void unscale_gcd(const nmod_poly_t from, uint8_t *bytes) {
+  size_t words = from->length;
+  unscale(from, words, bytes);
+  memset(bytes + 2 * words, 0, MAX_BYTES - 2 * words);
+}
+
 static void flint_gcd(const pair *in, result *out) {
   scale(&in->f, scaled_f);
   scale(&in->g, scaled_g);
   nmod_poly_gcd(first, scaled_f, scaled_g);
-  size_t words = first->length, power_f = in->f.words - scaled_f->length, power_g = in->g.words - scaled_g->length;
-  unscale(first, words, out->first);
-  memset(out->first + 2 * words, 0, MAX_BYTES - 2 * words);
-  put(out->second, 0, words - 1);
+  size_t power_f = in->f.words - scaled_f->length, power_g = in->g.words - scaled_g->length;
+  unscale_gcd(first, out->first);
+  put(out->second, 0, first->length - 1);
   put(out->second, 1, power_f < power_g ? power_f : power_g);
+}
+
+/* P(x) = (1-x)^n S(x/(1-x)) for x other than 1. */
+static void flint_evaluation(const pair *in, result *out) {
+  scale(&in->f, scaled_f);
+  nmod_t mod = scaled_f->mod;
+  mp_limb_t x = word(in->g.bytes, 0), y = nmod_sub(1, x, mod);
+  mp_limb_t value = nmod_poly_evaluate_nmod(scaled_f, nmod_div(x, y, mod));
+  put(out->first, 0, nmod_mul(value, nmod_pow_ui(y, in->f.words - 1, mod), mod));
+}
+
+static void flint_cofactors(const pair *in, result *out) {
+  scale(&in->f, scaled_f);
+  scale(&in->g, scaled_g);
+  nmod_poly_xgcd(first, second, third, scaled_f, scaled_g);
+  unscale_gcd(first, out->first);
+  unscale(second, in->g.words - 1, out->second);
+  unscale(third, in->f.words - 1, out->third);
 }
 
 /* ---- Inputs, the same in each start of the program. ---- */
@@ -183,25 +235,41 @@ static void draw_shared(pair *in) {
   draw_multiple(&shared, &in->g);
 }
 
+/* A list, and a point other than 1. */
+static void draw_evaluation(pair *in) {
+  draw_list(&in->f, 255);
+  do draw_list(&in->g, 0);
+  while (in->g.whole[0] == 1);
+}
+
 /* ---- The rows of the table. ---- */
 
 typedef void call(const pair *in, result *out);
 
-/* The numbers of words of the two results that are compared, and what w has to be where the row is a GCD. */
+/* The numbers of words of the results that are compared, and what w has to be where the row is a GCD or cofactors. */
 typedef struct {
   const char *name;
   void (*draw)(pair *in);
   call *engine, *flint;
-  size_t first_words, second_words;
+  size_t first_words, second_words, third_words;
   int w;
 } task;
 
 static const task tasks[] = {
-    {"product, 127 by 128", draw_product, engine_product, flint_product, 256, 0, -1},
-    {"division, 255 by 128", draw_division, engine_division, flint_division, 128, 128, -1},
-    {"GCD, 255 and 255, coprime", draw_coprime, engine_gcd, flint_gcd, 256, 2, 0},
-    {"GCD, 255 and 255, factor of 100", draw_shared, engine_gcd, flint_gcd, 256, 2, 100},
+    {"product, 127 by 128", draw_product, engine_product, flint_product, 256, 0, 0, -1},
+    {"division, 255 by 128", draw_division, engine_division, flint_division, 128, 128, 0, -1},
+    {"GCD, 255 and 255, coprime", draw_coprime, engine_gcd, flint_gcd, 256, 2, 0, 0},
+    {"GCD, 255 and 255, factor of 100", draw_shared, engine_gcd, flint_gcd, 256, 2, 0, 100},
+    {"evaluation, 255", draw_evaluation, engine_evaluation, flint_evaluation, 1, 0, 0, -1},
+    {"cofactors, 255 and 255, coprime", draw_coprime, engine_cofactors, flint_cofactors, 256, 255, 255, 0},
 };
+
+/* w, as h has it: the place of its last word that is not 0. */
+static int degree(const result *r) {
+  int k = MAX_WORDS - 1;
+  while (k >= 0 && word(r->first, k) == 0) k--;
+  return k;
+}
 
 /* Stops the program where the two sides differ in a word. The results start out different, so a word that is not written is seen. */
 static void compare(const task *t, const pair *in) {
@@ -212,7 +280,8 @@ static void compare(const task *t, const pair *in) {
   t->flint(in, &b);
   if (memcmp(a.first, b.first, 2 * t->first_words) != 0) fail("the results differ", t->name);
   if (memcmp(a.second, b.second, 2 * t->second_words) != 0) fail("the results differ", t->name);
-  if (t->w >= 0 && word(a.second, 0) != (unsigned)t->w) fail("the GCD has another degree than the row says", t->name);
+  if (memcmp(a.third, b.third, 2 * t->third_words) != 0) fail("the results differ", t->name);
+  if (t->w >= 0 && degree(&a) != t->w) fail("the GCD has another degree than the row says", t->name);
 }
 
 /* ---- Timing. ---- */

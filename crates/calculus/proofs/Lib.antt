@@ -2,3 +2,4 @@ pub mod Judged
 pub mod Trimmed
 pub mod Derived
 pub mod Values
+pub mod Joined

@@ -1,7 +1,7 @@
 // The extent of a list, its top zeros removed, its derivative, and its value at a point.
 ghost use mathlib.Core.Path.{_≡_};
 ghost use mathlib.Core.List.{[], _∷_};
-ghost use Prim.Native.Nat.{_+_, _≤_, _<_, max};
+ghost use Prim.Native.Nat.{_+_, _*_, _/_, _%_, _≤_, _<_, max};
 ghost use lib.ListN.{length};
 ghost use Rattle.algebra.specs.PrimeField.{F65521};
 ghost use Rattle.refusal.specs.Limits.{maxWords};
@@ -10,7 +10,7 @@ ghost use Rattle.refusal.specs.Lowest.{lowest};
 ghost use Rattle.field.specs.Field.{p, wordReply};
 ghost use Rattle.lists.specs.Operations as of;
 ghost use Rattle.calculus.specs.Calls.{extentReply, extentValues, extentRefusals, trimRefusals, derivativeRefusals, evaluateRefusals};
-ghost use Rattle.calculus.specs.Workers.{TrimFits, DerivativeFits, homogeneousOf};
+ghost use Rattle.calculus.specs.Workers.{TrimFits, DerivativeFits, homogeneousOf, Terms, FourSums};
 use field::Word;
 use lists::Extent;
 use refusal::Outcome;
@@ -159,15 +159,82 @@ fn derivative_into(f: &[u16], out: &mut [u16])
     }
 }
 
-// The sum of s_k x^k y^(n-k) for words s_0 to s_n.
+// a·b + c·d, reduced once.
+fn two_products(a: u16, b: u16, c: u16, d: u16) -> u16
+    ensures { λ r. ⌜ r ≡ (a * b + c * d) % p ⌝ }
+{
+    field::reduce(a as u64 * b as u64 + c as u64 * d as u64)
+}
+
+// Sums over the words 0, 4, 8, …, over 1, 5, 9, … and so on, and the next power of x.
+struct Fours {
+    first: u16,
+    second: u16,
+    third: u16,
+    fourth: u16,
+    power: u16,
+}
+
+// The four sums of s at x and y, over whole groups of four words. None waits for another, so the processor overlaps them.
+fn sum_fours(s: &[u16], x: u16, y: u16) -> Fours
+    ensures { λ r. ⌜ FourSums F65521 (now (s .entry)) x y (length (now (s .entry)) / 4) (r .first) (r .second) (r .third) (r .fourth) (r .power) ⌝ }
+{
+    let n = s.len() / 4;
+    let mut first: u16 = 0;
+    let mut second: u16 = 0;
+    let mut third: u16 = 0;
+    let mut fourth: u16 = 0;
+    let mut power: u16 = 1;
+    let mut i = 0;
+    while i < n {
+        let k = 4 * i;
+        first = two_products(first, y, s[k], power);
+        second = two_products(second, y, s[k + 1], power);
+        third = two_products(third, y, s[k + 2], power);
+        fourth = two_products(fourth, y, s[k + 3], power);
+        power = field::mul(power, x);
+        i += 1;
+    }
+    Fours {
+        first,
+        second,
+        third,
+        fourth,
+        power,
+    }
+}
+
+// The sum of the first terms, as if the list had no more words, and the next power of x.
+struct Begun {
+    sum: u16,
+    power: u16,
+}
+
+// Whole groups of four words, from the four sums at x^4 and y^4.
+fn begin(s: &[u16], x: u16, y: u16) -> Begun
+    ensures { λ r. ⌜ Terms F65521 (now (s .entry)) x y (4 * (length (now (s .entry)) / 4)) (r .sum) (r .power) ⌝ }
+{
+    let x2 = field::mul(x, x);
+    let y2 = field::mul(y, y);
+    let fours = sum_fours(s, field::mul(x2, x2), field::mul(y2, y2));
+    let low = two_products(fours.first, y, fours.second, x);
+    let high = two_products(fours.third, y, fours.fourth, x);
+    Begun {
+        sum: two_products(low, y2, high, x2),
+        power: fours.power,
+    }
+}
+
+// The sum of s_k x^k y^(n-k) for words s_0 to s_n: whole groups of four, then the words after them.
 fn homogeneous(s: &[u16], x: u16, y: u16) -> u16
     ensures { λ r. ⌜ r ≡ homogeneousOf F65521 (now (s .entry)) x y ⌝ }
 {
-    let mut sum: u16 = 0;
-    let mut power: u16 = 1;
-    let mut k = 0;
+    let begun = begin(s, x, y);
+    let mut sum = begun.sum;
+    let mut power = begun.power;
+    let mut k = 4 * (s.len() / 4);
     while k < s.len() {
-        sum = field::add_mul(field::mul(sum, y), s[k], power);
+        sum = two_products(sum, y, s[k], power);
         power = field::mul(power, x);
         k += 1;
     }

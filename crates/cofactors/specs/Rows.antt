@@ -9,19 +9,20 @@
 -- Assumes nothing.
 use mathlib.Core.Path.{_≡_, sym, _∙_, ap, ap₂, subst}
 use mathlib.Core.Bool.{cond, true}
-use mathlib.Core.List.{List, _++_, append-nil}
+use mathlib.Core.List.{List, _++_, append-assoc, append-nil}
 use Prim.Native.Nat.{ℕ, zero, suc, _+_, _-_, _≤_, _<_}
 use native.Mathlib.Decide.{decLt}
 use native.Mathlib.Omega.{arith}
 use lib.Dec.{leb}
-use lib.ListN.{getD, length, set, take, drop, length-append, length-drop, length-set, drop-of-length-le, List·getD-eq-default}
-use lib.Seq.{take-at, drop-at, take-all, take-take, take-add, take-append-add, take-set-le, getD-take, getD-drop, getD-append-add, getD-set-same, getD-set-other, length-take-le}
+use lib.ListN.{getD, length, set, take, drop, length-append, length-drop, length-set, take-append-drop, drop-of-length-le, List·getD-eq-default}
+use lib.Seq.{take-at, drop-at, drop-append-le, take-all, take-take, take-add, take-append-add, take-set-le, getD-take, getD-drop, getD-append-add, getD-set-same, getD-set-other, length-take-le}
 use borrow.Author.Tests.{le-leb}
 use Rattle.algebra.specs.Ring.{CommRing, RING}
 use Rattle.algebra.specs.Series.{coeff-0, coeff-1-zero, coeff-1-suc}
 use Rattle.algebra.specs.Euclid.{Euclid, next-acc, done-acc}
 use Rattle.algebra.specs.PrimeField.{PrimeField, scalarField, positive, residue, residue-0, residue-1}
 use Rattle.lists.specs.Degrees.{significant}
+use Rattle.lists.specs.Extents.{significant-le}
 use Rattle.lists.specs.Lists.{scaled}
 use Rattle.lists.specs.Words.{scaledWords}
 use Rattle.kernels.specs.Kernels.{scaleFits}
@@ -29,6 +30,7 @@ use Rattle.reduction.specs.Rows.{lessProduct, lessProductFits}
 use Rattle.reduction.specs.Steps.{Low, less-product-low, length-lessProduct}
 use Rattle.rounds.specs.Round.{roundSteps, roundFits, remaining, quotientWords}
 use Rattle.rounds.specs.Turns.{end-euclid, round-fits, round-euclid, round-quotient, length-remaining, length-quotientWords, roundSteps-le}
+use Rattle.gcd.specs.Parts.{significant-put, steps-part, fits-part, quotient-part, left-part}
 use Rattle.gcd.specs.Buffers.{Buffer, Holds, euclidOn, holds-scaled}
 use Rattle.gcd.specs.Turning as T
 use Rattle.gcd.specs.Turning.{Turning, Turned, turning-start, turning-count, turning-last}
@@ -418,47 +420,89 @@ module _ (F : PrimeField) (n : ℕ) where
           zeros = λ k l e. getD-set-other (out ++ drop (length c) z) one k 1 0 e ∙ behind k l;
         }
 
-  -- a round on words is a round on rows
-  module _ (u v q : List ℕ) (eu : length u ≡ n + (n + n)) (ev : length v ≡ n + (n + n)) (eq : length q ≡ n) (bu : Buffer F n (partX n u)) (bv : Buffer F n (partX n v)) (some : 0 < significant (partX n v)) where
+  -- a round on the significant words of the parts x is a round on rows
+  module _ (u v q : List ℕ) (nu nv : ℕ) (eu : length u ≡ n + (n + n)) (eq : length q ≡ n) (bu : Buffer F n (partX n u)) (bv : Buffer F n (partX n v)) (hu : nu ≡ significant (partX n u)) (hv : nv ≡ significant (partX n v)) (some : 0 < nv) where
+    few-u : nu ≤ n
+    few-u = let l = significant-le (partX n u) in let e = bu .size in omega arith
+
+    few-v : nv ≤ n
+    few-v = let l = significant-le (partX n v) in let e = bv .size in omega arith
+
+    cut-u : take nu u ≡ take nu (partX n u)
+    cut-u = sym (take-take nu n u few-u)
+
+    cut-v : take nv v ≡ take nv (partX n v)
+    cut-v = sym (take-take nv n v few-v)
+
+    all-u : significant (partX n u) ≤ nu
+    all-u = omega arith
+
+    all-v : significant (partX n v) ≤ nv
+    all-v = omega arith
+
+    some-v : 0 < significant (partX n v)
+    some-v = omega arith
+
     fits : roundFits (F .p) (partX n u) (partX n v) q ≡ true
-    fits = round-fits F n (partX n u) (partX n v) (bu .below) (bv .below) (bu .size) (bv .size) some q (omega arith)
+    fits = round-fits F n (partX n u) (partX n v) (bu .below) (bv .below) (bu .size) (bv .size) some-v q (omega arith)
 
-    steps-few : roundSteps (partX n u) (partX n v) ≤ n
-    steps-few = let l = roundSteps-le (partX n u) (partX n v) in let e = bu .size in omega arith
+    fits-cut : roundFits (F .p) (take nu u) (take nv v) q ≡ true
+    fits-cut =
+        ap₂ (λ x y. roundFits (F .p) x y q) cut-u cut-v ∙ fits-part nu nv (partX n u) (partX n v) all-u all-v (F .p) q ∙ fits
 
-    module _ {k : ℕ} (ek : k ≡ cond (roundFits (F .p) (partX n u) (partX n v) q) (roundSteps (partX n u) (partX n v)) 0) where
+    steps-cut : roundSteps (take nu u) (take nv v) ≡ roundSteps (partX n u) (partX n v)
+    steps-cut = ap₂ roundSteps cut-u cut-v ∙ steps-part nu nv (partX n u) (partX n v) all-u all-v
+
+    quotient-cut : quotientWords F (take nu u) (take nv v) ≡ quotientWords F (partX n u) (partX n v)
+    quotient-cut = ap₂ (quotientWords F) cut-u cut-v ∙ quotient-part nu nv (partX n u) (partX n v) all-u all-v F
+
+    module _ {k : ℕ} (ek : k ≡ cond (roundFits (F .p) (take nu u) (take nv v) q) (roundSteps (take nu u) (take nv v)) 0) where
       steps-is : k ≡ roundSteps (partX n u) (partX n v)
-      steps-is = ek ∙ ap (λ b. cond b (roundSteps (partX n u) (partX n v)) 0) fits
+      steps-is = ek ∙ ap (λ b. cond b (roundSteps (take nu u) (take nv v)) 0) fits-cut ∙ steps-cut
 
       pub turn-steps : k ≤ n
-      turn-steps = let l = steps-few in omega (arith, steps-is)
+      turn-steps = let l = roundSteps-le (partX n u) (partX n v) in let e = bu .size in omega (arith, steps-is)
 
-      module _ {q′ : List ℕ} (eq′ : q′ ≡ cond (roundFits (F .p) (partX n u) (partX n v) q) (quotientWords F (partX n u) (partX n v) ++ drop (roundSteps (partX n u) (partX n v)) q) q) where
+      module _ {q′ : List ℕ} (eq′ : q′ ≡ cond (roundFits (F .p) (take nu u) (take nv v) q) (quotientWords F (take nu u) (take nv v) ++ drop (roundSteps (take nu u) (take nv v)) q) q) where
         quotient-is : take k q′ ≡ quotientWords F (partX n u) (partX n v)
         quotient-is =
-            ap (take k) (eq′ ∙ ap (λ b. cond b (quotientWords F (partX n u) (partX n v) ++ drop (roundSteps (partX n u) (partX n v)) q) q) fits)
-            ∙ take-at (quotientWords F (partX n u) (partX n v)) _ k
-            (length-quotientWords F n (partX n u) (partX n v) (bu .below) (bv .below) (bu .size) (bv .size) some ∙ sym steps-is)
+            ap (take k) (eq′ ∙ ap (λ b. cond b (quotientWords F (take nu u) (take nv v) ++ drop (roundSteps (take nu u) (take nv v)) q) q) fits-cut)
+            ∙ take-at (quotientWords F (take nu u) (take nv v)) _ k
+            (ap length quotient-cut
+            ∙ length-quotientWords F n (partX n u) (partX n v) (bu .below) (bv .below) (bu .size) (bv .size) some-v ∙ sym steps-is)
+            ∙ quotient-cut
 
-        left-is : {x′ : List ℕ} → x′ ≡ cond (roundFits (F .p) (partX n u) (partX n v) q) (remaining F (partX n u) (partX n v)) (partX n u)
-            → x′ ≡ remaining F (partX n u) (partX n v)
-        left-is ex = ex ∙ ap (λ b. cond b (remaining F (partX n u) (partX n v)) (partX n u)) fits
+        module _ {z : List ℕ} (ez : z ≡ cond (roundFits (F .p) (take nu u) (take nv v) q) (remaining F (take nu u) (take nv v)) (take nu u)) where
+          left-is : z ++ drop nu (partX n u) ≡ remaining F (partX n u) (partX n v)
+          left-is =
+              left-part nu nv (partX n u) (partX n v) all-u all-v F (F .p) q
+              (ez ∙ ap₂ (λ x y. cond (roundFits (F .p) x y q) (remaining F x y) x) cut-u cut-v)
+              ∙ ap (λ b. cond b (remaining F (partX n u) (partX n v)) (partX n u)) fits
 
-        -- x left by the round, and the cofactors less the quotient's product
-        pub turn-row : {x′ r′ : List ℕ} → x′ ≡ cond (roundFits (F .p) (partX n u) (partX n v) q) (remaining F (partX n u) (partX n v)) (partX n u)
-            → r′ ≡ lessProduct (F .p) (take n (rest n (x′ ++ drop n u))) (take k q′) (take n (rest n v))
-            ++ lessProduct (F .p) (drop n (rest n (x′ ++ drop n u))) (take k q′) (drop n (rest n v))
-            → take n (x′ ++ drop n u) ++ (r′ ++ drop (length (x′ ++ drop n u) - n) (drop n (x′ ++ drop n u))) ≡ turned u v
-        unfolding turned lessQuotient
-        turn-row {x′} {r′} ex er =
-            put-back n (x′ ++ drop n u) r′
-            ∙ ap₂ _++_ (take-at x′ (drop n u) n long ∙ left-is ex)
-            (er
-            ∙ ap₂ (λ a b. lessProduct (F .p) (take n a) (take k q′) (take n b) ++ lessProduct (F .p) (drop n a) (take k q′) (drop n b))
-            (rest-is n (x′ ++ drop n u) ∙ drop-at x′ (drop n u) n long) (rest-is n v)
-            ∙ ap (λ l. lessProduct (F .p) (partS n u) l (partS n v) ++ lessProduct (F .p) (partT n u) l (partT n v)) quotient-is)
-          where
-            long : length x′ ≡ n
-            long =
-                ap length (left-is ex)
-                ∙ length-remaining F n (partX n u) (partX n v) (bu .below) (bv .below) (bu .size) (bv .size) some
+          -- the row with its x left by the round
+          row-is : z ++ drop nu u ≡ remaining F (partX n u) (partX n v) ++ drop n u
+          row-is =
+              ap (λ l. z ++ l) (ap (drop nu) (sym (take-append-drop n u)) ∙ drop-append-le nu (partX n u) (drop n u) (rw (bu .size) few-u))
+              ∙ sym (append-assoc z (drop nu (partX n u)) (drop n u)) ∙ ap (λ l. l ++ drop n u) left-is
+
+          pub turn-left : length z ≡ nu → significant (take nu (z ++ drop nu u)) ≡ significant (partX n (turned u v))
+          turn-left e =
+              ap significant (take-at z (drop nu u) nu e ∙ sym (take-at z (drop nu (partX n u)) nu e))
+              ∙ significant-put nu (partX n u) all-u z e ∙ ap significant (left-is ∙ sym (turned-x u v eu bu bv some-v))
+
+          -- x left by the round, and the cofactors less the quotient's product
+          pub turn-row : {r′ : List ℕ}
+              → r′ ≡ lessProduct (F .p) (take n (rest n (z ++ drop nu u))) (take k q′) (take n (rest n v))
+              ++ lessProduct (F .p) (drop n (rest n (z ++ drop nu u))) (take k q′) (drop n (rest n v))
+              → take n (z ++ drop nu u) ++ (r′ ++ drop (length (z ++ drop nu u) - n) (drop n (z ++ drop nu u))) ≡ turned u v
+          unfolding turned lessQuotient
+          turn-row {r′} er =
+              put-back n (z ++ drop nu u) r′
+              ∙ ap₂ _++_ (ap (take n) row-is ∙ take-at (remaining F (partX n u) (partX n v)) (drop n u) n long)
+              (er
+              ∙ ap₂ (λ a b. lessProduct (F .p) (take n a) (take k q′) (take n b) ++ lessProduct (F .p) (drop n a) (take k q′) (drop n b))
+              (rest-is n (z ++ drop nu u) ∙ ap (drop n) row-is ∙ drop-at (remaining F (partX n u) (partX n v)) (drop n u) n long) (rest-is n v)
+              ∙ ap (λ l. lessProduct (F .p) (partS n u) l (partS n v) ++ lessProduct (F .p) (partT n u) l (partT n v)) quotient-is)
+            where
+              long : length (remaining F (partX n u) (partX n v)) ≡ n
+              long = length-remaining F n (partX n u) (partX n v) (bu .below) (bv .below) (bu .size) (bv .size) some-v

@@ -109,16 +109,20 @@ fn take_off(s: &mut [u16], q: &[u16], t: &[u16])
     reduction::sub_product(&mut s[256..], q, &t[256..]);
 }
 
-// One of Euclid's rounds on rows: u less the quotient times v.
-fn turn(u: &mut [u16], v: &[u16], q: &mut [u16])
+// One of Euclid's rounds on rows: u less the quotient times v. The significant words of their parts x, nu and nv of them, are all that
+// the round and the search after it look at. The number of those that are left of u.
+fn turn(u: &mut [u16], nu: usize, v: &[u16], nv: usize, q: &mut [u16]) -> usize
     requires { ⌜ (length (now u) ≡ maxWords + (maxWords + maxWords)) × (length (now v) ≡ maxWords + (maxWords + maxWords)) × (length (now q) ≡ maxWords) ⌝ }
     requires { ⌜ Buffer F65521 maxWords (partX maxWords (now u)) ⌝ }
     requires { ⌜ Buffer F65521 maxWords (partX maxWords (now v)) ⌝ }
-    requires { ⌜ 0 < significant (partX maxWords (now v)) ⌝ }
+    requires { ⌜ (nu ≡ significant (partX maxWords (now u))) × (nv ≡ significant (partX maxWords (now v))) × (0 < nv) ⌝ }
+    ensures { λ r. ⌜ r ≡ significant (partX maxWords (now (u .exit))) ⌝ }
     ensures { λ _. ⌜ now (u .exit) ≡ turned F65521 maxWords (now (u .entry)) (now (v .entry)) ⌝ }
 {
-    let k = rounds::round(&mut u[..256], &v[..256], q);
+    let k = rounds::round(&mut u[..nu], &v[..nv], q);
+    let left = lists::significant_words(&u[..nu]);
     take_off(&mut u[256..], &q[..k], &v[256..]);
+    left
 }
 
 // Where the rounds ended: how many they were, and whether the last x stands in the first row.
@@ -134,22 +138,24 @@ fn all_rounds(u: &mut [u16], v: &mut [u16], q: &mut [u16]) -> Ended
     ensures { λ r. ⌜ Ends F65521 maxWords (now (u .entry)) (now (v .entry)) (cond (r .first) (now (u .exit)) (now (v .exit))) (r .rounds) ⌝ }
 {
     let mut rounds = 0;
+    let mut nu = lists::significant_words(&u[..256]);
+    let mut nv = lists::significant_words(&v[..256]);
     loop {
-        if lists::significant_words(&v[..256]) == 0 {
+        if nv == 0 {
             return Ended {
                 rounds,
                 first: true,
             };
         }
-        turn(u, v, q);
+        nu = turn(u, nu, v, nv, q);
         rounds += 1;
-        if lists::significant_words(&u[..256]) == 0 {
+        if nu == 0 {
             return Ended {
                 rounds,
                 first: false,
             };
         }
-        turn(v, u, q);
+        nv = turn(v, nv, u, nu, q);
         rounds += 1;
     }
 }

@@ -7,11 +7,11 @@
 use mathlib.Core.Path.{_≡_, sym, _∙_, ap}
 use mathlib.Core.Bool.{cond}
 use mathlib.Core.List.{List, _++_}
-use Prim.Native.Nat.{ℕ, _+_, _-_, _≤_, _<_}
+use Prim.Native.Nat.{ℕ, _≤_, _<_}
 use native.Mathlib.Decide.{decLt}
 use native.Mathlib.Omega.{arith}
-use lib.ListN.{getD, length, take, drop, replicate, length-append, length-take, length-drop, length-replicate, getD-replicate, List·getD-append, List·getD-eq-default}
-use lib.Seq.{getD-append-add, getD-drop}
+use lib.ListN.{getD, length, take, drop, replicate, length-append, length-take, length-drop, length-replicate, getD-replicate, List·getD-eq-default}
+use lib.Seq.{getD-drop}
 use borrow.Author.Tests.{eq-eqb, le-leb}
 use Rattle.algebra.specs.Ring.{CommRing}
 use Rattle.algebra.specs.Series.{ext}
@@ -22,6 +22,7 @@ use Rattle.algebra.specs.PrimeField.{PrimeField, scalarField, positive, residue
 use Rattle.lists.specs.Lists.{scaled, unscaled}
 use Rattle.lists.specs.Words.{seriesOf, coeff-seriesOf, scaledWords, length-scaledWords, getD-scaledWords, seriesOf-scaledWords}
 use Rattle.kernels.specs.Kernels.{scaleFits}
+use Rattle.gcd.specs.Parts.{getD-then-zeros}
 
 -- an array of zeros
 pub getD-zeros : (n k : ℕ) → getD {A = ℕ} (replicate n 0) k 0 ≡ 0
@@ -52,19 +53,6 @@ module _ (F : PrimeField) where
   seriesOf-ext : (x y : List ℕ) → ((k : ℕ) → getD x k 0 ≡ getD y k 0) → seriesOf F x ≡ seriesOf F y
   seriesOf-ext x y h =
       ext (F .series) _ _ (λ k. coeff-seriesOf F x k ∙ ap (residue F) (h k) ∙ sym (coeff-seriesOf F y k))
-
-  -- words, then zeros
-  getD-then-zeros : (x z : List ℕ) → ((k : ℕ) → getD z k 0 ≡ 0) → (k : ℕ) → getD (x ++ z) k 0 ≡ getD x k 0
-  getD-then-zeros x z h k = go (decLt k (length x))
-    where
-      go : Dec (k < length x) → getD (x ++ z) k 0 ≡ getD x k 0
-      go (yes l) = List·getD-append x z 0 k l
-      go (no l) =
-          ap (λ i. getD (x ++ z) i 0) at ∙ getD-append-add x z (k - length x) 0
-          ∙ h (k - length x) ∙ sym (List·getD-eq-default x 0 (omega arith))
-        where
-          at : k ≡ length x + (k - length x)
-          at = omega arith
 
   below-scaledWords : (c : List ℕ) (k : ℕ) → getD (scaledWords F c) k 0 < F .p
   below-scaledWords c k = go (decLt k (length c))

@@ -1,4 +1,5 @@
 pub mod Calls
+pub mod Parts
 pub mod Buffers
 pub mod Turning
 pub mod Ready

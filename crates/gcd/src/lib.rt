@@ -13,6 +13,7 @@ ghost use Rattle.lists.specs.Degrees.{significant};
 ghost use Rattle.lists.specs.Lists.{scaled};
 ghost use Rattle.lists.specs.Words.{seriesOf};
 ghost use Rattle.euclid.specs.Gcds.{gcdOf, countOf, padded};
+ghost use Rattle.rounds.specs.Round.{roundFits, remaining};
 ghost use Rattle.gcd.specs.Calls.{gcdReply, gcdValues, gcdRefusals, Greatest};
 ghost use Rattle.gcd.specs.Buffers.{Buffer, Holds, euclidOn, monicList};
 ghost use Rattle.gcd.specs.Ready.{Ready};
@@ -76,6 +77,17 @@ fn scale_into(list: &[u16], buffer: &mut [u16])
     kernels::scale(list, &mut buffer[..n]);
 }
 
+// One of Euclid's rounds on the first nx words of x and ny of y, which are the significant ones: so a search for the end of x or y
+// begins close to it, and not at the top of the zeros. The number of significant words that are left of x.
+fn turn(x: &mut [u16], nx: usize, y: &[u16], ny: usize, q: &mut [u16]) -> usize
+    requires { ⌜ (nx ≡ significant (now x)) × (ny ≡ significant (now y)) ⌝ }
+    ensures { λ r. ⌜ r ≡ significant (now (x .exit)) ⌝ }
+    ensures { λ _. ⌜ now (x .exit) ≡ cond (roundFits p (now (x .entry)) (now (y .entry)) (now (q .entry))) (remaining F65521 (now (x .entry)) (now (y .entry))) (now (x .entry)) ⌝ }
+{
+    rounds::round(&mut x[..nx], &y[..ny], q);
+    lists::significant_words(&x[..nx])
+}
+
 // Where the rounds ended: how many they were, and whether the last x stands in the first buffer.
 struct Ended {
     rounds: usize,
@@ -91,22 +103,24 @@ fn all_rounds(x: &mut [u16], y: &mut [u16], q: &mut [u16]) -> Ended
     ensures { λ r. ⌜ Holds F65521 maxWords (cond (r .first) (now (x .exit)) (now (y .exit))) (euclidOn F65521 maxWords (now (x .entry)) (now (y .entry)) .last) ⌝ }
 {
     let mut rounds = 0;
+    let mut nx = lists::significant_words(x);
+    let mut ny = lists::significant_words(y);
     loop {
-        if lists::significant_words(y) == 0 {
+        if ny == 0 {
             return Ended {
                 rounds,
                 first: true,
             };
         }
-        rounds::round(x, y, q);
+        nx = turn(x, nx, y, ny, q);
         rounds += 1;
-        if lists::significant_words(x) == 0 {
+        if nx == 0 {
             return Ended {
                 rounds,
                 first: false,
             };
         }
-        rounds::round(y, x, q);
+        ny = turn(y, ny, x, nx, q);
         rounds += 1;
     }
 }

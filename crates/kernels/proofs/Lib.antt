@@ -1,2 +1,4 @@
-pub mod Rows
+pub mod Weights
+pub mod Entries
+pub mod Products
 pub mod Fits

@@ -1,1 +1,2 @@
 pub mod Kernels
+pub mod Factorials

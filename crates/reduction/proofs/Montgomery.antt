@@ -1,7 +1,4 @@
 -- Montgomery's products on words: the difference of two high halves is a product modulo p.
---     product-bound          the product of two words of 16 bits
---     high-below             the high half of a product with a number below p is below p
---     sub-less, sub-more     a difference modulo p, where it goes below 0 and where it does not
 --     once                   one subtraction of p reduces a word
 --     product-halves         with the constants of m, the high half of y · g less that of (y · s modulo 2^16) · p is m · y
 --     added                  the word that a row's turn stores
@@ -11,28 +8,11 @@
 -- Assumes nothing.
 use mathlib.Core.Path.{_≡_, sym, ap, _∙_}
 use Prim.Native.Nat.{ℕ, _+_, _-_, _*_, _/_, _%_, _<_, _≤_}
-use native.Mathlib.Nat.{mod-lt, mod-eq-of-lt, mod-add-div, mod-add-mod, add-mod-mod, add-mul-mod-self-left, mul-le-mul, mul-comm, zero-add}
+use native.Mathlib.Nat.{mod-lt, mod-add-div, mod-add-mod, add-mod-mod, mul-comm, zero-add}
 use native.Mathlib.Omega.{arith}
+use Rattle.montgomery.specs.Montgomery.{same}
+use Rattle.montgomery.proofs.Words.{remainder}
 use Rattle.reduction.specs.Montgomery.{Modulus, Factor}
-
-pub product-bound : {a b : ℕ} → a < 65536 → b < 65536 → a * b ≤ 4294836225
-product-bound h g = mul-le-mul {n₂ = 65535} {m₂ = 65535} (omega arith) (omega arith)
-
-pub high-below : {p g : ℕ} (y : ℕ) → y < 65536 → g ≤ p → 0 < p → y * g / 65536 < p
-high-below {p} {g} y ly lg pos = omega (arith, mul-le-mul {n₁ = y} {m₁ = g} {n₂ = 65535} {m₂ = p} (omega arith) lg)
-
--- numbers that differ by multiples of p
-same : (p a b u v : ℕ) → a + p * u ≡ b + p * v → a % p ≡ b % p
-same p a b u v e = sym (add-mul-mod-self-left a p u) ∙ ap (λ x. x % p) e ∙ add-mul-mod-self-left b p v
-
-remainder : (p r a u v : ℕ) → r < p → r + p * u ≡ a + p * v → r ≡ a % p
-remainder p r a u v l e = sym (mod-eq-of-lt l) ∙ same p r a u v e
-
-pub sub-less : (a b p : ℕ) → a < b → b ≤ p → a + p - b ≡ (a + (p - b)) % p
-sub-less a b p h g = remainder p (a + p - b) (a + (p - b)) 0 0 (omega arith) (omega arith)
-
-pub sub-more : (a b p : ℕ) → b ≤ a → a < p → a - b ≡ (a + (p - b)) % p
-sub-more a b p h g = remainder p (a - b) (a + (p - b)) 1 0 (omega arith) (omega arith)
 
 pub once : (a p : ℕ) → p ≤ a → a < p + p → a - p ≡ a % p
 once a p h g = remainder p (a - p) a 1 0 (omega arith) (omega arith)

@@ -2,7 +2,7 @@
 // slices' lengths do not fit, nothing is written.
 ghost use mathlib.Core.Path.{_≡_};
 ghost use mathlib.Core.Bool.{cond};
-ghost use Prim.Native.Nat.{ℕ, _+_, _-_, _*_, _/_, _%_, _<_, _≤_, min};
+ghost use Prim.Native.Nat.{ℕ, _+_, _-_, _*_, _%_, _<_, _≤_, min};
 ghost use lib.ListN.{length};
 ghost use Rattle.field.specs.Field.{p};
 ghost use Rattle.reduction.specs.Rows.{row, negated, reduced, digits, lessProduct, reduceFits, lessProductFits, Partway};
@@ -94,8 +94,8 @@ fn montgomery_row(x: &mut [u16], m: u16, y: &[u16], n: usize, p: u16, e: u16, sq
     ensures { λ _. ⌜ Partway p (now (x .entry)) m (now (y .entry)) (now (x .exit)) n ⌝ }
 {
     // m times 2^16. LLVM knows that it has 16 bits, since it is a difference of words; of a remainder by p it would not.
-    let g = add_product(0, m, square, low_half(square, e), p);
-    let s = low_half(g, e);
+    let g = add_product(0, m, square, montgomery::low_half(square, e), p);
+    let s = montgomery::low_half(g, e);
     let mut j = 0;
     while j < n {
         x[j] = add_product(x[j], y[j], g, s, p);
@@ -109,24 +109,12 @@ fn add_product(x: u16, y: u16, g: u16, s: u16, p: u16) -> u16
     requires { ⌜ (32768 ≤ p) × (g < p) ⌝ }
     ensures { λ r. ⌜ ((e m : ℕ) → Factor p e m g s → r ≡ (x + m * y) % p) ⌝ }
 {
-    let less = high_half(low_half(y, s), p);
+    let less = montgomery::high_half(montgomery::low_half(y, s), p);
     sub_below(
         sub_below(once_reduced(x, p), less, p),
-        p - high_half(y, g),
+        p - montgomery::high_half(y, g),
         p,
     )
-}
-
-fn high_half(a: u16, b: u16) -> u16
-    ensures { λ r. ⌜ r ≡ a * b / 65536 ⌝ }
-{
-    ((a as u32) * (b as u32) / 65536) as u16
-}
-
-fn low_half(a: u16, b: u16) -> u16
-    ensures { λ r. ⌜ r ≡ a * b % 65536 ⌝ }
-{
-    ((a as u32) * (b as u32) % 65536) as u16
 }
 
 // A word modulo p, where p is at least half of 2^16.

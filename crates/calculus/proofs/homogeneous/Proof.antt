@@ -1,42 +1,42 @@
 -- `calculus::homogeneous` meets its contract. The loop's invariant: `sum` stands for the sum of the first k terms, as if the list had k words,
 -- and `power` for x^k.
 -- Assumes nothing.
-use Prim.Native.Nat.{_≤_, _<_, _+_, _-_, _*_}
-use native.Mathlib.Nat.{mod-lt}
+use Prim.Native.Nat.{_≤_, _-_}
 use native.Mathlib.Omega.{arith}
-use lib.ListN.{length, getD}
+use lib.ListN.{length}
 use borrow.Author.Needs.{needs}
 use Rattle.algebra.specs.PrimeField.{F65521, p-is}
-use Rattle.calculus.proofs.Values.{Sum, Power, sum-start, power-start, sum-next, power-next, sum-end}
+use Rattle.calculus.specs.Workers.{Terms}
+use Rattle.calculus.proofs.Values.{term-next, terms-end}
 use Rattle.calculus.proofs.homogeneous.Statement.{statement}
 use Rattle.calculus.proofs.homogeneous.Tie as tie
 
 abbrev Inv-loop : tie.InvT-loop
-Inv-loop s x y sum₀ power₀ k₀ sum power k = (k ≤ length s) × (sum < 65521) × Sum F65521 s x y k sum × Power F65521 s x y k power
+Inv-loop s x y sum₀ power₀ k₀ sum power k = (k ≤ length s) × Terms F65521 s x y k sum power
 
 abbrev μ-loop : tie.MeasureT-loop
 μ-loop s x y sum₀ power₀ k₀ sum power k = length s - k
 
+begin-requires : tie.Need-begin-requires Inv-loop μ-loop
+begin-requires c κs = search needs
+
+mul-k : tie.Need-mul-k Inv-loop μ-loop
+mul-k c = search needs
+
 loop-holds : tie.Need-loop-holds Inv-loop μ-loop
-loop-holds c =
-    let args = c .before .args in
-    let s = args .s .now in
-    (search needs, search needs, sum-start F65521 s (args .x) (args .y), power-start F65521 s (args .x) (args .y))
+loop-holds c = search needs
+
+mul-two-products : tie.Need-mul-two-products Inv-loop μ-loop
+mul-two-products c = search needs
+
+shared-slice-read-two-products : tie.Need-shared-slice-read-two-products Inv-loop μ-loop
+shared-slice-read-two-products c = search needs
+
+two-products-requires : tie.Need-two-products-requires Inv-loop μ-loop
+two-products-requires c κs = search needs
 
 mul-requires : tie.Need-mul-requires Inv-loop μ-loop
 mul-requires c κs = search needs
-
-mul-add-mul : tie.Need-mul-add-mul Inv-loop μ-loop
-mul-add-mul c = search needs
-
-shared-slice-read-add-mul : tie.Need-shared-slice-read-add-mul Inv-loop μ-loop
-shared-slice-read-add-mul c = search needs
-
-add-mul-requires : tie.Need-add-mul-requires Inv-loop μ-loop
-add-mul-requires c κs = search needs
-
-mul-requires-2 : tie.Need-mul-requires-2 Inv-loop μ-loop
-mul-requires-2 c κs = search needs
 
 add-k : tie.Need-add-k Inv-loop μ-loop
 add-k c = search needs
@@ -46,23 +46,17 @@ loop-less c = search needs
 
 loop-again : tie.Need-loop-again Inv-loop μ-loop
 loop-again c =
-    let at-loop = c .before .before .before .before .before in
-    let inv = at-loop .loop .inv in
-    let args = at-loop .before .before .args in
-    let s = args .s .now in
-    let scaled = c .before .before .before .mul in
-    let product = getD s (at-loop .loop .k) 0 * at-loop .loop .power in (
-      search needs,
-      rw (c .before .add-mul .ensures) (mod-lt (scaled .result + product) (omega arith)),
-      sum-next F65521 p-is s (args .x) (args .y) _ _ _ (inv .2) (inv .3) (scaled .ensures) (c .before .add-mul .ensures),
-      power-next F65521 p-is s (args .x) (args .y) _ _ (inv .3) (c .mul2 .ensures),
-    )
+    let at-loop = c .before .before .before .before in
+    let args = at-loop .before .before .before .args in
+    let terms =
+    term-next F65521 p-is (args .x) (args .y) (args .s .now) (at-loop .loop .k) (at-loop .loop .inv .1) (c .before .two-products .ensures) (c .mul .ensures) in
+    (search needs, terms)
 
 returns : tie.Need-returns Inv-loop μ-loop
 returns c =
-    let args = c .before .before .before .args in
+    let args = c .before .before .before .before .args in
     let loop = c .before .loop in
-    sum-end F65521 p-is (args .s .now) (args .x) (args .y) (loop .k) (loop .inv .1) (omega arith) (loop .inv .2)
+    terms-end F65521 p-is (args .x) (args .y) (args .s .now) (loop .k) (omega arith) (loop .inv .1)
 
 pub homogeneous-spec : {M : Type 1} → statement M
 homogeneous-spec =
@@ -70,12 +64,13 @@ homogeneous-spec =
     (tie.spec
     Inv-loop
     μ-loop
+    begin-requires
+    mul-k
     loop-holds
+    mul-two-products
+    shared-slice-read-two-products
+    two-products-requires
     mul-requires
-    mul-add-mul
-    shared-slice-read-add-mul
-    add-mul-requires
-    mul-requires-2
     add-k
     loop-less
     loop-again

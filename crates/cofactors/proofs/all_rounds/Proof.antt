@@ -1,5 +1,5 @@
--- `cofactors::all_rounds` meets its contract: the loop's invariant: the rounds have led from the first rows to these. The measure is the number of
--- significant words of v's x.
+-- `cofactors::all_rounds` meets its contract. The loop's invariant: the rounds have led from the first rows to these, the parts x of
+-- which have nu and nv significant words. The measure is nv.
 -- Assumes nothing.
 use mathlib.Core.Path.{_≡_, refl, sym, _∙_}
 use Prim.Native.Nat.{_+_}
@@ -14,35 +14,52 @@ use Rattle.cofactors.proofs.all_rounds.Statement.{statement}
 use Rattle.cofactors.proofs.all_rounds.Tie as tie
 
 abbrev Inv-loop : tie.InvT-loop
-Inv-loop u₀ v₀ q₀ rounds₀ u v q rounds = Carried F65521 maxWords u₀ v₀ u v rounds × (length q ≡ length q₀)
+Inv-loop u₀ v₀ q₀ rounds₀ nu₀ nv₀ u v q rounds nu nv =
+    Carried F65521 maxWords u₀ v₀ u v rounds
+    × (length q ≡ length q₀)
+    × (nu ≡ significant (partX maxWords u))
+    × (nv ≡ significant (partX maxWords v))
 
 abbrev μ-loop : tie.MeasureT-loop
-μ-loop u₀ v₀ q₀ rounds₀ u v q rounds = significant (partX maxWords v)
-
-loop-holds : tie.Need-loop-holds Inv-loop μ-loop
-loop-holds c = (c .before .before .before .pre .0, refl)
+μ-loop u₀ v₀ q₀ rounds₀ nu₀ nv₀ u v q rounds nu nv = nv
 
 -- u by v
 first : (c : tie.After-turn Inv-loop μ-loop)
-    → Carries-on F65521 maxWords (c .before .before .before .before .before .before .before .before .before .before .before .args .u .now) (c .before .before .before .before .before .before .before .before .before .before .before .args .v .now) (c .before .before .before .before .before .before .before .loop .v) (c .turn .last .0) (c .before .before .before .before .before .before .before .loop .rounds)
+    → Carries-on F65521 maxWords (c .before .before .before .before .before .before .before .before .before .before .before .before .before .args .u .now) (c .before .before .before .before .before .before .before .before .before .before .before .before .before .args .v .now) (c .before .before .before .before .before .loop .v) (c .turn .last .0) (c .before .before .before .before .before .loop .rounds)
 first c =
-    carried-round F65521 maxWords _ _ _ _ _ (c .before .before .before .before .before .before .before .before .before .before .before .pre .0 .turning .left) (c .before .before .before .before .before .before .before .before .before .before .before .pre .0 .turning .right) (c .before .before .before .before .before .before .before .loop .inv .0) (omega arith) (c .turn .ensures)
+    let start = c .before .before .before .before .before .before .before .before .before .before .before .before .before .pre .0 .turning in
+    let i = c .before .before .before .before .before .loop .inv in
+    carried-round F65521 maxWords _ _ _ _ _ (start .left) (start .right) (i .0) (omega arith) (c .turn .ensures .1)
 
 -- v by what is left of u
 second : (c : tie.After-turn2 Inv-loop μ-loop)
-    → Carries-on F65521 maxWords (c .before .before .before .before .before .before .before .before .before .before .before .before .before .before .before .before .before .before .before .before .before .before .args .u .now) (c .before .before .before .before .before .before .before .before .before .before .before .before .before .before .before .before .before .before .before .before .before .before .args .v .now) (c .before .before .before .before .before .before .before .before .before .before .before .turn .last .0) (c .turn2 .last .0) (c .before .before .before .before .before .before .before .before .before .before .before .before .before .before .before .before .before .before .loop .rounds + 1)
+    → Carries-on F65521 maxWords (c .before .before .before .before .before .before .before .before .before .before .before .before .before .before .before .before .before .before .before .before .before .before .args .u .now) (c .before .before .before .before .before .before .before .before .before .before .before .before .before .before .before .before .before .before .before .before .before .before .args .v .now) (c .before .before .before .before .before .before .before .before .before .turn .last .0) (c .turn2 .last .0) (c .before .before .before .before .before .before .before .before .before .before .before .before .before .before .loop .rounds + 1)
 second c =
-    carried-round F65521 maxWords _ _ _ _ _ (c .before .before .before .before .before .before .before .before .before .before .before .before .before .before .before .before .before .before .before .before .before .before .pre .0 .turning .left) (c .before .before .before .before .before .before .before .before .before .before .before .before .before .before .before .before .before .before .before .before .before .before .pre .0 .turning .right) (first (c .before .before .before .before .before .before .before .before .before .before .before) .next) (omega arith) (c .turn2 .ensures)
+    let start = c .before .before .before .before .before .before .before .before .before .before .before .before .before .before .before .before .before .before .before .before .before .before .pre .0 .turning in
+    carried-round F65521 maxWords _ _ _ _ _ (start .left) (start .right) (first (c .before .before .before .before .before .before .before .before .before) .next) (omega arith) (c .turn2 .ensures .1)
 
 slice-reshare-prefix-significant-words :
     tie.Need-slice-reshare-prefix-significant-words Inv-loop μ-loop
-slice-reshare-prefix-significant-words c = let l = c .loop .inv .0 .size-v in search needs
+slice-reshare-prefix-significant-words c = let l = c .before .before .before .pre .0 .size-u in search needs
 
 slice-aggregate-significant-words : tie.Need-slice-aggregate-significant-words Inv-loop μ-loop
-slice-aggregate-significant-words c = let l = c .before .loop .inv .0 .size-v in simp length-take (omega arith)
+slice-aggregate-significant-words c = let l = c .before .before .before .before .pre .0 .size-u in simp length-take (omega arith)
 
 significant-words-requires : tie.Need-significant-words-requires Inv-loop μ-loop
 significant-words-requires c κs = search needs
+
+slice-reshare-prefix-significant-words-2 :
+    tie.Need-slice-reshare-prefix-significant-words-2 Inv-loop μ-loop
+slice-reshare-prefix-significant-words-2 c = let l = c .before .before .before .before .before .pre .0 .size-v in search needs
+
+slice-aggregate-significant-words-2 : tie.Need-slice-aggregate-significant-words-2 Inv-loop μ-loop
+slice-aggregate-significant-words-2 c = let l = c .before .before .before .before .before .before .pre .0 .size-v in simp length-take (omega arith)
+
+significant-words-requires-2 : tie.Need-significant-words-requires-2 Inv-loop μ-loop
+significant-words-requires-2 c κs = search needs
+
+loop-holds : tie.Need-loop-holds Inv-loop μ-loop
+loop-holds c = (c .before .before .before .before .before .before .before .pre .0, refl, c .before .before .significant-words .ensures, c .significant-words2 .ensures)
 
 same-length : tie.Need-same-length Inv-loop μ-loop
 same-length c = search needs
@@ -54,23 +71,17 @@ same-length-3 : tie.Need-same-length-3 Inv-loop μ-loop
 same-length-3 c = search needs
 
 returns : tie.Need-returns Inv-loop μ-loop
-returns c = carried-end F65521 maxWords _ _ _ _ _ (c .before .before .before .loop .inv .0) (sym (c .before .significant-words .ensures) ∙ c .if1 .taken)
+returns c =
+    let i = c .before .loop .inv in
+    carried-end F65521 maxWords _ _ _ _ _ (i .0) (sym (i .3) ∙ c .if1 .taken)
 
 turn-requires : tie.Need-turn-requires Inv-loop μ-loop
-turn-requires c κs = let i = c .before .before .before .before .before .before .loop .inv in ((i .0 .size-u, i .0 .size-v, i .1 ∙ c .before .before .before .before .before .before .before .before .before .before .pre .1), (i .0 .turning .left, (i .0 .turning .right, omega arith)))
+turn-requires c κs =
+    let i = c .before .before .before .before .loop .inv in
+    ((i .0 .size-u, i .0 .size-v, i .1 ∙ c .before .before .before .before .before .before .before .before .before .before .before .before .pre .1), (i .0 .turning .left, (i .0 .turning .right, (i .2, i .3, omega arith))))
 
 add-rounds : tie.Need-add-rounds Inv-loop μ-loop
 add-rounds c = let l = first (c .before .before .before .before) .few in search needs
-
-slice-reshare-prefix-significant-words-2 :
-    tie.Need-slice-reshare-prefix-significant-words-2 Inv-loop μ-loop
-slice-reshare-prefix-significant-words-2 c = let l = first (c .before .before .before .before) .next .size-v in search needs
-
-slice-aggregate-significant-words-2 : tie.Need-slice-aggregate-significant-words-2 Inv-loop μ-loop
-slice-aggregate-significant-words-2 c = let l = first (c .before .before .before .before .before) .next .size-v in simp length-take (omega arith)
-
-significant-words-requires-2 : tie.Need-significant-words-requires-2 Inv-loop μ-loop
-significant-words-requires-2 c κs = search needs
 
 same-length-4 : tie.Need-same-length-4 Inv-loop μ-loop
 same-length-4 c = search needs
@@ -82,19 +93,27 @@ same-length-6 : tie.Need-same-length-6 Inv-loop μ-loop
 same-length-6 c = search needs
 
 returns-2 : tie.Need-returns-2 Inv-loop μ-loop
-returns-2 c = carried-end F65521 maxWords _ _ _ _ _ (first (c .before .before .before .before .before .before .before) .next) (sym (c .before .significant-words2 .ensures) ∙ c .if2 .taken)
+returns-2 c =
+    let t = c .before .before .before .before .before in
+    carried-end F65521 maxWords _ _ _ _ _ (first t .next) (sym (t .turn .ensures .0) ∙ c .if2 .taken)
 
 turn-requires-2 : tie.Need-turn-requires-2 Inv-loop μ-loop
-turn-requires-2 c κs = let i = first (c .before .before .before .before .before .before .before .before .before .before) .next in ((i .size-u, i .size-v, omega arith), (i .turning .left, (i .turning .right, omega arith)))
+turn-requires-2 c κs =
+    let t = c .before .before .before .before .before .before .before .before in
+    let i = first t .next in
+    ((i .size-u, i .size-v, omega arith), (i .turning .left, (i .turning .right, (c .before .before .before .before .before .before .before .before .before .before .before .before .before .loop .inv .3, t .turn .ensures .0, omega arith))))
 
 add-rounds-2 : tie.Need-add-rounds-2 Inv-loop μ-loop
-add-rounds-2 c = let l = first (c .before .before .before .before .before .before .before .before .before .before .before .before .before .before .before) .few in search needs
+add-rounds-2 c = let l = first (c .before .before .before .before .before .before .before .before .before .before .before .before .before) .few in search needs
 
 loop-less : tie.Need-loop-less Inv-loop μ-loop
-loop-less c = let a = first (c .before .before .before .before .before .before .before .before .before .before .before .before .before .before .before) .smaller in let b = second (c .before .before .before .before) .smaller in omega arith
+loop-less c =
+    let a = first (c .before .before .before .before .before .before .before .before .before .before .before .before .before) .smaller in
+    let b = second (c .before .before .before .before) .smaller in
+    omega arith
 
 loop-again : tie.Need-loop-again Inv-loop μ-loop
-loop-again c = (second (c .before .before .before .before) .next, search needs)
+loop-again c = (second (c .before .before .before .before) .next, search needs, c .before .before .before .before .before .before .before .before .before .before .before .before .before .turn .ensures .0, c .before .before .before .before .turn2 .ensures .0)
 
 pub all-rounds-spec : {M : Type 1} → statement M
 all-rounds-spec =
@@ -102,19 +121,19 @@ all-rounds-spec =
     (tie.spec
     Inv-loop
     μ-loop
-    loop-holds
     slice-reshare-prefix-significant-words
     slice-aggregate-significant-words
     significant-words-requires
+    slice-reshare-prefix-significant-words-2
+    slice-aggregate-significant-words-2
+    significant-words-requires-2
+    loop-holds
     same-length
     same-length-2
     same-length-3
     returns
     turn-requires
     add-rounds
-    slice-reshare-prefix-significant-words-2
-    slice-aggregate-significant-words-2
-    significant-words-requires-2
     same-length-4
     same-length-5
     same-length-6

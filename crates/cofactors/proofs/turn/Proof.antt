@@ -1,11 +1,15 @@
--- `cofactors::turn` meets its contract: a round on the parts x, and its quotient taken off the cofactors.
+-- `cofactors::turn` meets its contract: a round on the significant words of the parts x, and its quotient taken off the cofactors.
 -- Assumes nothing.
+use mathlib.Core.Path.{_≡_, sym, _∙_, ap}
 use Prim.Native.Nat.{_≤_}
 use native.Mathlib.Omega.{arith}
-use lib.ListN.{length-append, length-take, length-drop}
+use lib.ListN.{length, length-append, length-take, length-drop, take}
+use lib.Seq.{length-take-le}
 use borrow.Author.Needs.{needs}
 use Rattle.algebra.specs.PrimeField.{F65521}
-use Rattle.cofactors.specs.Rows.{turn-steps, turn-row}
+use Rattle.lists.specs.Degrees.{significant}
+use Rattle.lists.specs.Extents.{significant-le}
+use Rattle.cofactors.specs.Rows.{partX, turn-steps, turn-left, turn-row}
 use Rattle.cofactors.proofs.turn.Statement.{statement}
 use Rattle.cofactors.proofs.turn.Tie as tie
 
@@ -13,19 +17,36 @@ use Rattle.cofactors.proofs.turn.Tie as tie
 few : (c : tie.After-round) → c .round .result ≤ 256
 unfolding F65521
 few c =
-    turn-steps F65521 256 (c .before .before .before .before .before .before .before .args .u .now) (c .before .before .before .before .before .before .before .args .v .now) (c .before .before .before .before .before .before .before .args .q .now) (c .before .before .before .before .before .before .before .pre .0 .0) (c .before .before .before .before .before .before .before .pre .0 .1) (c .before .before .before .before .before .before .before .pre .0 .2) (c .before .before .before .before .before .before .before .pre .1 .0) (c .before .before .before .before .before .before .before .pre .1 .1 .0) (c .before .before .before .before .before .before .before .pre .1 .1 .1) (c .round .ensures .0)
+    let a = c .before .before .before .before .before .before .before .args in
+    let pre = c .before .before .before .before .before .before .before .pre in
+    turn-steps F65521 256 (a .u .now) (a .v .now) (a .q .now) (a .nu) (a .nv) (pre .0 .0) (pre .0 .2) (pre .1 .0) (pre .1 .1 .0) (pre .1 .1 .1 .0) (pre .1 .1 .1 .1) (pre .1 .1 .1 .2) (c .round .ensures .0)
+
+-- the part of u has its length again
+long : (c : tie.After-round) → length (c .round .last .0) ≡ c .before .before .before .before .before .before .before .args .nu
+long c =
+    let s = c .before .before .before .before .before .before .before in
+    c .round .kept .0 ∙ length-take-le (s .args .nu) (s .args .u .now) (omega (arith, significant-le (partX 256 (s .args .u .now)), s .pre .1 .0 .size))
 
 slice-relend-prefix-round : tie.Need-slice-relend-prefix-round
-slice-relend-prefix-round c = search needs
+slice-relend-prefix-round c = let s = c .before .before .before in omega (arith, significant-le (partX 256 (s .args .u .now)), s .pre .1 .0 .size)
 
 slice-aggregate-round : tie.Need-slice-aggregate-round
-slice-aggregate-round c = simp length-take (omega arith)
+slice-aggregate-round c = let s = c .before .before .before .before in simp length-take (omega (arith, significant-le (partX 256 (s .args .u .now)), s .pre .1 .0 .size))
 
 slice-aggregate-round-2 : tie.Need-slice-aggregate-round-2
-slice-aggregate-round-2 c = simp length-take (omega arith)
+slice-aggregate-round-2 c = let s = c .before .before .before .before .before in simp length-take (omega (arith, significant-le (partX 256 (s .args .v .now)), s .pre .1 .1 .0 .size))
 
 round-requires : tie.Need-round-requires
 round-requires c κs = search needs
+
+slice-reshare-prefix-significant-words : tie.Need-slice-reshare-prefix-significant-words
+slice-reshare-prefix-significant-words c = let s = c .before .before .before .before .before .before .before .before .before .before .before in omega (arith, significant-le (partX 256 (s .args .u .now)), s .pre .1 .0 .size)
+
+slice-aggregate-significant-words : tie.Need-slice-aggregate-significant-words
+slice-aggregate-significant-words c = let s = c .before .before .before .before .before .before .before .before .before .before .before .before in simp length-take (omega (arith, significant-le (partX 256 (s .args .u .now)), s .pre .1 .0 .size))
+
+significant-words-requires : tie.Need-significant-words-requires
+significant-words-requires c κs = search needs
 
 sub-take-off : tie.Need-sub-take-off
 sub-take-off c = search needs
@@ -37,10 +58,10 @@ part-take-off-end : tie.Need-part-take-off-end
 part-take-off-end c = search needs
 
 slice-reshare-prefix-take-off : tie.Need-slice-reshare-prefix-take-off
-slice-reshare-prefix-take-off c = let l = few (c .before .before .before .before .before) in search needs
+slice-reshare-prefix-take-off c = let l = few (c .before .before .before .before .before .before .before) in search needs
 
 slice-aggregate-take-off : tie.Need-slice-aggregate-take-off
-slice-aggregate-take-off c = let l = few (c .before .before .before .before .before .before) in simp length-take (omega arith)
+slice-aggregate-take-off c = let l = few (c .before .before .before .before .before .before .before .before) in simp length-take (omega arith)
 
 sub-take-off-2 : tie.Need-sub-take-off-2
 sub-take-off-2 c = search needs
@@ -53,8 +74,10 @@ part-take-off-end-2 c = search needs
 
 take-off-requires : tie.Need-take-off-requires
 take-off-requires c κs =
-    let l = few (c .before .before .before .before .before .before .before) in
-    (simp (length-take, length-drop, length-append) (omega arith), simp (length-take, length-drop) (omega arith), simp length-take (omega arith))
+    let l = few (c .before .before .before .before .before .before .before .before .before) in
+    let e = long (c .before .before .before .before .before .before .before .before .before) in
+    let s = c .before .before .before .before .before .before .before .before .before .before .before .before .before .before .before .before in
+    (simp (length-take, length-drop, length-append) (omega (arith, significant-le (partX 256 (s .args .u .now)), s .pre .1 .0 .size)), simp (length-take, length-drop) (omega arith), simp length-take (omega arith))
 
 same-length : tie.Need-same-length
 same-length c = search needs
@@ -64,7 +87,13 @@ same-length-2 c = search needs
 
 returns : tie.Need-returns
 unfolding F65521
-returns c = turn-row F65521 256 (c .before .before .before .before .before .before .before .before .before .before .before .before .before .before .before .before .before .args .u .now) (c .before .before .before .before .before .before .before .before .before .before .before .before .before .before .before .before .before .args .v .now) (c .before .before .before .before .before .before .before .before .before .before .before .before .before .before .before .before .before .args .q .now) (c .before .before .before .before .before .before .before .before .before .before .before .before .before .before .before .before .before .pre .0 .0) (c .before .before .before .before .before .before .before .before .before .before .before .before .before .before .before .before .before .pre .0 .1) (c .before .before .before .before .before .before .before .before .before .before .before .before .before .before .before .before .before .pre .0 .2) (c .before .before .before .before .before .before .before .before .before .before .before .before .before .before .before .before .before .pre .1 .0) (c .before .before .before .before .before .before .before .before .before .before .before .before .before .before .before .before .before .pre .1 .1 .0) (c .before .before .before .before .before .before .before .before .before .before .before .before .before .before .before .before .before .pre .1 .1 .1) (c .before .before .before .before .before .before .before .before .before .before .round .ensures .0) (c .before .before .before .before .before .before .before .before .before .before .round .ensures .1 .1) (c .before .before .before .before .before .before .before .before .before .before .round .ensures .1 .0) (c .before .before .take-off .ensures)
+returns c =
+    let a = c .before .before .before .before .before .before .before .before .before .before .before .before .before .before .before .before .before .before .before .args in
+    let pre = c .before .before .before .before .before .before .before .before .before .before .before .before .before .before .before .before .before .before .before .pre in
+    let r = c .before .before .before .before .before .before .before .before .before .before .before .before .round in
+    let row = turn-row F65521 256 (a .u .now) (a .v .now) (a .q .now) (a .nu) (a .nv) (pre .0 .0) (pre .0 .2) (pre .1 .0) (pre .1 .1 .0) (pre .1 .1 .1 .0) (pre .1 .1 .1 .1) (pre .1 .1 .1 .2) (r .ensures .0) (r .ensures .1 .1) (r .ensures .1 .0) (c .before .before .take-off .ensures) in
+    let left = turn-left F65521 256 (a .u .now) (a .v .now) (a .q .now) (a .nu) (a .nv) (pre .0 .0) (pre .0 .2) (pre .1 .0) (pre .1 .1 .0) (pre .1 .1 .1 .0) (pre .1 .1 .1 .1) (pre .1 .1 .1 .2) (r .ensures .0) (r .ensures .1 .1) (r .ensures .1 .0) (long (c .before .before .before .before .before .before .before .before .before .before .before .before)) in
+    (c .before .before .before .before .before .before .significant-words .ensures ∙ left ∙ ap (λ l. significant (take 256 l)) (sym row), row)
 
 pub turn-spec : {M : Type 1} → statement M
 turn-spec =
@@ -74,6 +103,9 @@ turn-spec =
     slice-aggregate-round
     slice-aggregate-round-2
     round-requires
+    slice-reshare-prefix-significant-words
+    slice-aggregate-significant-words
+    significant-words-requires
     sub-take-off
     part-take-off-start
     part-take-off-end

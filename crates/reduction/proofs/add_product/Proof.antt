@@ -4,7 +4,8 @@ use mathlib.Core.Path.{ap, _∙_}
 use Prim.Native.Nat.{_+_, _-_, _*_, _/_, _%_, _<_}
 use native.Mathlib.Nat.{mod-lt, le-of-lt, le-refl}
 use native.Mathlib.Omega.{arith}
-use Rattle.reduction.proofs.Montgomery.{high-below, added}
+use Rattle.montgomery.proofs.Words.{high-below}
+use Rattle.reduction.proofs.Montgomery.{added}
 use borrow.Author.Needs.{needs}
 use Rattle.reduction.proofs.add_product.Statement.{statement}
 use Rattle.reduction.proofs.add_product.Tie as tie

@@ -3,7 +3,7 @@
 use mathlib.Core.Path.{_≡_, _∙_}
 use Prim.Native.Nat.{_+_, _-_}
 use native.Mathlib.Omega.{arith}
-use Rattle.reduction.proofs.Montgomery.{sub-less, sub-more}
+use Rattle.montgomery.proofs.Words.{sub-less, sub-more}
 use borrow.Author.Needs.{needs}
 use Rattle.reduction.proofs.sub_below.Statement.{statement}
 use Rattle.reduction.proofs.sub_below.Tie as tie

@@ -1,10 +1,10 @@
--- `reduction::high_half` meets its contract.
+-- `montgomery::high_half` meets its contract.
 -- Assumes nothing.
 use Prim.Native.Nat.{_*_, _≤_}
 use native.Mathlib.Omega.{arith}
-use Rattle.reduction.proofs.Montgomery.{product-bound}
-use Rattle.reduction.proofs.high_half.Statement.{statement}
-use Rattle.reduction.proofs.high_half.Tie as tie
+use Rattle.montgomery.proofs.Words.{product-bound}
+use Rattle.montgomery.proofs.high_half.Statement.{statement}
+use Rattle.montgomery.proofs.high_half.Tie as tie
 
 product : (c : tie.Start) → c .args .a * c .args .b ≤ 4294836225
 product c = product-bound (c .fits .a .fits) (c .fits .b .fits)

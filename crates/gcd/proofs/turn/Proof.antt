@@ -1,0 +1,61 @@
+-- `gcd::turn` meets its contract: a round on parts that hold all significant words is the round on the buffers.
+-- Assumes nothing.
+use mathlib.Core.Path.{_∙_}
+use native.Mathlib.Omega.{arith}
+use lib.ListN.{length-take}
+use borrow.Author.Needs.{needs}
+use Rattle.algebra.specs.PrimeField.{F65521}
+use Rattle.lists.specs.Extents.{significant-le}
+use Rattle.gcd.specs.Parts.{significant-put, left-part}
+use Rattle.gcd.proofs.turn.Statement.{statement}
+use Rattle.gcd.proofs.turn.Tie as tie
+
+slice-relend-prefix-round : tie.Need-slice-relend-prefix-round
+slice-relend-prefix-round c = omega (arith, significant-le (c .before .before .before .args .x .now))
+
+slice-aggregate-round : tie.Need-slice-aggregate-round
+slice-aggregate-round c = simp length-take (omega (arith, significant-le (c .before .before .before .before .args .x .now)))
+
+slice-aggregate-round-2 : tie.Need-slice-aggregate-round-2
+slice-aggregate-round-2 c = simp length-take (omega (arith, significant-le (c .before .before .before .before .before .args .y .now)))
+
+round-requires : tie.Need-round-requires
+round-requires c κs = search needs
+
+slice-reshare-prefix-significant-words : tie.Need-slice-reshare-prefix-significant-words
+slice-reshare-prefix-significant-words c = omega (arith, significant-le (c .before .before .before .before .before .before .before .before .before .before .before .args .x .now))
+
+slice-aggregate-significant-words : tie.Need-slice-aggregate-significant-words
+slice-aggregate-significant-words c = simp length-take (omega (arith, significant-le (c .before .before .before .before .before .before .before .before .before .before .before .before .args .x .now)))
+
+significant-words-requires : tie.Need-significant-words-requires
+significant-words-requires c κs = search needs
+
+same-length : tie.Need-same-length
+same-length c = search needs
+
+same-length-2 : tie.Need-same-length-2
+same-length-2 c = search needs
+
+returns : tie.Need-returns
+returns c =
+    let a = c .before .before .before .before .before .before .before .before .before .before .before .before .before .args in
+    let r = c .before .before .before .before .before .before .round in (
+      c .significant-words .ensures ∙ significant-put (a .nx) (a .x .now) (omega arith) (r .last .0) (r .kept .0 ∙ simp length-take (omega (arith, significant-le (a .x .now)))),
+      left-part (a .nx) (a .ny) (a .x .now) (a .y .now) (omega arith) (omega arith) F65521 65521 (a .q .now) (r .ensures .1 .0),
+    )
+
+pub turn-spec : {M : Type 1} → statement M
+turn-spec =
+    tie.close
+    (tie.spec
+    slice-relend-prefix-round
+    slice-aggregate-round
+    slice-aggregate-round-2
+    round-requires
+    slice-reshare-prefix-significant-words
+    slice-aggregate-significant-words
+    significant-words-requires
+    same-length
+    same-length-2
+    returns)

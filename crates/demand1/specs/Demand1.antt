@@ -1,7 +1,6 @@
 -- Demand 1, in one form for every public call: a call with some rows answers a number and leaves some lent slices.
 --     Slice          a lent slice: the type of its elements, what it held on entry, and what it holds at exit
 --     Unchanged      every slice holds what it held
---     IsLowestOf     the refusal applies, and none with a lower number does
 --     Demand1        `refused`: where some refusal applies, the answer is the lowest number that applies and every slice is unchanged;
 --                    `completes`: where none applies the answer is 0, the call completes
 --     EmptyRefused   of a call that hands back a part and no number: where a refusal applies, the part is empty
@@ -9,9 +8,9 @@
 -- Assumes nothing.
 use mathlib.Core.Path.{_≡_}
 use mathlib.Core.List.{List, [], _∷_}
-use Prim.Native.Nat.{ℕ, _≤_}
+use Prim.Native.Nat.{ℕ}
 use Rattle.refusal.specs.Refusal.{number}
-use Rattle.refusal.specs.Lowest.{Condition, Applies}
+use Rattle.refusal.specs.Lowest.{Condition, Applies, IsLowest}
 use Rattle.refusal.specs.declared.Refusal.{Refusal}
 use Rattle.refusal.specs.declared.Outcome.{Outcome}
 use Rattle.refusal.specs.declared.Outcome.the-variants.{Refused}
@@ -28,11 +27,8 @@ abbrev pub Unchanged : List Slice → Type 0
 Unchanged [] = Unit {0}
 Unchanged (s ∷ slices) = (s .exit ≡ s .entry) × Unchanged slices
 
-abbrev pub IsLowestOf : List Condition → Refusal → Type 0
-IsLowestOf rows why = Applies why rows × ((other : Refusal) → Applies other rows → number why ≤ number other)
-
 pub record Demand1 (rows : List Condition) (answer : ℕ) (slices : List Slice) : Type 0 where
-  pub refused : (some : Refusal) → Applies some rows → (why : Refusal) × IsLowestOf rows why × (answer ≡ number why) × Unchanged slices
+  pub refused : (some : Refusal) → Applies some rows → (why : Refusal) × IsLowest rows (Refused why) × (answer ≡ number why) × Unchanged slices
   pub completes : ((why : Refusal) → Applies why rows → ⊥) → answer ≡ 0
 
 abbrev pub EmptyRefused : List Condition → List ℕ → Type 0

@@ -12,13 +12,15 @@ use lib.Dec.{lit≤}
 use lib.ListN.{getD}
 use Rattle.algebra.specs.Ring.{CommRing}
 use Rattle.algebra.specs.OneMinusT.{⟨1-t⟩^}
+use Rattle.algebra.specs.Rounds.{Rounds}
 use Rattle.algebra.specs.PrimeField.{PrimeField, F65521, p-is, positive}
 use Rattle.refusal.specs.Limits.{maxWords}
 use Rattle.refusal.specs.Lowest.{lowest}
 use Rattle.refusal.specs.declared.Outcome.the-variants.{Done}
-use Rattle.lists.specs.Lists.{meaning}
+use Rattle.lists.specs.Lists.{meaning, scaled}
 use Rattle.euclid.specs.Quotients.{quotientOf, remainderOf}
-use Rattle.euclid.specs.Gcds.{gcdOf, commonPower, cofactorA, cofactorB}
+use Rattle.euclid.specs.Gcds.{roundsOf, gcdOf, countOf, commonPower, cofactorA, cofactorB}
+use Rattle.euclid.specs.Gcd.{rounds-are}
 use Rattle.euclid.specs.Greatest.{IsGreatest, gcd-is-greatest}
 use Rattle.euclid.specs.Cofactors.{cofactors-are, cofactors-only}
 use Rattle.albums.specs.Albums.{albumGcd}
@@ -38,7 +40,7 @@ use Rattle.album_gcd.proofs.Zeros.{nonzero}
 use Rattle.album_gcd.proofs.Finish.{each}
 
 module _ (F : PrimeField) where
-  open CommRing (F .series .ring) using (zero as 0ˢ, mul as _*ˢ_)
+  open CommRing (F .series .ring) using (Carrier as S, zero as 0ˢ, mul as _*ˢ_)
 
   infixl 70 _*ˢ_
   pub record Demand3 : Type 0 where
@@ -48,6 +50,8 @@ module _ (F : PrimeField) where
     -- the GCD of two lists: (1-t)^c·h divides both, and every polynomial that divides both divides it
     pub of-two : (f g h : List ℕ) → lowest (gcdRefusals (F .p) f g h) ≡ Done
         → IsGreatest F f g (⟨1-t⟩^ (F .series) (commonPower (f ∷ g ∷ [])) *ˢ meaning F (gcdOf F f g))
+    -- rounds: the number of document 01's rounds on the scaled forms, which the relation Rounds fixes (rounds-unique)
+    pub of-rounds : (f g : List ℕ) → (last : S) × Rounds (F .series) (scaled F g) (scaled F f) (countOf F f g) last
     -- the cofactors: a·f + b·g = (1-t)^(m-w)·h, and the conditions that fix both
     pub of-cofactors : (f g h a b : List ℕ) → lowest (cofactorRefusals (F .p) f g h a b) ≡ Done
         → CofactorsSo F f g (cofactorA F f g) (cofactorB F f g)
@@ -70,6 +74,7 @@ module _ (F : PrimeField) where
             λ f g h e.
             let r = gcd-ready F wide f g h e .0 in
             gcd-is-greatest F f g (r .coefficients-f) (r .coefficients-g) (r .some);
+        of-rounds = λ f g. (roundsOf F f g .last, rounds-are F f g);
         of-cofactors =
             λ f g h a b e.
             let r = cofactors-ready F wide f g h a b e .0 in

@@ -20,7 +20,7 @@ use Rattle.lists.specs.Extents.{significant-le}
 use Rattle.euclid.specs.Gcds.{commonPower}
 use Rattle.euclid.specs.Powers.{commonPower-le}
 use Rattle.gcd.specs.Calls.{gcdValues, GreatestSo}
-use Rattle.host.specs.Bytes.{bytesOf}
+use Rattle.lists.specs.Bytes.{bytesOf}
 
 positive : (why : Refusal) → T (leb 1 (number why))
 positive Count = tt

@@ -24,7 +24,7 @@ use Rattle.division.specs.Calls.{divideRefusals}
 use Rattle.gcd.specs.declared.Gcd.{Gcd}
 use Rattle.gcd.specs.declared.Gcd.the-variants as G
 use Rattle.gcd.specs.Calls.{gcdReply, gcdValues, gcdRefusals, Greatest}
-use Rattle.host.specs.Bytes.{wordsOf, bytesOf}
+use Rattle.lists.specs.Bytes.{wordsOf, bytesOf}
 use Rattle.host.specs.Calls.{productRows, divisionRows, gcdRows}
 use Rattle.host.specs.Workers.{badList, roomOf, gcdRoom}
 use Rattle.host.proofs.Fits.{good-list, both}

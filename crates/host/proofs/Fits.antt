@@ -12,10 +12,9 @@ use borrow.Author.Tests.{eqb-true, eqb-false, ltb-true, ltb-false, not-false, eq
 use Rattle.refusal.specs.Limits.{maxWords}
 use Rattle.refusal.proofs.First.{or-false}
 use Rattle.lists.specs.Refused.{wrongLength}
-use Rattle.host.specs.Bytes.{oddBytes, wordCount, wordsOf}
+use Rattle.lists.specs.Bytes.{oddBytes, wordCount, wordsOf, length-wordsOf}
 use Rattle.host.specs.Calls.{misfit}
 use Rattle.host.specs.Workers.{badList, roomOf, gcdRoom}
-use Rattle.host.proofs.Words.{length-wordsOf}
 
 -- an even number of bytes
 whole : (s : List ℕ) → oddBytes s ≡ false → length s ≡ 2 * wordCount s

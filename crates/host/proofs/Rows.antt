@@ -20,7 +20,7 @@ use Rattle.euclid.specs.Quotients.{steps}
 use Rattle.arithmetic.specs.Calls.{productRefusals}
 use Rattle.division.specs.Calls.{divideRefusals}
 use Rattle.gcd.specs.Calls.{gcdRefusals}
-use Rattle.host.specs.Bytes.{oddBytes, wordsOf}
+use Rattle.lists.specs.Bytes.{oddBytes, wordsOf}
 use Rattle.host.specs.Calls.{listsRefused, misfit, productRows, divisionRows, gcdRows}
 use Rattle.host.specs.Workers.{badList, roomOf, gcdRoom}
 use Rattle.host.proofs.Fits.{good-list, fits, room-fits, room-whole, gcd-room-fits}

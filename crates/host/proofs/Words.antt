@@ -8,25 +8,16 @@ use native.Mathlib.Omega.{arith}
 use lib.ListN.{length, getD, set, length-set}
 use Rattle.lists.specs.Tabulate.{length-tabulate, getD-tabulate}
 use Rattle.lists.proofs.Filled.{Filled, fill-step}
-use Rattle.host.specs.Bytes.{wordCount, wordsOf, bytesOf}
+use Rattle.lists.specs.Bytes.{wordAt, wordCount, wordsOf, bytesOf}
 
-pub length-wordsOf : (s : List ℕ) → length (wordsOf s) ≡ wordCount s
+pub word-at : (s : List ℕ) (k : ℕ) → k < wordCount s → getD (wordsOf s) k 0 ≡ wordAt s (2 * k)
 unfolding wordsOf
-length-wordsOf s = length-tabulate (wordCount s) (λ k. getD s (2 * k) 0 + 256 * getD s (2 * k + 1) 0)
-
-pub word-at : (s : List ℕ) (k : ℕ) → k < wordCount s → getD (wordsOf s) k 0 ≡ getD s (2 * k) 0 + 256 * getD s (2 * k + 1) 0
-unfolding wordsOf
-word-at s k l = getD-tabulate (wordCount s) (λ k. getD s (2 * k) 0 + 256 * getD s (2 * k + 1) 0) k l
+word-at s k l = getD-tabulate (wordCount s) _ k l
 
 -- the bytes of the words are there
 pub words-in : (s : List ℕ) (n : ℕ) → n ≡ wordCount s → 2 * n ≤ length s
 unfolding wordCount
 words-in s n e = omega (arith, div-add-mod (length s) 2)
-
-pub length-bytesOf : (l : List ℕ) → length (bytesOf l) ≡ 2 * length l
-unfolding bytesOf
-length-bytesOf [] = refl
-length-bytesOf (w ∷ l) = omega (arith, length-bytesOf l)
 
 twice : (k : ℕ) → 2 * suc k ≡ suc (suc (2 * k))
 twice k = omega arith

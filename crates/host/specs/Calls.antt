@@ -14,7 +14,7 @@ use Rattle.refusal.specs.declared.Refusal.the-variants.{Length, LooseWord, Over
 use Rattle.lists.specs.Degrees.{naiveDegree, significant}
 use Rattle.lists.specs.Refused.{wrongLength, hasLoose}
 use Rattle.euclid.specs.Quotients.{steps}
-use Rattle.host.specs.Bytes.{oddBytes, wordsOf}
+use Rattle.lists.specs.Bytes.{oddBytes, wordsOf}
 
 unfoldable pub listsRefused : ℕ → (f g : List ℕ) → List Condition
 listsRefused p f g =

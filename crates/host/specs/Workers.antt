@@ -10,7 +10,7 @@ use lib.Dec.{eqb, ltb}
 use lib.ListN.{length}
 use Rattle.refusal.specs.Limits.{maxWords}
 use Rattle.lists.specs.Refused.{wrongLength}
-use Rattle.host.specs.Bytes.{oddBytes, wordCount, wordsOf}
+use Rattle.lists.specs.Bytes.{oddBytes, wordCount, wordsOf}
 
 unfoldable pub badList : List ℕ → Bool
 badList s = oddBytes s || wrongLength maxWords (wordsOf s)

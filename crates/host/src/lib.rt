@@ -14,7 +14,7 @@ ghost use Rattle.lists.specs.Operations as of;
 ghost use Rattle.euclid.specs.Quotients.{quotientOf, remainderOf};
 ghost use Rattle.euclid.specs.Gcds.{gcdOf, padded};
 ghost use Rattle.gcd.specs.Calls.{gcdValues};
-ghost use Rattle.host.specs.Bytes.{wordCount, wordsOf, bytesOf};
+ghost use Rattle.lists.specs.Bytes.{wordCount, wordsOf, bytesOf};
 ghost use Rattle.host.specs.Calls.{productRows, divisionRows, gcdRows};
 ghost use Rattle.host.specs.Workers.{badList, roomOf, gcdRoom};
 use gcd::Gcd;

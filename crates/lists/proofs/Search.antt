@@ -1,17 +1,18 @@
 -- The searches of a list, one word on: for a loose word from the front, and for the last word that is not 0 from the top.
 -- Assumes nothing.
-use mathlib.Core.Path.{_≡_, refl, sym, ap, _∙_}
-use mathlib.Core.Bool.{true, false, cond}
+use mathlib.Core.Path.{_≡_, sym, ap, _∙_}
+use mathlib.Core.Bool.{true, false}
 use mathlib.Core.List.{List, [], _∷_}
 use Prim.Native.Nat.{ℕ, zero, suc, _+_, _-_, _≤_, _<_}
 use native.Mathlib.Numerals.{add-one}
 use native.Mathlib.Omega.{arith}
-use lib.Dec.{eqb, leb}
+use lib.Dec.{leb}
 use lib.ListN.{length, getD, drop}
 use lib.Seq.{drop-cons, drop-length}
-use borrow.Author.Tests.{leb-false, le-leb, lt-leb, eq-eqb, ne-eqb}
+use borrow.Author.Tests.{leb-false, le-leb, lt-leb}
 use Rattle.refusal.proofs.First.{or-false}
-use Rattle.lists.specs.Degrees.{significantIn, significant}
+use Rattle.lists.specs.Degrees.{significantIn}
+use Rattle.lists.specs.Extents.{significantIn-none, significantIn-zero, significantIn-nonzero}
 use Rattle.lists.specs.Refused.{hasLoose}
 
 module _ (p : ℕ) where
@@ -38,15 +39,13 @@ less : (n : ℕ) → suc n - 1 ≡ n
 less n = omega arith
 
 pub significant-here : (c : List ℕ) (n : ℕ) → 0 < n → (getD c (n - 1) 0 ≡ 0 → ⊥) → significantIn n c ≡ n
-unfolding significantIn
 significant-here c zero l h = absurd (omega arith)
-significant-here c (suc n) l h = ap (λ b. cond b (significantIn n c) (suc n)) (ne-eqb (getD c n 0) 0 (λ z. h (ap (λ k. getD c k 0) (less n) ∙ z)))
+significant-here c (suc n) l h = significantIn-nonzero n c (λ z. h (ap (λ k. getD c k 0) (less n) ∙ z))
 
 pub significant-on : (c : List ℕ) (n : ℕ) → 0 < n → getD c (n - 1) 0 ≡ 0 → significantIn n c ≡ significantIn (n - 1) c
-unfolding significantIn
 significant-on c zero l h = absurd (omega arith)
-significant-on c (suc n) l h = ap (λ b. cond b (significantIn n c) (suc n)) (eq-eqb (getD c n 0) 0 (sym (ap (λ k. getD c k 0) (less n)) ∙ h)) ∙ sym (ap (λ k. significantIn k c) (less n))
+significant-on c (suc n) l h =
+    significantIn-zero n c (sym (ap (λ k. getD c k 0) (less n)) ∙ h) ∙ sym (ap (λ k. significantIn k c) (less n))
 
 pub significant-none : (c : List ℕ) (n : ℕ) → n ≡ 0 → significantIn n c ≡ 0
-unfolding significantIn
-significant-none c n e = rw e
+significant-none c n e = ap (λ k. significantIn k c) e ∙ significantIn-none c

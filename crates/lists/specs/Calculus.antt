@@ -1,4 +1,5 @@
 -- The derivative of a list means the derivative, and a list is evaluated to the value of its meaning.
+--     derivative-meaning, evaluate-meaning      the theorems
 -- Assumes nothing.
 use mathlib.Core.Path.{_≡_, refl, sym, _∙_, ap, ap₂}
 use mathlib.Core.Bool.{cond}

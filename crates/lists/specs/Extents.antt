@@ -1,5 +1,8 @@
 -- The extent and the power of a list are what document 01 says: the extent is the largest k whose word is not 0, and the power is the
 -- exact number of factors 1-t of the meaning. The number of significant words is the size of the scaled form.
+--     extent-largest         the extent
+--     power-exact            the power
+--     significant-is-size    the number of significant words
 -- Assumes nothing.
 use mathlib.Core.Path.{_≡_, refl, sym, _∙_, ap}
 use mathlib.Core.Bool.{cond}
@@ -15,22 +18,22 @@ use Rattle.algebra.specs.Polynomial.{Below, below-mono, zero-of-below}
 use Rattle.algebra.specs.OneMinusT.{Split}
 use Rattle.algebra.specs.Homogenise.{hom, hom-strip, valueAt1-hom}
 use Rattle.algebra.specs.Degree.{Degree, size, size-0, size-yes, size-no, size-below, size-extent, size-least, size-same}
-use Rattle.algebra.specs.PrimeField.{PrimeField, scalarField}
+use Rattle.algebra.specs.PrimeField.{PrimeField, scalars, scalarField}
 use Rattle.lists.specs.Degrees.{naiveDegree, significantIn, significant, extent, power}
 use Rattle.lists.specs.Lists.{Coefficients, meaning, scaled}
 use Rattle.lists.specs.Scaled.{coefficient-zero, coefficient-nonzero, coeff-scaled, below-scaled, meaning-hom}
 
-in-none : (c : List ℕ) → significantIn 0 c ≡ 0
+pub significantIn-none : (c : List ℕ) → significantIn 0 c ≡ 0
 unfolding significantIn
-in-none c = refl
+significantIn-none c = refl
 
-in-zero : (n : ℕ) (c : List ℕ) → getD c n 0 ≡ 0 → significantIn (suc n) c ≡ significantIn n c
+pub significantIn-zero : (n : ℕ) (c : List ℕ) → getD c n 0 ≡ 0 → significantIn (suc n) c ≡ significantIn n c
 unfolding significantIn
-in-zero n c e = ap (λ b. cond b (significantIn n c) (suc n)) (eq-eqb (getD c n 0) 0 e)
+significantIn-zero n c e = ap (λ b. cond b (significantIn n c) (suc n)) (eq-eqb (getD c n 0) 0 e)
 
-in-nonzero : (n : ℕ) (c : List ℕ) → ¬ (getD c n 0 ≡ 0) → significantIn (suc n) c ≡ suc n
+pub significantIn-nonzero : (n : ℕ) (c : List ℕ) → ¬ (getD c n 0 ≡ 0) → significantIn (suc n) c ≡ suc n
 unfolding significantIn
-in-nonzero n c h = ap (λ b. cond b (significantIn n c) (suc n)) (ne-eqb (getD c n 0) 0 h)
+significantIn-nonzero n c h = ap (λ b. cond b (significantIn n c) (suc n)) (ne-eqb (getD c n 0) 0 h)
 
 -- r is the number of words up to the last of the first n that is not 0
 record Last (n : ℕ) (c : List ℕ) (r : ℕ) : Type 0 where
@@ -40,17 +43,17 @@ record Last (n : ℕ) (c : List ℕ) (r : ℕ) : Type 0 where
 
 significantIn-last : (n : ℕ) (c : List ℕ) → Last n c (significantIn n c)
 significantIn-last zero c =
-    rw (in-none c) (record { few = omega arith; last = λ l. absurd (omega arith); after = λ k l j. absurd (omega arith) })
+    rw (significantIn-none c) (record { few = omega arith; last = λ l. absurd (omega arith); after = λ k l j. absurd (omega arith) })
 significantIn-last (suc n) c = go (significantIn-last n c) (ℕ-discrete (getD c n 0) 0)
   where
     go : Last n c (significantIn n c) → Dec (getD c n 0 ≡ 0) → Last (suc n) c (significantIn (suc n) c)
-    go ih (yes e) = rw (in-zero n c e) (record { few = N.le-trans (ih .few) (N.le-suc n); last = ih .last; after = λ k l j. before k l j (ℕ-discrete k n) })
+    go ih (yes e) = rw (significantIn-zero n c e) (record { few = N.le-trans (ih .few) (N.le-suc n); last = ih .last; after = λ k l j. before k l j (ℕ-discrete k n) })
       where
         before : (k : ℕ) → significantIn n c ≤ k → k < suc n → Dec (k ≡ n) → getD c k 0 ≡ 0
         before k l j (yes q) = ap (λ i. getD c i 0) q ∙ e
         before k l j (no q) = ih .after k l (omega arith)
     go ih (no h) =
-        rw (in-nonzero n c h)
+        rw (significantIn-nonzero n c h)
         (record { few = N.le-refl (suc n); last = λ l e. h (ap (λ i. getD c i 0) less ∙ e); after = λ k l j. absurd (omega arith) })
       where
         less : n ≡ suc n - 1
@@ -64,36 +67,42 @@ pub significant-extent : (c : List ℕ) → 0 < significant c → significant c 
 unfolding extent
 significant-extent c l = omega arith
 
+-- every word past the significant ones is 0
+pub after-significant : (c : List ℕ) (k : ℕ) → significant c ≤ k → getD c k 0 ≡ 0
+after-significant c k l = go (decLt k (length c))
+  where
+    go : Dec (k < length c) → getD c k 0 ≡ 0
+    go (yes i) = unfold significant in significantIn-last (length c) c .after k l i
+    go (no i) = List·getD-eq-default c 0 (omega arith)
+
 -- the extent is the largest k whose word is not 0
 pub extent-largest : (c : List ℕ) → 0 < significant c → (¬ (getD c (extent c) 0 ≡ 0)) × ((k : ℕ) → extent c < k → getD c k 0 ≡ 0)
-extent-largest c l = (unfold extent significant in significantIn-last (length c) c .last l, λ k j. after k j (decLt k (length c)))
-  where
-    after : (k : ℕ) → extent c < k → Dec (k < length c) → getD c k 0 ≡ 0
-    after k j (yes i) =
-        let e = significant-extent c l in
-        let h : significant c ≤ k = omega arith in
-        unfold significant in significantIn-last (length c) c .after k h i
-    after k j (no i) = List·getD-eq-default c 0 (omega arith)
+extent-largest c l = (
+  unfold extent significant in significantIn-last (length c) c .last l,
+  λ k j. after-significant c k (let e = significant-extent c l in omega arith),
+)
 
 module _ (F : PrimeField) where
-  open CommRing (F .series .ring) using (zero as 0ˢ)
+  open CommRing (scalars F) using (zero as 𝟘)
+  open CommRing (F .series .ring) using (Carrier as S, zero as 0ˢ)
 
-  significantIn-size : (n : ℕ) (c : List ℕ) → Coefficients F c → n ≤ length c → significantIn n c ≡ size (F .series) (scalarField F) n (scaled F c)
-  significantIn-size zero c g l = in-none c ∙ sym (size-0 (F .series) (scalarField F) (scaled F c))
-  significantIn-size (suc n) c g l = go (significantIn-size n c g (omega arith)) (ℕ-discrete (getD c n 0) 0)
+  -- the size of a series whose coefficients are 0 where the words are, and only there
+  pub significantIn-size : (n : ℕ) (c : List ℕ) (s : S) → ((k : ℕ) → k < n → getD c k 0 ≡ 0 → F .series .coeff s k ≡ 𝟘)
+      → ((k : ℕ) → k < n → ¬ (getD c k 0 ≡ 0) → ¬ (F .series .coeff s k ≡ 𝟘)) → significantIn n c ≡ size (F .series) (scalarField F) n s
+  significantIn-size zero c s zeros nonzeros = significantIn-none c ∙ sym (size-0 (F .series) (scalarField F) s)
+  significantIn-size (suc n) c s zeros nonzeros =
+      go (significantIn-size n c s (λ k l. zeros k (omega arith)) (λ k l. nonzeros k (omega arith))) (ℕ-discrete (getD c n 0) 0)
     where
-      go : significantIn n c ≡ size (F .series) (scalarField F) n (scaled F c) → Dec (getD c n 0 ≡ 0)
-          → significantIn (suc n) c ≡ size (F .series) (scalarField F) (suc n) (scaled F c)
-      go ih (yes e) =
-          in-zero n c e ∙ ih
-          ∙ sym (size-yes (F .series) (scalarField F) n (scaled F c) (coeff-scaled F c n ∙ coefficient-zero F c n e))
-      go ih (no h) =
-          in-nonzero n c h
-          ∙ sym (size-no (F .series) (scalarField F) n (scaled F c) (λ z. coefficient-nonzero F c n g l h (sym (coeff-scaled F c n) ∙ z)))
+      go : significantIn n c ≡ size (F .series) (scalarField F) n s → Dec (getD c n 0 ≡ 0)
+          → significantIn (suc n) c ≡ size (F .series) (scalarField F) (suc n) s
+      go ih (yes e) = significantIn-zero n c e ∙ ih ∙ sym (size-yes (F .series) (scalarField F) n s (zeros n (omega arith) e))
+      go ih (no h) = significantIn-nonzero n c h ∙ sym (size-no (F .series) (scalarField F) n s (nonzeros n (omega arith) h))
 
   pub significant-is-size : (c : List ℕ) → Coefficients F c → significant c ≡ size (F .series) (scalarField F) (length c) (scaled F c)
   unfolding significant
-  significant-is-size c g = significantIn-size (length c) c g (N.le-refl (length c))
+  significant-is-size c g =
+      significantIn-size (length c) c (scaled F c) (λ k l e. coeff-scaled F c k ∙ coefficient-zero F c k e)
+      (λ k l h z. coefficient-nonzero F c k g l h (sym (coeff-scaled F c k) ∙ z))
 
   pub significant-at : (n : ℕ) (c : List ℕ) → Coefficients F c → length c ≤ n → significant c ≡ size (F .series) (scalarField F) n (scaled F c)
   significant-at n c g l =

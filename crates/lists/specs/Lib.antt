@@ -1,5 +1,6 @@
 pub mod Tabulate
 pub mod Degrees
+pub mod Bytes
 pub mod Refused
 pub mod Lists
 pub mod Operations

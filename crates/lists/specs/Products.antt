@@ -1,5 +1,7 @@
 -- The product of two lists, and a list raised to a higher naive degree.
---     ones              the list of n + 1 words 1: its scaled form is (1+u)^n and it means 1
+--     ones                                the list of n + 1 words 1: its scaled form is (1+u)^n and it means 1
+--     product-unscaled, raise-product     formula (6) is the product of the scaled forms, and formula (4) the product with a list of ones
+--     product-meaning, raise-meaning      the product means the product, and the raised list means the same
 -- Assumes nothing.
 use mathlib.Core.Path.{_≡_, refl, sym, _∙_, ap, ap₂}
 use mathlib.Core.List.{List}
@@ -13,7 +15,7 @@ use Rattle.algebra.specs.Series.{t, ext, coeff-add, coeff-1-zero, coeff-1-suc, 
 use Rattle.algebra.specs.Polynomial.{Below, below-mono, below-C, below-mul}
 use Rattle.algebra.specs.Homogenise.{hom, hom-zero, hom-mul}
 use Rattle.algebra.specs.Substitute.{⟨1+u⟩, elevate}
-use Rattle.algebra.specs.Sum.{total, total-ext, total-mul, coeff-product}
+use Rattle.algebra.specs.Sum.{total-ext, total-mul, coeff-product}
 use Rattle.algebra.specs.Choose.{choose-zero, choose-0-suc, pascal}
 use Rattle.algebra.specs.PrimeField.{PrimeField, scalars, residue, value, inverse, value-lt, residue-0, residue-1, residue-add}
 use Rattle.lists.specs.Tabulate.{tabulate, length-tabulate, getD-tabulate, tabulate-ext}

@@ -1,5 +1,8 @@
 -- Laws of the scaled form of a list, and of the list that has a given scaled form. At naive degree n the meaning is the scaled form
 -- homogenised, so a list is known by its length with its scaled form, or with its meaning.
+--     meaning-hom                              the meaning is the scaled form, homogenised
+--     scaled-unscaled, unscaled-scaled         the list of a scaled form, and the scaled form of a list, each undo the other
+--     scaled-injective, meaning-injective      two lists of one length with one scaled form, or with one meaning, are equal word for word
 -- Assumes nothing.
 use mathlib.Core.Path.{_≡_, sym, _∙_, ap, ap₂, subst}
 use mathlib.Core.List.{List, [], _∷_}
@@ -19,6 +22,7 @@ use Rattle.algebra.specs.Choose.{choose-above, choose-self}
 use Rattle.algebra.specs.PrimeField.{PrimeField, scalars, scalarField, positive, residue, value, inverse, residue-value, value-residue, value-lt, residue-0, residue-1, residue-nonzero, choose-residue-nonzero, inverse-cancel, inverse-cancel′}
 use Rattle.lists.specs.Tabulate.{length-tabulate, getD-tabulate}
 use Rattle.lists.specs.Degrees.{naiveDegree}
+use Rattle.lists.specs.Refused.{Listed}
 use Rattle.lists.specs.Lists.{Coefficients, word, binomial, coefficient, meaning, scaled, unscaled}
 
 pub length-naive : (c : List ℕ) → 0 < length c → length c ≡ suc (naiveDegree c)
@@ -42,6 +46,10 @@ module _ (F : PrimeField) where
       go : (k : ℕ) → Dec (k < length c) → getD c k 0 < F .p
       go k (yes j) = h k j
       go k (no j) = rw (List·getD-eq-default c 0 {n = k} (omega arith)) (positive F)
+
+  -- a list that no call refuses
+  pub coefficients-listed : {most : ℕ} → most ≤ F .p → {c : List ℕ} → Listed (F .p) most c → Coefficients F c
+  coefficients-listed wide l = record { short = let s = l .short in omega arith; below = l .words }
 
   -- no binomial coefficient of a list of at most p words is 0 in the field
   pub binomial-nonzero : (n k : ℕ) → n < F .p → k ≤ n → ¬ (binomial F n k ≡ 𝟘)

@@ -1,4 +1,5 @@
 -- The top zeros removed: the same scaled form at the least naive degree, so the meaning loses its factors 1-t.
+--     trim-scaled, trim-meaning      the theorems
 -- Assumes nothing.
 use mathlib.Core.Path.{_≡_, sym, _∙_, ap, ap₂}
 use mathlib.Core.List.{List}

@@ -3,20 +3,19 @@
 --     scaledWords       the coefficients of a list's scaled form, as words
 --     Carries           the words are below p, and word k stands for coefficient k of the series
 -- Assumes nothing.
-use mathlib.Core.Path.{_≡_, sym, _∙_, ap, ap₂}
+use mathlib.Core.Path.{_≡_, sym, _∙_, ap}
 use mathlib.Core.List.{List}
-use Prim.Native.Nat.{ℕ, suc, _-_, _≤_, _<_}
-use native.Mathlib.Decide.{decLt, ℕ-discrete}
+use Prim.Native.Nat.{ℕ, _<_}
+use native.Mathlib.Decide.{decLt}
 use native.Mathlib.Omega.{arith}
-use lib.ListN.{getD, length, set, List·getD-eq-default}
-use lib.Seq.{ext-getD, getD-set-same, getD-set-other}
+use lib.ListN.{getD, length, List·getD-eq-default}
 use Rattle.algebra.specs.Ring.{CommRing}
 use Rattle.algebra.specs.Series.{coeff-mk, ext}
 use Rattle.algebra.specs.Polynomial.{Below}
-use Rattle.algebra.specs.PrimeField.{PrimeField, scalars, residue, value, inverse, residue-value, value-residue, residue-0, residue-nonzero, inverse-cancel′}
+use Rattle.algebra.specs.PrimeField.{PrimeField, scalars, positive, residue, value, residue-value, value-residue, value-lt, residue-0, residue-nonzero}
 use Rattle.lists.specs.Tabulate.{tabulate, length-tabulate, getD-tabulate}
-use Rattle.lists.specs.Lists.{binomial, coefficient, scaled, unscaled}
-use Rattle.lists.specs.Scaled.{binomial-nonzero, coeff-scaled, below-scaled, length-unscaled, getD-unscaled}
+use Rattle.lists.specs.Lists.{coefficient, scaled}
+use Rattle.lists.specs.Scaled.{coeff-scaled, below-scaled}
 
 module _ (F : PrimeField) where
   open CommRing (scalars F) using (Carrier as K, zero as 𝟘, mul as _⊗_)
@@ -68,6 +67,16 @@ module _ (F : PrimeField) where
   pub carries-below : {buf : List ℕ} {s : S} → Carries buf s → Below (F .series) (length buf) s
   carries-below {buf} {s} c =
       record { at = λ k l. sym (c .at k) ∙ ap (residue F) (List·getD-eq-default buf 0 l) ∙ residue-0 F }
+
+  -- the words of a scaled form stand for it
+  pub carries-scaled : (c : List ℕ) → Carries (scaledWords c) (scaled F c)
+  carries-scaled c = rw (← seriesOf-scaledWords c) (carries-seriesOf (λ k. low k (decLt k (length c))))
+    where
+      low : (k : ℕ) → Dec (k < length c) → getD (scaledWords c) k 0 < F .p
+      low k (yes l) = rw (getD-scaledWords c k l) (value-lt F _)
+      low k (no l) =
+          let e = length-scaledWords c in
+          rw (List·getD-eq-default (scaledWords c) 0 {n = k} (omega arith)) (positive F)
 
   -- the tests of a search for the last word that is not 0
   pub carries-zero : {buf : List ℕ} {s : S} → Carries buf s → (k : ℕ) → getD buf k 0 ≡ 0 → F .series .coeff s k ≡ 𝟘

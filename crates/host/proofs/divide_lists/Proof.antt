@@ -5,7 +5,7 @@ use native.Mathlib.Omega.{arith}
 use lib.Dec.{leb→le}
 use borrow.Author.Needs.{needs}
 use Rattle.kernels.proofs.Fits.{prefix-length}
-use Rattle.host.specs.Bytes.{wordCount}
+use Rattle.lists.specs.Bytes.{wordCount}
 use Rattle.host.proofs.Fits.{good-half, room-short}
 use Rattle.host.proofs.divide_lists.Statement.{statement}
 use Rattle.host.proofs.divide_lists.Tie as tie

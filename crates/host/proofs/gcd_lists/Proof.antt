@@ -4,7 +4,7 @@ use mathlib.Core.Path.{refl, sym, _∙_}
 use native.Mathlib.Omega.{arith}
 use borrow.Author.Needs.{needs}
 use Rattle.kernels.proofs.Fits.{prefix-length}
-use Rattle.host.specs.Bytes.{wordCount}
+use Rattle.lists.specs.Bytes.{wordCount}
 use Rattle.host.proofs.Fits.{good-half, gcd-room-short}
 use Rattle.host.proofs.gcd_lists.Statement.{statement}
 use Rattle.host.proofs.gcd_lists.Tie as tie

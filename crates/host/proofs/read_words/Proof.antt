@@ -6,8 +6,8 @@ use native.Mathlib.Omega.{arith}
 use lib.ListN.{length, length-set}
 use borrow.Author.Needs.{needs}
 use Rattle.lists.proofs.Filled.{Filled, fill-start, fill-step, fill-end}
-use Rattle.host.specs.Bytes.{wordsOf}
-use Rattle.host.proofs.Words.{length-wordsOf, word-at, words-in}
+use Rattle.lists.specs.Bytes.{wordsOf, length-wordsOf}
+use Rattle.host.proofs.Words.{word-at, words-in}
 use Rattle.host.proofs.read_words.Statement.{statement}
 use Rattle.host.proofs.read_words.Tie as tie
 

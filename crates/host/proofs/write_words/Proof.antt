@@ -6,8 +6,8 @@ use native.Mathlib.Omega.{arith}
 use lib.ListN.{length, length-set}
 use borrow.Author.Needs.{needs}
 use Rattle.lists.proofs.Filled.{Filled, fill-start, fill-end}
-use Rattle.host.specs.Bytes.{bytesOf}
-use Rattle.host.proofs.Words.{length-bytesOf, two-more}
+use Rattle.lists.specs.Bytes.{bytesOf, length-bytesOf}
+use Rattle.host.proofs.Words.{two-more}
 use Rattle.host.proofs.write_words.Statement.{statement}
 use Rattle.host.proofs.write_words.Tie as tie
 

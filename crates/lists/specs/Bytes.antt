@@ -1,15 +1,21 @@
 -- Words as bytes: two bytes to a word, low byte first.
+--     wordAt          the word at a place of some bytes
 --     oddBytes        the number of bytes is odd, so they are no words
 --     wordCount       the number of whole words
 --     wordsOf         the words of some bytes
 --     bytesOf         the bytes of some words
 -- Assumes nothing.
+use mathlib.Core.Path.{_≡_, refl}
 use mathlib.Core.Bool.{Bool}
 use mathlib.Core.List.{List, [], _∷_}
 use Prim.Native.Nat.{ℕ, _+_, _*_, _/_, _%_}
+use native.Mathlib.Omega.{arith}
 use lib.Dec.{eqb}
 use lib.ListN.{length, getD}
-use Rattle.lists.specs.Tabulate.{tabulate}
+use Rattle.lists.specs.Tabulate.{tabulate, length-tabulate}
+
+abbrev pub wordAt : List ℕ → ℕ → ℕ
+wordAt s at = getD s at 0 + 256 * getD s (at + 1) 0
 
 unfoldable pub oddBytes : List ℕ → Bool
 oddBytes s = eqb (length s % 2) 1
@@ -18,8 +24,17 @@ unfoldable pub wordCount : List ℕ → ℕ
 wordCount s = length s / 2
 
 unfoldable pub wordsOf : List ℕ → List ℕ
-wordsOf s = tabulate (wordCount s) (λ k. getD s (2 * k) 0 + 256 * getD s (2 * k + 1) 0)
+wordsOf s = tabulate (wordCount s) (λ k. wordAt s (2 * k))
 
 unfoldable pub bytesOf : List ℕ → List ℕ
 bytesOf [] = []
 bytesOf (w ∷ words) = w % 256 ∷ w / 256 ∷ bytesOf words
+
+pub length-wordsOf : (s : List ℕ) → length (wordsOf s) ≡ wordCount s
+unfolding wordsOf
+length-wordsOf s = length-tabulate (wordCount s) _
+
+pub length-bytesOf : (words : List ℕ) → length (bytesOf words) ≡ 2 * length words
+unfolding bytesOf
+length-bytesOf [] = refl
+length-bytesOf (w ∷ words) = omega (arith, length-bytesOf words)

@@ -29,7 +29,7 @@ use Rattle.euclid.specs.Loops.{length-padded, padded-is}
 use Rattle.albums.specs.Folds.{zeroStart, turn, foldGcd, turn-zero, turn-nonzero, fold-none, fold-drop, start-listed, turn-listed}
 use Rattle.gcd.specs.declared.Gcd.the-variants as G
 use Rattle.gcd.specs.Calls.{gcdReply, gcdValues, gcdRefusals}
-use Rattle.gcd.specs.Ready.{judged-done}
+use Rattle.gcd.proofs.Ready.{judged-done}
 use Rattle.album_gcd.specs.Workers.{Held, Turned, Folded}
 use Rattle.album_gcd.proofs.Lists.{numbered, held-take}
 

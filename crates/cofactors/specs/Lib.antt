@@ -1,3 +1,2 @@
 pub mod Calls
-pub mod Rows
-pub mod Results
+pub mod Workers

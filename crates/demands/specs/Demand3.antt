@@ -30,9 +30,9 @@ use Rattle.division.specs.Calls.{divideRefusals, DividesSo}
 use Rattle.division.proofs.Judged.{divide-fits}
 use Rattle.division.proofs.Answers.{divides-so}
 use Rattle.gcd.specs.Calls.{gcdRefusals}
-use Rattle.gcd.specs.Ready.{gcd-ready}
+use Rattle.gcd.proofs.Ready.{gcd-ready}
 use Rattle.cofactors.specs.Calls.{cofactorRefusals, CofactorsSo}
-use Rattle.cofactors.specs.Results.{cofactors-ready}
+use Rattle.cofactors.proofs.Results.{cofactors-ready}
 use Rattle.album_gcd.specs.Calls.{albumGcdRefusals}
 use Rattle.album_gcd.proofs.Judging.{judged-fine}
 use Rattle.album_gcd.proofs.Lists.{passed-each}

@@ -1,6 +1,2 @@
 pub mod Calls
-pub mod Parts
-pub mod Buffers
-pub mod Turning
-pub mod Ready
-pub mod Finish
+pub mod Workers

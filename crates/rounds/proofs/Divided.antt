@@ -20,7 +20,7 @@ use Rattle.lists.specs.Extents.{significant-le, extent-largest}
 use Rattle.reduction.specs.Rows.{reduced, digits, reduceFits}
 use Rattle.reduction.proofs.Loops.{reduce-fits}
 use Rattle.rounds.specs.Round.{lastWord, roundSteps, roundFits, remaining, quotientWords}
-use Rattle.rounds.specs.Turns.{round-ready}
+use Rattle.rounds.proofs.Turns.{round-ready}
 
 unfit : (p : ℕ) (x y q : List ℕ) → (0 < significant y → lastWord y < p → roundSteps x y ≤ length q → ⊥) → roundFits p x y q ≡ false
 unfolding roundFits

@@ -1,3 +1,4 @@
+pub mod Turns
 pub mod Partway
 pub mod Written
 pub mod Divided

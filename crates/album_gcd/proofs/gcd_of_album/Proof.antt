@@ -4,7 +4,7 @@ use mathlib.Core.Path.{refl}
 use borrow.Author.Needs.{needs}
 use Rattle.algebra.specs.PrimeField.{F65521}
 use Rattle.refusal.specs.Limits.{maxWords}
-use Rattle.gcd.specs.Buffers.{getD-zeros}
+use Rattle.gcd.proofs.Buffers.{getD-zeros}
 use Rattle.album_gcd.proofs.gcd_of_album.Statement.{statement}
 use Rattle.album_gcd.proofs.gcd_of_album.Tie as tie
 

@@ -9,7 +9,8 @@ use borrow.Author.Needs.{needs}
 use Rattle.algebra.specs.PrimeField.{F65521}
 use Rattle.refusal.specs.Limits.{maxWords}
 use Rattle.lists.specs.Degrees.{significant}
-use Rattle.cofactors.specs.Rows.{partX, Carried, Carries-on, carried-round, carried-end}
+use Rattle.cofactors.specs.Workers.{partX, Carried}
+use Rattle.cofactors.proofs.Rounds.{Carries-on, carried-round, carried-end}
 use Rattle.cofactors.proofs.all_rounds.Statement.{statement}
 use Rattle.cofactors.proofs.all_rounds.Tie as tie
 

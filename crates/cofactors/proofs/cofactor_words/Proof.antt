@@ -2,7 +2,7 @@
 -- Assumes nothing.
 use native.Mathlib.Omega.{arith}
 use borrow.Author.Needs.{needs}
-use Rattle.cofactors.specs.Results.{words-short, words-long}
+use Rattle.cofactors.proofs.Slices.{words-short, words-long}
 use Rattle.cofactors.proofs.cofactor_words.Statement.{statement}
 use Rattle.cofactors.proofs.cofactor_words.Tie as tie
 

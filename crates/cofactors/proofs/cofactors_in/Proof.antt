@@ -2,7 +2,7 @@
 -- Assumes nothing.
 use borrow.Author.Needs.{needs}
 use Rattle.algebra.specs.PrimeField.{F65521}
-use Rattle.cofactors.specs.Results.{last-row, slices-short, results}
+use Rattle.cofactors.proofs.Results.{last-row, slices-short, results}
 use Rattle.cofactors.proofs.cofactors_in.Statement.{statement}
 use Rattle.cofactors.proofs.cofactors_in.Tie as tie
 

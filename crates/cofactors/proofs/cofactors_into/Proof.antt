@@ -2,7 +2,7 @@
 -- Assumes nothing.
 use mathlib.Core.Path.{refl}
 use borrow.Author.Needs.{needs}
-use Rattle.gcd.specs.Buffers.{getD-zeros}
+use Rattle.gcd.proofs.Buffers.{getD-zeros}
 use Rattle.cofactors.proofs.cofactors_into.Statement.{statement}
 use Rattle.cofactors.proofs.cofactors_into.Tie as tie
 

@@ -11,9 +11,10 @@ use Rattle.refusal.specs.Lowest.{lowest}
 use Rattle.refusal.specs.Limits.{maxWords}
 use Rattle.field.specs.Field.{p}
 use Rattle.euclid.specs.Gcds.{cofactorA, cofactorB}
-use Rattle.gcd.specs.Ready.{Ready}
-use Rattle.gcd.specs.Finish.{refused}
-use Rattle.cofactors.specs.Results.{Slices, cofactors-ready, cofactors-answered, kept}
+use Rattle.gcd.specs.Workers.{Ready}
+use Rattle.gcd.proofs.Finish.{refused}
+use Rattle.cofactors.specs.Workers.{Slices}
+use Rattle.cofactors.proofs.Results.{cofactors-ready, cofactors-answered, kept}
 use Rattle.cofactors.specs.Calls.{cofactorRefusals}
 use Rattle.cofactors.proofs.find_cofactors.Statement.{statement}
 use Rattle.cofactors.proofs.find_cofactors.Tie as tie

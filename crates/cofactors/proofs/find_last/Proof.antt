@@ -4,8 +4,8 @@ use native.Mathlib.Omega.{arith}
 use borrow.Author.Needs.{needs}
 use Rattle.algebra.specs.PrimeField.{F65521}
 use Rattle.refusal.specs.Limits.{maxWords}
-use Rattle.cofactors.specs.Results.{found}
-use Rattle.cofactors.specs.Rows.{carried-start}
+use Rattle.cofactors.proofs.Results.{found}
+use Rattle.cofactors.proofs.Start.{carried-start}
 use Rattle.cofactors.proofs.find_last.Statement.{statement}
 use Rattle.cofactors.proofs.find_last.Tie as tie
 

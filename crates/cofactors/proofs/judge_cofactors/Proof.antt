@@ -2,7 +2,7 @@
 -- Assumes nothing.
 use mathlib.Core.Path.{sym, _∙_}
 use borrow.Author.Needs.{needs}
-use Rattle.gcd.specs.Ready.{judged-lists, judged-zero, judged-misfit, judged-done}
+use Rattle.gcd.proofs.Ready.{judged-lists, judged-zero, judged-misfit, judged-done}
 use Rattle.cofactors.specs.Calls.{cofactorRefusals}
 use Rattle.cofactors.proofs.judge_cofactors.Statement.{statement}
 use Rattle.cofactors.proofs.judge_cofactors.Tie as tie

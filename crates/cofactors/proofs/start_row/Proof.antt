@@ -5,7 +5,7 @@ use lib.ListN.{length-take}
 use borrow.Author.Needs.{needs}
 use Rattle.algebra.specs.PrimeField.{F65521}
 use Rattle.refusal.specs.Limits.{maxWords}
-use Rattle.cofactors.specs.Rows.{row-started}
+use Rattle.cofactors.proofs.Start.{row-started}
 use Rattle.cofactors.proofs.start_row.Statement.{statement}
 use Rattle.cofactors.proofs.start_row.Tie as tie
 

@@ -3,7 +3,7 @@
 use native.Mathlib.Omega.{arith}
 use lib.ListN.{length-take}
 use borrow.Author.Needs.{needs}
-use Rattle.cofactors.specs.Rows.{taken-off}
+use Rattle.cofactors.proofs.Parts.{taken-off}
 use Rattle.cofactors.proofs.take_off.Statement.{statement}
 use Rattle.cofactors.proofs.take_off.Tie as tie
 

@@ -9,7 +9,8 @@ use borrow.Author.Needs.{needs}
 use Rattle.algebra.specs.PrimeField.{F65521}
 use Rattle.lists.specs.Degrees.{significant}
 use Rattle.lists.specs.Extents.{significant-le}
-use Rattle.cofactors.specs.Rows.{partX, turn-steps, turn-left, turn-row}
+use Rattle.cofactors.specs.Workers.{partX}
+use Rattle.cofactors.proofs.Turns.{turn-steps, turn-left, turn-row}
 use Rattle.cofactors.proofs.turn.Statement.{statement}
 use Rattle.cofactors.proofs.turn.Tie as tie
 

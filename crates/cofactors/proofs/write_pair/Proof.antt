@@ -7,8 +7,8 @@ use native.Mathlib.Omega.{arith}
 use lib.ListN.{length, take, drop, length-take, length-drop}
 use borrow.Author.Needs.{needs}
 use Rattle.algebra.specs.PrimeField.{F65521}
-use Rattle.cofactors.specs.Rows.{rest-is}
-use Rattle.cofactors.specs.Results.{front-kept, pair-written}
+use Rattle.cofactors.proofs.Parts.{rest-is}
+use Rattle.cofactors.proofs.Results.{front-kept, pair-written}
 use Rattle.cofactors.proofs.write_pair.Statement.{statement}
 use Rattle.cofactors.proofs.write_pair.Tie as tie
 

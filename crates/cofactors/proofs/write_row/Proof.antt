@@ -8,7 +8,7 @@ use lib.ListN.{length, take, drop, length-take}
 use borrow.Author.Needs.{needs}
 use Rattle.algebra.specs.PrimeField.{F65521}
 use Rattle.lists.specs.Extents.{significant-le}
-use Rattle.cofactors.specs.Results.{front-kept, row-written}
+use Rattle.cofactors.proofs.Results.{front-kept, row-written}
 use Rattle.cofactors.proofs.write_row.Statement.{statement}
 use Rattle.cofactors.proofs.write_row.Tie as tie
 

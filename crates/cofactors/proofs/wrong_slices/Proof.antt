@@ -1,7 +1,7 @@
 -- `cofactors::wrong_slices` meets its contract: its tests are those of `wrongSlices`.
 -- Assumes nothing.
 use borrow.Author.Needs.{needs}
-use Rattle.cofactors.specs.Results.{wrong-h, wrong-a, wrong-b}
+use Rattle.cofactors.proofs.Slices.{wrong-h, wrong-a, wrong-b}
 use Rattle.cofactors.proofs.wrong_slices.Statement.{statement}
 use Rattle.cofactors.proofs.wrong_slices.Tie as tie
 

@@ -9,7 +9,8 @@ use borrow.Author.Needs.{needs}
 use Rattle.algebra.specs.PrimeField.{F65521}
 use Rattle.refusal.specs.Limits.{maxWords}
 use Rattle.lists.specs.Degrees.{significant}
-use Rattle.gcd.specs.Turning.{Turning, Turned, turning-start, turn, turning-count, turning-last}
+use Rattle.gcd.specs.Workers.{Turning}
+use Rattle.gcd.proofs.Turning.{Turned, turning-start, turn, turning-count, turning-last}
 use Rattle.gcd.proofs.all_rounds.Statement.{statement}
 use Rattle.gcd.proofs.all_rounds.Tie as tie
 

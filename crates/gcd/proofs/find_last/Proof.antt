@@ -4,7 +4,7 @@ use mathlib.Core.Path.{_∙_}
 use native.Mathlib.Omega.{arith}
 use Rattle.algebra.specs.PrimeField.{F65521}
 use Rattle.refusal.specs.Limits.{maxWords}
-use Rattle.gcd.specs.Finish.{ready-count, ready-last}
+use Rattle.gcd.proofs.Finish.{ready-count, ready-last}
 use borrow.Author.Needs.{needs}
 use Rattle.gcd.proofs.find_last.Statement.{statement}
 use Rattle.gcd.proofs.find_last.Tie as tie

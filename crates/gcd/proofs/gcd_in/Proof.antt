@@ -5,7 +5,7 @@ use native.Mathlib.Omega.{arith}
 use Rattle.algebra.specs.PrimeField.{F65521}
 use Rattle.refusal.specs.Limits.{maxWords}
 use Rattle.euclid.specs.Gcds.{padded}
-use Rattle.gcd.specs.Finish.{gcd-done}
+use Rattle.gcd.proofs.Finish.{gcd-done}
 use borrow.Author.Needs.{needs}
 use Rattle.gcd.proofs.gcd_in.Statement.{statement}
 use Rattle.gcd.proofs.gcd_in.Tie as tie

@@ -3,7 +3,7 @@
 use mathlib.Core.Path.{refl}
 use borrow.Author.Needs.{needs}
 use Rattle.refusal.specs.Limits.{maxWords}
-use Rattle.gcd.specs.Buffers.{getD-zeros}
+use Rattle.gcd.proofs.Buffers.{getD-zeros}
 use Rattle.gcd.proofs.gcd_into.Statement.{statement}
 use Rattle.gcd.proofs.gcd_into.Tie as tie
 

@@ -11,8 +11,9 @@ use Rattle.refusal.specs.Lowest.{lowest}
 use Rattle.refusal.specs.declared.Outcome.the-variants.{Done}
 use Rattle.field.specs.Field.{p}
 use Rattle.gcd.specs.Calls.{gcdRefusals}
-use Rattle.gcd.specs.Ready.{Ready, gcd-ready}
-use Rattle.gcd.specs.Finish.{refused, answered}
+use Rattle.gcd.specs.Workers.{Ready}
+use Rattle.gcd.proofs.Ready.{gcd-ready}
+use Rattle.gcd.proofs.Finish.{refused, answered}
 use borrow.Author.Needs.{needs}
 use Rattle.gcd.proofs.gcd_of.Statement.{statement}
 use Rattle.gcd.proofs.gcd_of.Tie as tie

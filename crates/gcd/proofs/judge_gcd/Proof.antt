@@ -7,7 +7,7 @@ use lib.ListN.{length}
 use borrow.Author.Tests.{ne-eqb, eq-eqb}
 use Rattle.refusal.specs.Limits.{maxWords}
 use Rattle.gcd.specs.Calls.{gcdRefusals}
-use Rattle.gcd.specs.Ready.{judged-lists, judged-zero, judged-misfit, judged-done}
+use Rattle.gcd.proofs.Ready.{judged-lists, judged-zero, judged-misfit, judged-done}
 use borrow.Author.Needs.{needs}
 use Rattle.gcd.proofs.judge_gcd.Statement.{statement}
 use Rattle.gcd.proofs.judge_gcd.Tie as tie

@@ -4,7 +4,7 @@ use native.Mathlib.Omega.{arith}
 use lib.ListN.{length-take}
 use Rattle.algebra.specs.PrimeField.{F65521}
 use Rattle.refusal.specs.Limits.{maxWords}
-use Rattle.gcd.specs.Buffers.{holds-scaled}
+use Rattle.gcd.proofs.Buffers.{holds-scaled}
 use borrow.Author.Needs.{needs}
 use Rattle.gcd.proofs.scale_into.Statement.{statement}
 use Rattle.gcd.proofs.scale_into.Tie as tie

@@ -6,7 +6,7 @@ use lib.ListN.{length-take}
 use borrow.Author.Needs.{needs}
 use Rattle.algebra.specs.PrimeField.{F65521}
 use Rattle.lists.specs.Extents.{significant-le}
-use Rattle.gcd.specs.Parts.{significant-put, left-part}
+use Rattle.gcd.proofs.Parts.{significant-put, left-part}
 use Rattle.gcd.proofs.turn.Statement.{statement}
 use Rattle.gcd.proofs.turn.Tie as tie
 

@@ -4,7 +4,7 @@ use native.Mathlib.Omega.{arith}
 use Rattle.algebra.specs.PrimeField.{F65521}
 use Rattle.refusal.specs.Limits.{maxWords}
 use Rattle.lists.specs.Extents.{significant-le}
-use Rattle.gcd.specs.Finish.{gcd-written}
+use Rattle.gcd.proofs.Finish.{gcd-written}
 use borrow.Author.Needs.{needs}
 use Rattle.gcd.proofs.write_gcd.Statement.{statement}
 use Rattle.gcd.proofs.write_gcd.Tie as tie

@@ -4,7 +4,7 @@ use native.Mathlib.Omega.{arith}
 use lib.ListN.{length-take}
 use borrow.Author.Needs.{needs}
 use Rattle.algebra.specs.PrimeField.{F65521, p-is}
-use Rattle.rounds.specs.Turns.{write-fits}
+use Rattle.rounds.proofs.Turns.{write-fits}
 use Rattle.rounds.proofs.Written.{unfit, written}
 use Rattle.rounds.proofs.write_list.Statement.{statement}
 use Rattle.rounds.proofs.write_list.Tie as tie

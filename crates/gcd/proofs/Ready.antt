@@ -1,11 +1,11 @@
--- What a call on two lists knows where it refuses nothing.
---     Ready n f g      the lists have at most n words, each below p, and are not both zero
---     judgedRows       the rows of document 01's table for a call on two lists that are not both zero, with a test of its result slices
+-- The rows of a call on two lists that are not both zero, as the chain of tests that the code makes, and what such a call knows where it
+-- refuses nothing.
+--     judgedRows       the rows, with a test of the result slices
 -- Assumes nothing.
 use mathlib.Core.Path.{_≡_, sym, _∙_}
 use mathlib.Core.Bool.{Bool, true, false, not}
 use mathlib.Core.List.{List, [], _∷_, _++_}
-use Prim.Native.Nat.{ℕ, _+_, _≤_, _<_}
+use Prim.Native.Nat.{ℕ, _+_, _≤_}
 use native.Mathlib.Omega.{arith}
 use lib.Dec.{eqb}
 use lib.ListN.{length}
@@ -18,18 +18,11 @@ use Rattle.refusal.specs.declared.Refusal.the-variants.{AllZero, Misfit}
 use Rattle.refusal.specs.declared.Outcome.the-variants.{Done, Refused}
 use Rattle.refusal.proofs.First.{refuse, or-else, first-then, refuse-done, or-else-done}
 use Rattle.lists.specs.Degrees.{significant}
-use Rattle.lists.specs.Lists.{Coefficients}
-use Rattle.lists.specs.Refused.{listRefusals, Listed}
+use Rattle.lists.specs.Scaled.{coefficients-listed}
+use Rattle.lists.specs.Refused.{listRefusals}
 use Rattle.lists.proofs.Judged.{two-listed}
 use Rattle.gcd.specs.Calls.{gcdRefusals}
-
-module _ (F : PrimeField) where
-  pub record Ready (n : ℕ) (f g : List ℕ) : Type 0 where
-    pub short-f : length f ≤ n
-    pub short-g : length g ≤ n
-    pub coefficients-f : Coefficients F f
-    pub coefficients-g : Coefficients F g
-    pub some : 0 < significant f + significant g
+use Rattle.gcd.specs.Workers.{Ready}
 
 -- a test of the result slices comes last
 abbrev pub judgedRows : ℕ → (f g : List ℕ) → Bool → List Condition
@@ -59,9 +52,6 @@ module _ (p : ℕ) (f g : List ℕ) (misfit : Bool) where
     judged-done z m = sym (rows-judged ∙ simp (e, z, m))
 
 module _ (F : PrimeField) (big : maxWords ≤ F .p) where
-  coefficients-list : (c : List ℕ) → Listed (F .p) maxWords c → Coefficients F c
-  coefficients-list c l = record { short = let s = l .short in omega arith; below = l .words }
-
   -- what a call knows that refuses nothing
   pub ready : (f g : List ℕ) (misfit : Bool) → lowest (judgedRows (F .p) f g misfit) ≡ Done → Ready F maxWords f g × (misfit ≡ false)
   ready f g misfit e =
@@ -73,8 +63,8 @@ module _ (F : PrimeField) (big : maxWords ≤ F .p) where
         record {
           short-f = l .0 .short;
           short-g = l .1 .short;
-          coefficients-f = coefficients-list f (l .0);
-          coefficients-g = coefficients-list g (l .1);
+          coefficients-f = coefficients-listed F big (l .0);
+          coefficients-g = coefficients-listed F big (l .1);
           some = omega arith;
         },
         m .0,

@@ -12,9 +12,8 @@ use lib.ListN.{length, getD, take, drop, length-take, take-append-drop, List·ge
 use lib.Seq.{take-take, take-at, drop-append-le, getD-take, getD-drop, getD-append-add}
 use Rattle.algebra.specs.PrimeField.{PrimeField}
 use Rattle.lists.specs.Degrees.{significant, extent}
-use Rattle.lists.specs.Extents.{significant-le, extent-largest}
+use Rattle.lists.specs.Extents.{significant-le, after-significant, extent-largest}
 use Rattle.rounds.specs.Round.{lastWord, roundSteps, roundFits, remaining, quotientWords}
-use Rattle.rounds.specs.Turns.{after-significant}
 
 -- words, then zeros
 pub getD-then-zeros : (x z : List ℕ) → ((k : ℕ) → getD z k 0 ≡ 0) → (k : ℕ) → getD (x ++ z) k 0 ≡ getD x k 0

@@ -1,6 +1,4 @@
--- How the rounds end, and what a GCD answers.
---     LastOf n f g x   the buffer x holds the last x of the rounds on f and g
---     gcdDone f g      the answer of the GCD of f and g: w, c and rounds
+-- How the rounds end, what is written from the last x, and what a GCD answers.
 -- Assumes nothing.
 use mathlib.Core.Path.{_≡_, sym, _∙_, ap, ap₂}
 use mathlib.Core.Bool.{true, cond}
@@ -9,7 +7,6 @@ use Prim.Native.Nat.{ℕ, suc, _-_, _<_}
 use native.Mathlib.Omega.{arith}
 use lib.ListN.{getD, length, take, List·getD-eq-default}
 use lib.Seq.{take-at}
-use borrow.Author.Tests.{lt-ltb}
 use Rattle.algebra.specs.Ring.{CommRing}
 use Rattle.algebra.specs.Series.{C}
 use Rattle.algebra.specs.Degree.{size}
@@ -34,27 +31,19 @@ use Rattle.euclid.specs.Gcd.{length-gcd, size-last, gcd-ends, gcd-rounds}
 use Rattle.euclid.specs.Greatest.{gcd-is-greatest}
 use Rattle.euclid.specs.Loops.{count-room, size-room, gcd-room, getD-padded}
 use Rattle.rounds.specs.Round.{writeFits, writtenList}
-use Rattle.rounds.specs.Turns.{significant-series, write-fits}
+use Rattle.rounds.proofs.Turns.{significant-series, write-fits}
 use Rattle.gcd.specs.declared.Gcd.{Gcd}
 use Rattle.gcd.specs.declared.Gcd.the-variants as G
 use Rattle.gcd.specs.Calls.{gcdReply, gcdValues, GreatestSo, Greatest}
-use Rattle.gcd.specs.Buffers.{Buffer, Holds, euclidOn, monicList}
-use Rattle.gcd.specs.Ready.{Ready}
+use Rattle.gcd.specs.Workers.{Ready, Buffer, Holds, euclidOn, monicList, LastOf, gcdDone}
+use Rattle.gcd.proofs.Ready.{ready}
 
 module _ (F : PrimeField) where
   open CommRing (F .series .ring) using (mul as _*ˢ_)
 
   infixl 70 _*ˢ_
-  pub record LastOf (n : ℕ) (f g last : List ℕ) : Type 0 where
-    pub buffer : Buffer F n last
-    pub size : significant last ≡ suc (naiveDegree (gcdOf F f g))
-    pub list : monicList F n (seriesOf F last) ≡ gcdOf F f g
-
-  unfoldable pub gcdDone : (f g : List ℕ) → Gcd
-  gcdDone f g = G.Done (record { 0 = naiveDegree (gcdOf F f g) }) (commonPower (f ∷ g ∷ [])) (countOf F f g)
-
   pub gcd-done : (f g : List ℕ) (w : NaiveDegree) (c rounds : ℕ) → w .0 ≡ naiveDegree (gcdOf F f g) → c ≡ commonPower (f ∷ g ∷ [])
-      → rounds ≡ countOf F f g → G.Done w c rounds ≡ gcdDone f g
+      → rounds ≡ countOf F f g → G.Done w c rounds ≡ gcdDone F f g
   unfolding gcdDone
   gcd-done f g w c rounds ew ec er =
       ap (λ n. G.Done (record { 0 = n }) c rounds) ew ∙ ap₂ (G.Done (record { 0 = naiveDegree (gcdOf F f g) })) ec er
@@ -92,7 +81,7 @@ module _ (F : PrimeField) where
       ready-count = ap (λ z. z .rounds) ready-euclid ∙ sym (count-room F n f g (r .short-f) (r .short-g))
 
       -- so the last x stands in its buffer
-      pub ready-last : {last : List ℕ} → Holds F n last (euclidOn F n x y .last) → LastOf n f g last
+      pub ready-last : {last : List ℕ} → Holds F n last (euclidOn F n x y .last) → LastOf F n f g last
       ready-last {last} hl =
           record {
             buffer = hl .buffer;

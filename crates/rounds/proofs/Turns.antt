@@ -7,27 +7,27 @@
 --     written-low                             a result depends on the first coefficients only
 -- Assumes nothing.
 use mathlib.Core.Path.{_≡_, refl, sym, _∙_, ap, subst}
-use mathlib.Core.Bool.{true, cond}
+use mathlib.Core.Bool.{true}
 use mathlib.Core.List.{List, _++_}
-use Prim.Native.Nat.{ℕ, zero, suc, _+_, _-_, _≤_, _<_}
+use Prim.Native.Nat.{ℕ, suc, _+_, _-_, _≤_, _<_}
 use native.Mathlib.Nat as N
-use native.Mathlib.Decide.{decLe, decLt, ℕ-discrete}
+use native.Mathlib.Decide.{decLe, decLt}
 use native.Mathlib.Omega.{arith}
 use lib.ListN.{length, getD, take, drop, length-append, length-take, length-drop, List·getD-append, List·getD-eq-default}
 use lib.Seq.{getD-take, getD-drop, getD-append-add, length-take-le}
-use borrow.Author.Tests.{le-leb, lt-ltb, eq-eqb, ne-eqb}
+use borrow.Author.Tests.{le-leb, lt-ltb}
 use Rattle.algebra.specs.Ring.{CommRing}
 use Rattle.algebra.specs.Series.{C, ext, coeff-0, coeff-C-mul}
 use Rattle.algebra.specs.Polynomial.{Below}
-use Rattle.algebra.specs.Degree.{size, size-0, size-yes, size-no, size-le, size-least}
+use Rattle.algebra.specs.Degree.{size, size-le, size-least}
 use Rattle.algebra.specs.Division.{remainder, quotient, remainder-zero, quotient-zero}
 use Rattle.algebra.specs.Euclid.{quotientBy, remainderBy, done, next, euclid, euclid-end, euclid-ok, round-law, remainder-small}
 use Rattle.algebra.specs.PrimeField.{PrimeField, scalars, scalarField, positive, residue, value, inverse, residue-0}
 use Rattle.field.specs.Field.{inverseOf}
 use Rattle.field.specs.Theorems.{residue-inverse}
 use Rattle.lists.specs.Tabulate.{tabulate-ext}
-use Rattle.lists.specs.Degrees.{significantIn, significant}
-use Rattle.lists.specs.Extents.{significant-le}
+use Rattle.lists.specs.Degrees.{significant}
+use Rattle.lists.specs.Extents.{significant-le, after-significant, significantIn-size}
 use Rattle.lists.specs.Lists.{binomial, unscaled}
 use Rattle.lists.specs.Words.{seriesOf, coeff-seriesOf, Carries, carries-seriesOf, carries-zero, carries-nonzero}
 use Rattle.euclid.specs.Gcds.{padded}
@@ -35,25 +35,7 @@ use Rattle.reduction.specs.Rows.{reduced, digits}
 use Rattle.reduction.specs.Steps.{length-reduced, length-digits, reduced-remainder, digits-quotient}
 use Rattle.rounds.specs.Round.{lastWord, roundSteps, roundFits, remaining, quotientWords, writeFits, writtenList}
 
--- every word past the significant ones is 0
-after-in : (n : ℕ) (c : List ℕ) (k : ℕ) → significantIn n c ≤ k → k < n → getD c k 0 ≡ 0
-unfolding significantIn
-after-in zero c k l h = absurd (N.not-suc-le-zero h)
-after-in (suc n) c k l h = go (after-in n c k) (ℕ-discrete (getD c n 0) 0) (ℕ-discrete k n)
-  where
-    go : (significantIn n c ≤ k → k < n → getD c k 0 ≡ 0) → Dec (getD c n 0 ≡ 0) → Dec (k ≡ n) → getD c k 0 ≡ 0
-    go ih (yes e) (yes q) = ap (λ i. getD c i 0) q ∙ e
-    go ih (yes e) (no q) = ih (rw (eq-eqb (getD c n 0) 0 e) at l) (omega arith)
-    go ih (no e) q = absurd (let j : suc n ≤ k = rw (ne-eqb (getD c n 0) 0 e) at l in omega arith)
-
-pub after-significant : (c : List ℕ) (k : ℕ) → significant c ≤ k → getD c k 0 ≡ 0
-after-significant c k l = go (decLt k (length c))
-  where
-    go : Dec (k < length c) → getD c k 0 ≡ 0
-    go (yes h) = after-in (length c) c k (unfold significant in l) h
-    go (no h) = List·getD-eq-default c 0 (omega arith)
-
--- so the significant words are all that a list says
+-- the significant words are all that a list says
 getD-significant : (c : List ℕ) (k : ℕ) → getD (take (significant c) c) k 0 ≡ getD c k 0
 getD-significant c k = go (decLt k (significant c))
   where
@@ -107,23 +89,10 @@ module _ (F : PrimeField) where
   below-seriesOf x =
       record { at = λ k l. coeff-seriesOf F x k ∙ ap (residue F) (List·getD-eq-default x 0 l) ∙ residue-0 F }
 
-  significantIn-size : (n : ℕ) {x : List ℕ} {s : S} → Carries F x s → significantIn n x ≡ size (F .series) (scalarField F) n s
-  unfolding significantIn
-  significantIn-size zero {x} {s} c = sym (size-0 (F .series) (scalarField F) s)
-  significantIn-size (suc n) {x} {s} c = go (significantIn-size n c) (ℕ-discrete (getD x n 0) 0)
-    where
-      go : significantIn n x ≡ size (F .series) (scalarField F) n s → Dec (getD x n 0 ≡ 0)
-          → significantIn (suc n) x ≡ size (F .series) (scalarField F) (suc n) s
-      go ih (yes e) =
-          ap (λ b. cond b (significantIn n x) (suc n)) (eq-eqb (getD x n 0) 0 e) ∙ ih
-          ∙ sym (size-yes (F .series) (scalarField F) n s (carries-zero F c n e))
-      go ih (no h) =
-          ap (λ b. cond b (significantIn n x) (suc n)) (ne-eqb (getD x n 0) 0 h)
-          ∙ sym (size-no (F .series) (scalarField F) n s (carries-nonzero F c n h))
-
   pub significant-size : (n : ℕ) {x : List ℕ} {s : S} → Carries F x s → length x ≡ n → significant x ≡ size (F .series) (scalarField F) n s
   unfolding significant
-  significant-size n {x} {s} c e = significantIn-size (length x) c ∙ ap (λ i. size (F .series) (scalarField F) i s) e
+  significant-size n {x} {s} c e =
+      significantIn-size F (length x) x s (λ k l. carries-zero F c k) (λ k l. carries-nonzero F c k) ∙ ap (λ i. size (F .series) (scalarField F) i s) e
 
   pub significant-series : (x : List ℕ) → ((k : ℕ) → getD x k 0 < F .p)
       → significant x ≡ size (F .series) (scalarField F) (length x) (seriesOf F x)

@@ -1,8 +1,4 @@
--- Buffers of n words that stand for series, and Euclid's rounds on two of them.
---     Buffer n x          n words, each below p
---     Holds n x s         a buffer whose words are the coefficients of s
---     euclidOn n x y      what Euclid's rounds answer on the series of x and y
---     monicList n s       the list of the scaled form s, of at most n coefficients, made to have last word 1
+-- Buffers of zeros, and the words of a scaled form in one.
 -- Assumes nothing.
 use mathlib.Core.Path.{_≡_, sym, _∙_, ap}
 use mathlib.Core.Bool.{cond}
@@ -16,13 +12,12 @@ use borrow.Author.Tests.{eq-eqb, le-leb}
 use Rattle.algebra.specs.Ring.{CommRing}
 use Rattle.algebra.specs.Series.{ext}
 use Rattle.algebra.specs.Degree.{size}
-use Rattle.algebra.specs.Euclid.{Euclid, euclid}
-use Rattle.algebra.specs.Monic.{monic}
-use Rattle.algebra.specs.PrimeField.{PrimeField, scalarField, positive, residue, value-lt}
-use Rattle.lists.specs.Lists.{scaled, unscaled}
-use Rattle.lists.specs.Words.{seriesOf, coeff-seriesOf, scaledWords, length-scaledWords, getD-scaledWords, seriesOf-scaledWords}
+use Rattle.algebra.specs.PrimeField.{PrimeField, residue}
+use Rattle.lists.specs.Lists.{scaled}
+use Rattle.lists.specs.Words.{seriesOf, coeff-seriesOf, scaledWords, length-scaledWords, seriesOf-scaledWords, carries-scaled}
 use Rattle.kernels.specs.Kernels.{scaleFits}
-use Rattle.gcd.specs.Parts.{getD-then-zeros}
+use Rattle.gcd.specs.Workers.{Holds}
+use Rattle.gcd.proofs.Parts.{getD-then-zeros}
 
 -- an array of zeros
 pub getD-zeros : (n k : ℕ) → getD {A = ℕ} (replicate n 0) k 0 ≡ 0
@@ -35,44 +30,20 @@ getD-zeros n k = go (decLt k n)
 module _ (F : PrimeField) where
   open CommRing (F .series .ring) using (Carrier as S)
 
-  pub record Buffer (n : ℕ) (x : List ℕ) : Type 0 where
-    pub size : length x ≡ n
-    pub below : (k : ℕ) → getD x k 0 < F .p
-
-  pub record Holds (n : ℕ) (x : List ℕ) (s : S) : Type 0 where
-    pub buffer : Buffer n x
-    pub series : seriesOf F x ≡ s
-
-  unfoldable pub euclidOn : ℕ → (x y : List ℕ) → Euclid (F .series) (scalarField F)
-  euclidOn n x y = euclid (F .series) (scalarField F) n n (seriesOf F x) (seriesOf F y)
-
-  unfoldable pub monicList : ℕ → S → List ℕ
-  monicList n s = unscaled F (size (F .series) (scalarField F) n s) (monic (F .series) (scalarField F) n s)
-
   -- the series of two buffers that agree
   seriesOf-ext : (x y : List ℕ) → ((k : ℕ) → getD x k 0 ≡ getD y k 0) → seriesOf F x ≡ seriesOf F y
   seriesOf-ext x y h =
       ext (F .series) _ _ (λ k. coeff-seriesOf F x k ∙ ap (residue F) (h k) ∙ sym (coeff-seriesOf F y k))
 
-  below-scaledWords : (c : List ℕ) (k : ℕ) → getD (scaledWords F c) k 0 < F .p
-  below-scaledWords c k = go (decLt k (length c))
-    where
-      go : Dec (k < length c) → getD (scaledWords F c) k 0 < F .p
-      go (yes l) = rw (getD-scaledWords F c k l) (value-lt F _)
-      go (no l) =
-          let e = length-scaledWords F c in
-          let q : getD (scaledWords F c) k 0 ≡ 0 = List·getD-eq-default (scaledWords F c) 0 (omega arith) in
-          rw q (positive F)
-
   -- the words of a scaled form, written to the front of a buffer of zeros
   pub holds-scaled : (n : ℕ) (c z : List ℕ) {out : List ℕ} → length c ≤ n → length z ≡ n → ((k : ℕ) → getD z k 0 ≡ 0)
       → out ≡ cond (scaleFits n c (take (length c) z)) (scaledWords F c) (take (length c) z)
-      → Holds n (out ++ drop (length c) z) (scaled F c)
+      → Holds F n (out ++ drop (length c) z) (scaled F c)
   holds-scaled n c z {out} l e h q =
       record {
         buffer = record {
           size = simp (length-append, length-drop, is, length-scaledWords F c) (omega arith);
-          below = λ k. rw (same k) (below-scaledWords c k);
+          below = λ k. rw (same k) (carries-scaled F c .below k);
         };
         series = seriesOf-ext _ (scaledWords F c) same ∙ seriesOf-scaledWords F c;
       }

@@ -1,7 +1,5 @@
 -- Euclid's rounds on two buffers that alternate, as a loop has them.
---     Turning          the rounds have led from the buffers x₀, y₀ to x, y: the last x is the same, and the rounds made and those that
---                      are left are all the rounds
---     Turned           the same after a round that left x′ of x
+--     Turned           the rounds go on after one that left x′ of x, and x′ has fewer significant words than y
 -- Assumes nothing.
 use mathlib.Core.Path.{_≡_, refl, sym, _∙_, ap, subst}
 use mathlib.Core.Bool.{cond}
@@ -15,8 +13,8 @@ use Rattle.algebra.specs.PrimeField.{PrimeField, scalarField}
 use Rattle.lists.specs.Degrees.{significant}
 use Rattle.lists.specs.Words.{seriesOf}
 use Rattle.rounds.specs.Round.{roundFits, remaining}
-use Rattle.rounds.specs.Turns.{end-euclid, rounds-few, length-remaining, remaining-low, round-euclid, round-smaller, round-fits}
-use Rattle.gcd.specs.Buffers.{Buffer, Holds, euclidOn}
+use Rattle.rounds.proofs.Turns.{end-euclid, rounds-few, length-remaining, remaining-low, round-euclid, round-smaller, round-fits}
+use Rattle.gcd.specs.Workers.{Buffer, Holds, euclidOn, Turning}
 
 module _ (F : PrimeField) (n : ℕ) where
   open CommRing (F .series .ring) using (Carrier as S)
@@ -33,21 +31,15 @@ module _ (F : PrimeField) (n : ℕ) where
   unfolding done
   done-rounds s = refl
 
-  pub record Turning (x₀ y₀ x y : List ℕ) (rounds : ℕ) : Type 0 where
-    pub left : Buffer F n x
-    pub right : Buffer F n y
-    pub last : euclidOn F n x y .last ≡ euclidOn F n x₀ y₀ .last
-    pub count : rounds + euclidOn F n x y .rounds ≡ euclidOn F n x₀ y₀ .rounds
-
   pub record Turned (x₀ y₀ x y x′ : List ℕ) (rounds : ℕ) : Type 0 where
-    pub next : Turning x₀ y₀ y x′ (rounds + 1)
+    pub next : Turning F n x₀ y₀ y x′ (rounds + 1)
     pub smaller : significant x′ < significant y
     pub few : rounds < n
 
-  pub turning-start : (x y : List ℕ) → Buffer F n x → Buffer F n y → Turning x y x y 0
+  pub turning-start : (x y : List ℕ) → Buffer F n x → Buffer F n y → Turning F n x y x y 0
   turning-start x y bx by = record { left = bx; right = by; last = refl; count = omega arith }
 
-  module _ (x₀ y₀ x y : List ℕ) (rounds : ℕ) (t : Turning x₀ y₀ x y rounds) where
+  module _ (x₀ y₀ x y : List ℕ) (rounds : ℕ) (t : Turning F n x₀ y₀ x y rounds) where
     -- a round made
     module _ (some : 0 < significant y) where
       step : (q : S) × (euclidOn F n x y ≡ next (F .series) (scalarField F) q (euclidOn F n y (remaining F x y)))
@@ -60,7 +52,7 @@ module _ (F : PrimeField) (n : ℕ) where
       step-rounds : euclidOn F n x y .rounds ≡ suc (euclidOn F n y (remaining F x y) .rounds)
       step-rounds = ap (λ z. z .rounds) (step .1) ∙ next-rounds (step .0) _
 
-      turning-round : Turning x₀ y₀ y (remaining F x y) (rounds + 1)
+      turning-round : Turning F n x₀ y₀ y (remaining F x y) (rounds + 1)
       turning-round =
           record {
             left = t .right;
@@ -101,11 +93,11 @@ module _ (F : PrimeField) (n : ℕ) where
           }
 
   -- a round on words
-  pub turn : (x₀ y₀ x y q : List ℕ) (rounds : ℕ) {x′ : List ℕ} → Buffer F n x₀ → Buffer F n y₀ → Turning x₀ y₀ x y rounds
+  pub turn : (x₀ y₀ x y q : List ℕ) (rounds : ℕ) {x′ : List ℕ} → Buffer F n x₀ → Buffer F n y₀ → Turning F n x₀ y₀ x y rounds
       → 0 < significant y → n ≤ length q → x′ ≡ cond (roundFits (F .p) x y q) (remaining F x y) x → Turned x₀ y₀ x y x′ rounds
   turn x₀ y₀ x y q rounds {x′} bx by t some r e =
       record {
-        next = subst (λ l. Turning x₀ y₀ y l (rounds + 1)) (sym left) (turning-round x₀ y₀ x y rounds t some);
+        next = subst (λ l. Turning F n x₀ y₀ y l (rounds + 1)) (sym left) (turning-round x₀ y₀ x y rounds t some);
         smaller = rw left (turning-smaller x₀ y₀ x y rounds t some);
         few = turning-few x₀ y₀ x y rounds t some bx by;
       }

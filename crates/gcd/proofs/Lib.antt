@@ -1,0 +1,5 @@
+pub mod Parts
+pub mod Buffers
+pub mod Turning
+pub mod Ready
+pub mod Finish

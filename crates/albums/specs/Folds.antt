@@ -22,7 +22,7 @@ use Rattle.algebra.specs.Monic.{topInverse, monic, monic-is}
 use Rattle.algebra.specs.PrimeField.{PrimeField, scalarField, positive}
 use Rattle.lists.specs.Degrees.{significantIn, significant}
 use Rattle.lists.specs.Lists.{Coefficients, scaled, unscaled}
-use Rattle.lists.specs.Scaled.{below-scaled, length-unscaled}
+use Rattle.lists.specs.Scaled.{coefficients-listed, below-scaled, length-unscaled}
 use Rattle.lists.specs.Extents.{significant-at}
 use Rattle.lists.specs.Refused.{Listed}
 use Rattle.euclid.specs.Gcds.{room, roundsOf, gcdOf, countOf}
@@ -45,9 +45,7 @@ module _ (F : PrimeField) where
 
   infixl 70 _*ˢ_
   unfoldable pub turn : Result → List ℕ → Result
-  turn result c =
-      cond (eqb (significant c) 0) result
-      (record { list = gcdOf F (result .list) c; rounds = result .rounds + countOf F (result .list) c })
+  turn result c = cond (eqb (significant c) 0) result (joined F result c)
 
   unfoldable pub foldGcd : Result → List (List ℕ) → Result
   foldGcd result [] = result
@@ -57,8 +55,7 @@ module _ (F : PrimeField) where
   unfolding turn
   turn-zero result c e = rw (eq-eqb (significant c) 0 e)
 
-  pub turn-nonzero : (result : Result) (c : List ℕ) → ¬ (significant c ≡ 0)
-      → turn result c ≡ record { list = gcdOf F (result .list) c; rounds = result .rounds + countOf F (result .list) c }
+  pub turn-nonzero : (result : Result) (c : List ℕ) → ¬ (significant c ≡ 0) → turn result c ≡ joined F result c
   unfolding turn
   turn-nonzero result c h = rw (ne-eqb (significant c) 0 h)
 
@@ -158,9 +155,6 @@ module _ (F : PrimeField) where
       → Listed (F .p) most (turn result c .list)
   turn-listed most result c l hr hc = go (ℕ-discrete (significant c) 0)
     where
-      given : (f : List ℕ) → Listed (F .p) most f → Coefficients F f
-      given f h = record { short = let s = h .short in omega arith; below = h .words }
-
       short : length (gcdOf F (result .list) c) ≤ most
       short =
           let s = size-le (F .series) (scalarField F) (room (result .list) c) (roundsOf F (result .list) c .last) in
@@ -171,6 +165,6 @@ module _ (F : PrimeField) where
       go : Dec (significant c ≡ 0) → Listed (F .p) most (turn result c .list)
       go (yes e) = rw (turn-zero result c e) hr
       go (no e) =
-          let h = head-gcd F (result .list) c (given _ hr) (given c hc) (omega arith) in
+          let h = head-gcd F (result .list) c (coefficients-listed F l hr) (coefficients-listed F l hc) (omega arith) in
           let w = h .words in
           rw (turn-nonzero result c e) (record { some = omega arith; short = short; words = h .coefficients .below })

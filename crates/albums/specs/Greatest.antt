@@ -3,7 +3,7 @@
 --     IsGreatestOf      D divides the meaning of each list, and every polynomial that divides them all divides D
 -- List i past the last one is the list of no words, which means 0, and which every polynomial divides.
 -- Assumes nothing.
-use mathlib.Core.Path.{_≡_, refl, sym, _∙_, ap, subst}
+use mathlib.Core.Path.{_≡_, refl, sym, _∙_, subst}
 use mathlib.Core.Logic.{_⊎_, inl, inr}
 use mathlib.Core.List.{List, [], _∷_}
 use Prim.Native.Nat.{ℕ, zero, suc, _+_, _≤_, _<_, zero-le}
@@ -20,7 +20,7 @@ use Rattle.lists.specs.Degrees.{naiveDegree, significant, extent}
 use Rattle.lists.specs.Lists.{Coefficients, meaning, scaled}
 use Rattle.lists.specs.Scaled.{polynomial-meaning}
 use Rattle.lists.specs.Extents.{significant-zero, power-exact}
-use Rattle.euclid.specs.Gcds.{gcdOf, countOf, commonPower}
+use Rattle.euclid.specs.Gcds.{gcdOf, commonPower}
 use Rattle.euclid.specs.Gcd.{gcd-left, gcd-right}
 use Rattle.euclid.specs.Powers.{significant-nil, commonPower-le, commonPower-attained}
 use Rattle.euclid.specs.Greatest.{meaning-zero, divides-list, bezout-gcd}
@@ -58,8 +58,7 @@ module _ (F : PrimeField) where
   from-zero result c lists e = rw (eq-eqb (significant c) 0 e)
 
   pub from-nonzero : (result : Result) (c : List ℕ) (lists : List (List ℕ)) → ¬ (significant c ≡ 0)
-      → gcdFrom F result (c ∷ lists)
-      ≡ gcdFrom F (record { list = gcdOf F (result .list) c; rounds = result .rounds + countOf F (result .list) c }) lists
+      → gcdFrom F result (c ∷ lists) ≡ gcdFrom F (joined F result c) lists
   unfolding gcdFrom
   from-nonzero result c lists h = rw (ne-eqb (significant c) 0 h)
 

@@ -26,10 +26,10 @@ use Rattle.refusal.proofs.First.{first-then, refuse-done, or-else-done}
 use Rattle.field.specs.Field as field
 use Rattle.field.specs.Theorems.{residue-sum, residue-difference, residue-product, inverse-is}
 use Rattle.lists.specs.Degrees.{naiveDegree, significant, extent}
-use Rattle.lists.specs.Refused.{hasLoose, anyOf, listRefusals, Listed}
+use Rattle.lists.specs.Refused.{hasLoose, anyOf, listRefusals}
 use Rattle.lists.specs.Lists.{Coefficients, meaning, scaled}
 use Rattle.lists.specs.Operations.{product, raise, larger, sumOf, differenceOf, trim, derivative, evaluate}
-use Rattle.lists.specs.Scaled.{length-naive, meaning-injective}
+use Rattle.lists.specs.Scaled.{length-naive, coefficients-listed, meaning-injective}
 use Rattle.lists.specs.Products.{length-product, coefficients-product, product-meaning, length-raise, coefficients-raise, raise-meaning}
 use Rattle.lists.specs.Sums.{length-sum, coefficients-sum, sum-meaning, length-difference, coefficients-difference, difference-meaning}
 use Rattle.lists.specs.Extents.{extent-largest}
@@ -97,9 +97,6 @@ module _ (F : PrimeField) where
         → ((i : ℕ) → i < count s → lowest (checkRefusals (F .p) s i) ≡ Done) × (albumOf (listsOf s) ≡ s)
 
   module _ (wide : maxWords ≤ F .p) where
-    coefficients-of : {c : List ℕ} → Listed (F .p) maxWords c → Coefficients F c
-    coefficients-of l = record { short = let s = l .short in omega arith; below = l .words }
-
     the-list : (n : ℕ) (s : S) (c : List ℕ) → length c ≡ n → Coefficients F c → meaning F c ≡ s → TheList n s c
     the-list n s c e g m =
         record { words = e; means = m; only = λ d h l q. meaning-injective F d c h g (l ∙ sym e) (q ∙ sym m) }
@@ -157,13 +154,13 @@ module _ (F : PrimeField) where
         let d = or-else-done _ _ (sym (first-then (listRefusals (F .p) maxWords (f ∷ [])) _ tt) ∙ e) in
         let z = eqb-false (significant f) 0 (refuse-done (eqb (significant f) 0) _ _ (d .1) .0) in
         let l = one-listed (F .p) maxWords (positive F) f (d .0) in
-        (length-trim F f (omega arith), trim-scaled F f (coefficients-of l))
+        (length-trim F f (omega arith), trim-scaled F f (coefficients-listed F wide l))
 
     -- the list that a derivative is handed
     derivative-listed : (f out : List ℕ) → lowest (derivativeRefusals (F .p) f out) ≡ Done → Coefficients F f
     unfolding derivativeRefusals listRefusals
     derivative-listed f out e =
-        coefficients-of
+        coefficients-listed F wide
         (one-listed (F .p) maxWords (positive F) f (or-else-done _ _ (sym (first-then (listRefusals (F .p) maxWords (f ∷ [])) _ tt) ∙ e) .0))
 
     constant-length : (f : List ℕ) → naiveDegree f ≡ 0 → length (derivative F f) ≡ 1

@@ -1,20 +1,14 @@
 -- What a division answers, writes and promises.
 -- Assumes nothing.
 use mathlib.Core.Path.{_≡_, sym, _∙_, ap}
-use mathlib.Core.List.{List, [], _∷_}
-use Prim.Native.Nat.{ℕ, _<_}
+use mathlib.Core.List.{List, []}
+use Prim.Native.Nat.{ℕ}
 use native.Mathlib.Omega.{arith}
 use Rattle.algebra.specs.PrimeField.{PrimeField}
-use Rattle.refusal.specs.Refusal.{Reply, reply, outcomeReply, written}
-use Rattle.refusal.specs.Lowest.{lowest}
+use Rattle.refusal.specs.Refusal.{reply, outcomeReply, written}
 use Rattle.refusal.specs.declared.Refusal.{Refusal}
 use Rattle.refusal.specs.declared.Outcome.{Outcome}
 use Rattle.refusal.specs.declared.Outcome.the-variants.{Done, Refused}
-use Rattle.field.specs.Field.{wordReply, inverseRefusals, inverseOf}
-use Rattle.field.specs.Theorems.{inverse-is}
-use Rattle.field.specs.declared.Word.{Word}
-use Rattle.field.specs.declared.Word.the-variants as Word
-use Rattle.field.proofs.Answers.{Found, answered}
 use Rattle.euclid.specs.Quotients.{quotientOf, remainderOf}
 use Rattle.euclid.specs.Divided.{Divisible, length-quotient, length-remainder, division-identity, division-only}
 use Rattle.division.specs.Calls.{Equation, DividesSo}

@@ -1,6 +1,6 @@
 -- What a division refuses, as the chain of tests that the code makes, and what a division that refuses nothing knows of its slices.
 -- Assumes nothing.
-use mathlib.Core.Path.{_≡_, sym, _∙_}
+use mathlib.Core.Path.{_≡_, sym, _∙_, subst}
 use mathlib.Core.Bool.{not, _||_}
 use mathlib.Core.List.{List, [], _∷_}
 use Prim.Native.Nat.{ℕ, _+_, _-_, _≤_, _<_}
@@ -17,6 +17,7 @@ use Rattle.refusal.specs.declared.Outcome.the-variants.{Done, Refused}
 use Rattle.refusal.proofs.First.{refuse, or-else, first-then, refuse-done, or-else-done, or-false}
 use Rattle.lists.specs.Degrees.{naiveDegree}
 use Rattle.lists.specs.Lists.{Coefficients}
+use Rattle.lists.specs.Scaled.{coefficients-listed}
 use Rattle.lists.specs.Refused.{listRefusals, Listed}
 use Rattle.lists.proofs.Judged.{two-listed}
 use Rattle.euclid.specs.Quotients.{steps}
@@ -77,7 +78,7 @@ module _ (p : ℕ) (big : 0 < p) (g f q r : List ℕ) where
 
 module _ (F : PrimeField) {p : ℕ} (is : F .p ≡ p) (wide : maxWords ≤ p) (g f q r : List ℕ) where
   coefficients : (c : List ℕ) → Listed p maxWords c → Coefficients F c
-  coefficients c h = record { short = let s = h .short in omega arith; below = λ k. rw is (h .words k) }
+  coefficients c h = coefficients-listed F (rw is wide) (subst (λ n. Listed n maxWords c) (sym is) h)
 
   pub divide-fits : Done ≡ lowest (divideRefusals p g f q r) → DivideFits F maxWords g f q r
   unfolding naiveDegree steps

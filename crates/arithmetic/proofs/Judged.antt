@@ -1,6 +1,6 @@
 -- What each call refuses, as the chain of tests that the code makes, and what a call that refuses nothing knows of its slices.
 -- Assumes nothing.
-use mathlib.Core.Path.{_≡_, sym, _∙_, ap}
+use mathlib.Core.Path.{_≡_, sym, _∙_}
 use mathlib.Core.Bool.{not}
 use mathlib.Core.List.{List, [], _∷_}
 use Prim.Native.Nat.{ℕ, suc, _+_, _≤_, _<_, max}
@@ -9,11 +9,9 @@ use lib.Dec.{eqb, ltb}
 use lib.ListN.{length}
 use borrow.Author.Tests.{eqb-true, ltb-false, not-false, eq-eqb, ne-eqb, lt-ltb, le-ltb}
 use Rattle.refusal.specs.Limits.{maxDegree, maxWords}
-use Rattle.refusal.specs.Refusal.{outcomeReply, reply, written}
 use Rattle.refusal.specs.Lowest.{lowest}
 use Rattle.refusal.specs.declared.Refusal.{Refusal}
 use Rattle.refusal.specs.declared.Refusal.the-variants.{Over, Backwards, Misfit}
-use Rattle.refusal.specs.declared.Outcome.{Outcome}
 use Rattle.refusal.specs.declared.Outcome.the-variants.{Done, Refused}
 use Rattle.refusal.proofs.First.{refuse, or-else, first-then, refuse-done, or-else-done}
 use Rattle.lists.specs.Degrees.{naiveDegree}
@@ -169,12 +167,3 @@ module _ (p : ℕ) (big : 0 < p) (f g out : List ℕ) where
       let s = two-listed p maxWords big f g (d .0) in
       let q = eqb-true (length out) (suc (max (naiveDegree f) (naiveDegree g))) (not-false _ (m .0)) in
       record { first = s .0; second = s .1; size = omega arith }
-
--- a call answers what its judge found, and writes its slice only where that is Done
-pub done : {answer found : Outcome} → answer ≡ found → answer ≡ Done → (new old : List ℕ) {left : List ℕ} → left ≡ new
-    → (outcomeReply answer ≡ reply found []) × (left ≡ written found new old)
-done e d new old q = (ap outcomeReply e, q ∙ sym (ap (λ o. written o new old) (sym e ∙ d)))
-
-pub refused : {answer found : Outcome} {why : Refusal} → answer ≡ found → answer ≡ Refused why → (new old : List ℕ)
-    → (outcomeReply answer ≡ reply found []) × (old ≡ written found new old)
-refused e d new old = (ap outcomeReply e, sym (ap (λ o. written o new old) (sym e ∙ d)))

@@ -1,7 +1,6 @@
 // Two calls on lists of words for the bench (`bench/`), which is the only one to use them: the value at a point, and the cofactors. No part
 // of what the engine offers to a C host (`crates/host`).
 ghost use mathlib.Core.Path.{_≡_};
-ghost use mathlib.Core.List.{[], _∷_};
 ghost use Rattle.algebra.specs.PrimeField.{F65521};
 ghost use Rattle.refusal.specs.Limits.{maxWords};
 ghost use Rattle.refusal.specs.Refusal.{outcomeNumber, written};
@@ -9,7 +8,7 @@ ghost use Rattle.refusal.specs.Lowest.{lowest};
 ghost use Rattle.field.specs.Field.{p};
 ghost use Rattle.lists.specs.Operations as of;
 ghost use Rattle.euclid.specs.Gcds.{gcdOf, cofactorA, cofactorB, padded};
-ghost use Rattle.calculus.specs.Calls.{evaluateRefusals};
+ghost use Rattle.evaluation.specs.Calls.{evaluateRefusals};
 ghost use Rattle.cofactors.specs.Calls.{cofactorRefusals};
 ghost use Rattle.bench_calls.specs.Values.{valueOrZero};
 use field::Word;
@@ -20,7 +19,7 @@ use gcd::Gcd;
 pub extern "C" fn bench_evaluate(f: &[u16], x: u16) -> u16
     ensures { λ r. ⌜ r ≡ valueOrZero (lowest (evaluateRefusals p (now (f .entry)) x)) (of.evaluate F65521 (now (f .entry)) x) ⌝ }
 {
-    let answer = calculus::evaluate(f, x);
+    let answer = evaluation::evaluate(f, x);
     match answer {
         Word::Done(value) => value,
         Word::Refused(_) => 0,

@@ -5,7 +5,9 @@ ghost use mathlib.Core.List.{[], _∷_};
 ghost use Rattle.refusal.specs.Refusal.{outcomeReply};
 ghost use Rattle.field.specs.Field.{p, wordReply, operandRefusals, inverseRefusals};
 ghost use Rattle.arithmetic.specs.Calls.{productRefusals, raiseRefusals, sumRefusals};
-ghost use Rattle.calculus.specs.Calls.{extentReply, extentRefusals, trimRefusals, derivativeRefusals, evaluateRefusals};
+ghost use Rattle.extents.specs.Calls.{extentReply, extentRefusals, trimRefusals};
+ghost use Rattle.derivatives.specs.Calls.{derivativeRefusals};
+ghost use Rattle.evaluation.specs.Calls.{evaluateRefusals};
 ghost use Rattle.division.specs.Calls.{divideRefusals};
 ghost use Rattle.gcd.specs.Calls.{gcdReply, gcdRefusals};
 ghost use Rattle.cofactors.specs.Calls.{cofactorRefusals};
@@ -15,7 +17,7 @@ ghost use Rattle.report_text.specs.Calls.{textReply, reportRefusals};
 ghost use Rattle.host.specs.Calls.{productRows, divisionRows, gcdRows};
 ghost use Rattle.demand1.specs.Demand1.{Demand1, slice, EmptyRefused};
 use album::Listed;
-use calculus::Found;
+use extents::Found;
 use field::Word;
 use gcd::Gcd;
 use lists::NaiveDegree;
@@ -70,28 +72,28 @@ fn arithmetic_difference(f: &[u16], g: &[u16], out: &mut [u16]) -> Outcome
     arithmetic::difference(f, g, out)
 }
 
-fn calculus_find_extent(f: &[u16]) -> Found
+fn extents_find_extent(f: &[u16]) -> Found
     ensures { λ r. ⌜ Demand1 (extentRefusals p (now (f .entry))) (extentReply r .number) [] ⌝ }
 {
-    calculus::find_extent(f)
+    extents::find_extent(f)
 }
 
-fn calculus_trim(f: &[u16], out: &mut [u16]) -> Outcome
+fn extents_trim(f: &[u16], out: &mut [u16]) -> Outcome
     ensures { λ r. ⌜ Demand1 (trimRefusals p (now (f .entry)) (now (out .entry))) (outcomeReply r .number) (slice (now (out .entry)) (now (out .exit)) ∷ []) ⌝ }
 {
-    calculus::trim(f, out)
+    extents::trim(f, out)
 }
 
-fn calculus_derivative(f: &[u16], out: &mut [u16]) -> Outcome
+fn derivatives_derivative(f: &[u16], out: &mut [u16]) -> Outcome
     ensures { λ r. ⌜ Demand1 (derivativeRefusals p (now (f .entry)) (now (out .entry))) (outcomeReply r .number) (slice (now (out .entry)) (now (out .exit)) ∷ []) ⌝ }
 {
-    calculus::derivative(f, out)
+    derivatives::derivative(f, out)
 }
 
-fn calculus_evaluate(f: &[u16], x: u16) -> Word
+fn evaluation_evaluate(f: &[u16], x: u16) -> Word
     ensures { λ r. ⌜ Demand1 (evaluateRefusals p (now (f .entry)) x) (wordReply r .number) [] ⌝ }
 {
-    calculus::evaluate(f, x)
+    evaluation::evaluate(f, x)
 }
 
 fn division_divide(g: &[u16], f: &[u16], q: &mut [u16], r: &mut [u16]) -> Outcome

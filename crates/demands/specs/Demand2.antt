@@ -39,7 +39,8 @@ use Rattle.lists.proofs.Judged.{one-listed}
 use Rattle.euclid.specs.Quotients.{quotientOf, remainderOf}
 use Rattle.arithmetic.specs.Calls.{productRefusals, raiseRefusals, sumRefusals}
 use Rattle.arithmetic.proofs.Judged.{product-fits, raise-fits, sum-fits}
-use Rattle.calculus.specs.Calls.{trimRefusals, derivativeWords, derivativeRefusals}
+use Rattle.extents.specs.Calls.{trimRefusals}
+use Rattle.derivatives.specs.Calls.{derivativeWords, derivativeRefusals}
 use Rattle.division.specs.Calls.{divideRefusals, DividesSo}
 use Rattle.album.specs.Layout.{count, wrongCount, brokenLayout, listsOf}
 use Rattle.album.specs.Calls.{checkRefusals}

@@ -49,7 +49,7 @@ fn others() {
         arithmetic::raise(&t, NaiveDegree(0), &mut one),
     );
     let zeros = [0u16; 2];
-    show(b"trim of zeros", calculus::trim(&zeros, &mut one));
+    show(b"trim of zeros", extents::trim(&zeros, &mut one));
 }
 
 fn print_word(word: u16) {

@@ -1,3 +1,4 @@
 pub mod Search
+pub mod Largest
 pub mod Judged
 pub mod Filled

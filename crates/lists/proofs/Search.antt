@@ -1,33 +1,19 @@
--- The searches of a list, one word on: for a loose word from the front, and for the last word that is not 0 from the top.
+-- A list in which no loose word is found, and the search from the top for the last word that is not 0, one word on.
 -- Assumes nothing.
 use mathlib.Core.Path.{_≡_, sym, ap, _∙_}
-use mathlib.Core.Bool.{true, false}
+use mathlib.Core.Bool.{false}
 use mathlib.Core.List.{List, [], _∷_}
-use Prim.Native.Nat.{ℕ, zero, suc, _+_, _-_, _≤_, _<_}
-use native.Mathlib.Numerals.{add-one}
+use Prim.Native.Nat.{ℕ, zero, suc, _-_, _<_}
 use native.Mathlib.Omega.{arith}
 use lib.Dec.{leb}
-use lib.ListN.{length, getD, drop}
-use lib.Seq.{drop-cons, drop-length}
-use borrow.Author.Tests.{leb-false, le-leb, lt-leb}
+use lib.ListN.{getD}
+use borrow.Author.Tests.{leb-false}
 use Rattle.refusal.proofs.First.{or-false}
 use Rattle.lists.specs.Degrees.{significantIn}
 use Rattle.lists.specs.Extents.{significantIn-none, significantIn-zero, significantIn-nonzero}
 use Rattle.lists.specs.Refused.{hasLoose}
 
 module _ (p : ℕ) where
-  pub loose-here : (c : List ℕ) (i : ℕ) → i < length c → p ≤ getD c i 0 → hasLoose p (drop i c) ≡ true
-  unfolding hasLoose
-  loose-here c i l h = rw (drop-cons c i 0, le-leb p (getD c i 0) h)
-
-  pub loose-on : (c : List ℕ) (i : ℕ) → i < length c → getD c i 0 < p → hasLoose p (drop i c) ≡ hasLoose p (drop (i + 1) c)
-  unfolding hasLoose
-  loose-on c i l h = rw (add-one, drop-cons c i 0, lt-leb p (getD c i 0) h)
-
-  pub loose-end : (c : List ℕ) (i : ℕ) → i ≡ length c → hasLoose p (drop i c) ≡ false
-  unfolding hasLoose
-  loose-end c i e = rw (e, drop-length)
-
   -- a list with no loose word: each word is below p, and so is the 0 past the end
   pub none-loose : (c : List ℕ) → 0 < p → hasLoose p c ≡ false → (k : ℕ) → getD c k 0 < p
   unfolding hasLoose

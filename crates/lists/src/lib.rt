@@ -39,18 +39,20 @@ fn wrong_length(list: &[u16]) -> bool
     refusal::MAX_WORDS < list.len()
 }
 
-// Whether a word of a list is 65,521 or more.
+// Whether a word of a list is 65,521 or more: whether the largest is. The loop has one way out, so that LLVM takes eight words at a time.
 fn has_loose(list: &[u16]) -> bool
     ensures { λ r. ⌜ r ≡ hasLoose 65521 (now (list .entry)) ⌝ }
 {
+    let mut largest: u16 = 0;
     let mut i = 0;
     while i < list.len() {
-        if 65521 <= list[i] {
-            return true;
+        let word = list[i];
+        if largest < word {
+            largest = word;
         }
         i += 1;
     }
-    false
+    65521 <= largest
 }
 
 // The number of words up to the last one that is not 0, from the top.

@@ -3,7 +3,8 @@
 use mathlib.Core.Path.{sym, _∙_}
 use lib.Dec.{lit<}
 use borrow.Author.Needs.{needs}
-use Rattle.arithmetic.proofs.Judged.{sum-fits, done, refused}
+use Rattle.refusal.proofs.Answers.{done, refused}
+use Rattle.arithmetic.proofs.Judged.{sum-fits}
 use Rattle.arithmetic.proofs.difference.Statement.{statement}
 use Rattle.arithmetic.proofs.difference.Tie as tie
 

@@ -3,7 +3,8 @@
 use mathlib.Core.Path.{sym, _∙_}
 use lib.Dec.{lit<}
 use borrow.Author.Needs.{needs}
-use Rattle.arithmetic.proofs.Judged.{product-fits, done, refused}
+use Rattle.refusal.proofs.Answers.{done, refused}
+use Rattle.arithmetic.proofs.Judged.{product-fits}
 use Rattle.arithmetic.proofs.product.Statement.{statement}
 use Rattle.arithmetic.proofs.product.Tie as tie
 

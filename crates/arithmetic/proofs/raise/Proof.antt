@@ -5,7 +5,8 @@ use lib.Dec.{lit<}
 use borrow.Author.Needs.{needs}
 use Rattle.algebra.specs.PrimeField.{F65521}
 use Rattle.lists.specs.Operations.{raise}
-use Rattle.arithmetic.proofs.Judged.{raise-fits, done, refused}
+use Rattle.refusal.proofs.Answers.{done, refused}
+use Rattle.arithmetic.proofs.Judged.{raise-fits}
 use Rattle.arithmetic.proofs.raise.Statement.{statement}
 use Rattle.arithmetic.proofs.raise.Tie as tie
 

@@ -6,7 +6,7 @@ use Rattle.algebra.specs.PrimeField.{F65521}
 use Rattle.refusal.specs.Lowest.{lowest}
 use Rattle.field.specs.Field.{p, wordReply}
 use Rattle.lists.specs.Operations.{evaluate}
-use Rattle.calculus.specs.Calls.{evaluateRefusals}
+use Rattle.evaluation.specs.Calls.{evaluateRefusals}
 use Rattle.bench_calls.proofs.Answers.{value-is}
 use Rattle.bench_calls.proofs.bench_evaluate.Statement.{statement}
 use Rattle.bench_calls.proofs.bench_evaluate.Tie as tie

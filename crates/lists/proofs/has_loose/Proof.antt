@@ -1,32 +1,31 @@
--- `lists::has_loose` meets its contract: what is left of the list answers for the whole.
+-- `lists::has_loose` meets its contract. The loop's invariant: the largest word so far and what is left of the list answer for the whole.
 -- Assumes nothing.
-use mathlib.Core.Path.{_≡_, refl, sym, _∙_}
+use mathlib.Core.Path.{_≡_, sym, _∙_}
+use mathlib.Core.Logic.{⊎-elim}
 use Prim.Native.Nat.{_-_, _≤_}
-use lib.ListN.{length, drop}
-use Rattle.lists.specs.Refused.{hasLoose}
-use Rattle.lists.proofs.Search.{loose-here, loose-on, loose-end}
 use native.Mathlib.Omega.{arith}
+use lib.Dec.{lit<}
+use lib.ListN.{length}
 use borrow.Author.Needs.{needs}
+use Rattle.lists.specs.Refused.{hasLoose}
+use Rattle.lists.proofs.Largest.{looseFrom, loose-start, loose-larger, loose-smaller, loose-end}
 use Rattle.lists.proofs.has_loose.Statement.{statement}
 use Rattle.lists.proofs.has_loose.Tie as tie
 
 abbrev Inv-loop : tie.InvT-loop
-Inv-loop list i₀ i = (i ≤ length list) × (hasLoose 65521 list ≡ hasLoose 65521 (drop i list))
+Inv-loop list largest₀ i₀ largest i = (i ≤ length list) × (hasLoose 65521 list ≡ looseFrom 65521 list largest i)
 
 abbrev μ-loop : tie.MeasureT-loop
-μ-loop list i₀ i = length list - i
+μ-loop list largest₀ i₀ largest i = length list - i
 
 loop-holds : tie.Need-loop-holds Inv-loop μ-loop
-loop-holds c = (search needs, refl)
+loop-holds c = (search needs, loose-start 65521 (c .args .list .now) (lit< tt))
 
-mul-if1 : tie.Need-mul-if1 Inv-loop μ-loop
-mul-if1 c = search needs
+mul-word : tie.Need-mul-word Inv-loop μ-loop
+mul-word c = search needs
 
-shared-slice-read-if1 : tie.Need-shared-slice-read-if1 Inv-loop μ-loop
-shared-slice-read-if1 c = search needs
-
-returns : tie.Need-returns Inv-loop μ-loop
-returns c = sym (c .before .before .before .loop .inv .1 ∙ loose-here 65521 (c .before .before .before .before .args .list .now) (c .before .before .before .loop .i) (omega arith) (c .if1 .taken))
+shared-slice-read-word : tie.Need-shared-slice-read-word Inv-loop μ-loop
+shared-slice-read-word c = search needs
 
 add-i : tie.Need-add-i Inv-loop μ-loop
 add-i c = search needs
@@ -35,10 +34,20 @@ loop-less : tie.Need-loop-less Inv-loop μ-loop
 loop-less c = search needs
 
 loop-again : tie.Need-loop-again Inv-loop μ-loop
-loop-again c = (search needs, c .before .before .before .loop .inv .1 ∙ loose-on 65521 (c .before .before .before .before .args .list .now) (c .before .before .before .loop .i) (omega arith) (omega arith))
+loop-again c =
+    let list = c .before .before .before .before .args .list .now in
+    let loop = c .before .before .before .loop in
+    let next =
+    ⊎-elim
+    (λ g. let l = g .0 .taken in loose-larger 65521 list (loop .largest) (loop .i) (omega arith) (omega arith) (g .1))
+    (λ g. let l = g .0 .left in loose-smaller 65521 list (loop .largest) (loop .i) (omega arith) (omega arith) (g .1))
+    (c .if1 .came) in
+    (search needs, loop .inv .1 ∙ next)
 
-returns-2 : tie.Need-returns-2 Inv-loop μ-loop
-returns-2 c = sym (c .before .loop .inv .1 ∙ loose-end 65521 (c .before .before .args .list .now) (c .before .loop .i) (omega arith))
+returns : tie.Need-returns Inv-loop μ-loop
+returns c =
+    let loop = c .before .loop in
+    sym (loop .inv .1 ∙ loose-end 65521 (c .before .before .args .list .now) (loop .largest) (loop .i) (omega arith))
 
 pub has-loose-spec : {M : Type 1} → statement M
 has-loose-spec =
@@ -47,10 +56,9 @@ has-loose-spec =
     Inv-loop
     μ-loop
     loop-holds
-    mul-if1
-    shared-slice-read-if1
-    returns
+    mul-word
+    shared-slice-read-word
     add-i
     loop-less
     loop-again
-    returns-2)
+    returns)

@@ -1,0 +1,18 @@
+-- `demand1::derivatives_derivative` meets its contract.
+-- Assumes nothing.
+use borrow.Author.Needs.{needs}
+use Rattle.demand1.specs.Demand1Holds.{replies, no-slice, and-slice}
+use Rattle.demand1.proofs.derivatives_derivative.Statement.{statement}
+use Rattle.demand1.proofs.derivatives_derivative.Tie as tie
+
+derivative-requires : tie.Need-derivative-requires
+derivative-requires c κs = search needs
+
+same-length : tie.Need-same-length
+same-length c = search needs
+
+returns : tie.Need-returns
+returns c = let e = c .before .before .derivative .ensures in replies _ (e .0) (and-slice _ (e .1) no-slice)
+
+pub derivatives-derivative-spec : {M : Type 1} → statement M
+derivatives-derivative-spec = tie.close (tie.spec derivative-requires same-length returns)

@@ -1,0 +1,51 @@
+-- `derivatives::judge_derivative` meets its contract: the tests stand in the order of the numbers.
+-- Assumes nothing.
+use mathlib.Core.Path.{sym, _∙_}
+use lib.Dec.{lit<}
+use borrow.Author.Needs.{needs}
+use Rattle.refusal.specs.Limits.{maxWords}
+use Rattle.lists.proofs.Judged.{one-listed}
+use Rattle.derivatives.proofs.Judged.{derivative-refused, derivative-misfit, derivative-done}
+use Rattle.derivatives.proofs.judge_derivative.Statement.{statement}
+use Rattle.derivatives.proofs.judge_derivative.Tie as tie
+
+judge-list-requires : tie.Need-judge-list-requires
+judge-list-requires c κs = search needs
+
+enum-known-why : tie.Need-enum-known-why
+enum-known-why c = search needs
+
+returns : tie.Need-returns
+returns c = derivative-refused 65521 _ _ (sym (c .before .before .before .judge-list .ensures) ∙ c .before .why .given .1)
+
+enum-told : tie.Need-enum-told
+enum-told c = search needs
+
+sub-larger : tie.Need-sub-larger
+sub-larger c = one-listed 65521 maxWords (lit< tt) _ (sym (c .before .before .judge-list .ensures) ∙ c .enum-told .given .1) .some
+
+larger-requires : tie.Need-larger-requires
+larger-requires c κs = search needs
+
+returns-2 : tie.Need-returns-2
+returns-2 c =
+    let judged = sym (c .before .before .before .before .judge-list .ensures) ∙ c .before .before .enum-told .given .1 in
+    derivative-misfit 65521 _ _ judged (λ e. c .if1 .taken (e ∙ sym (c .before .larger .ensures)))
+
+returns-3 : tie.Need-returns-3
+returns-3 c =
+    let judged = sym (c .before .before .before .before .judge-list .ensures) ∙ c .before .before .enum-told .given .1 in
+    derivative-done 65521 _ _ judged (c .if1 .left ∙ c .before .larger .ensures)
+
+pub judge-derivative-spec : {M : Type 1} → statement M
+judge-derivative-spec =
+    tie.close
+    (tie.spec
+    judge-list-requires
+    enum-known-why
+    returns
+    enum-told
+    sub-larger
+    larger-requires
+    returns-2
+    returns-3)

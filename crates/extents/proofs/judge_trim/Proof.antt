@@ -1,0 +1,52 @@
+-- `extents::judge_trim` meets its contract: the tests stand in the order of the numbers.
+-- Assumes nothing.
+use mathlib.Core.Path.{sym, _∙_}
+use borrow.Author.Needs.{needs}
+use Rattle.extents.proofs.Judged.{trim-refused, trim-zero, trim-misfit, trim-done}
+use Rattle.extents.proofs.judge_trim.Statement.{statement}
+use Rattle.extents.proofs.judge_trim.Tie as tie
+
+judge-list-requires : tie.Need-judge-list-requires
+judge-list-requires c κs = search needs
+
+enum-known-why : tie.Need-enum-known-why
+enum-known-why c = search needs
+
+returns : tie.Need-returns
+returns c = trim-refused 65521 _ _ (sym (c .before .before .before .judge-list .ensures) ∙ c .before .why .given .1)
+
+enum-told : tie.Need-enum-told
+enum-told c = search needs
+
+significant-words-requires : tie.Need-significant-words-requires
+significant-words-requires c κs = search needs
+
+returns-2 : tie.Need-returns-2
+returns-2 c =
+    let judged = sym (c .before .before .before .before .judge-list .ensures) ∙ c .before .before .enum-told .given .1 in
+    trim-zero 65521 _ _ judged (sym (c .before .significant-words .ensures) ∙ c .if1 .taken)
+
+returns-3 : tie.Need-returns-3
+returns-3 c =
+    let judged = sym (c .before .before .before .before .before .judge-list .ensures) ∙ c .before .before .before .enum-told .given .1 in
+    let count = c .before .before .significant-words .ensures in
+    trim-misfit 65521 _ _ judged (λ z. c .before .if1 .left (count ∙ z)) (λ e. c .if2 .taken (e ∙ sym count))
+
+returns-4 : tie.Need-returns-4
+returns-4 c =
+    let judged = sym (c .before .before .before .before .before .judge-list .ensures) ∙ c .before .before .before .enum-told .given .1 in
+    let count = c .before .before .significant-words .ensures in
+    trim-done 65521 _ _ judged (λ z. c .before .if1 .left (count ∙ z)) (c .if2 .left ∙ count)
+
+pub judge-trim-spec : {M : Type 1} → statement M
+judge-trim-spec =
+    tie.close
+    (tie.spec
+    judge-list-requires
+    enum-known-why
+    returns
+    enum-told
+    significant-words-requires
+    returns-2
+    returns-3
+    returns-4)

@@ -1,160 +1,124 @@
--- What the calls refuse, as the chain of tests that the code makes.
+-- What reading a list refuses, as the chain of tests that the code makes, and what it then answers and writes.
 -- Assumes nothing.
-use mathlib.Core.Path.{_≡_, refl, sym, ap, ap₂, _∙_}
-use mathlib.Core.Bool.{Bool, true, false, not, _&&_, _||_}
+use mathlib.Core.Path.{_≡_, refl, sym, _∙_, ap, ap₂}
+use mathlib.Core.Bool.{not}
 use mathlib.Core.List.{List, [], _∷_}
-use Prim.Native.Nat.{ℕ, _+_, _*_, _-_, _≤_, _<_}
+use Prim.Native.Nat.{ℕ, _-_, _/_, _≤_, _<_}
 use native.Mathlib.Omega.{arith}
-use lib.Dec.{eqb, leb}
-use lib.ListN.{length, take, drop}
-use borrow.Author.Tests.{eq-eqb, ne-eqb, lt-ltb, leb-false, le-leb, lt-leb}
-use Rattle.refusal.specs.Limits.{maxLists, maxWords}
-use Rattle.refusal.specs.Refusal.{reply, written}
+use lib.Dec.{eqb}
+use lib.ListN.{length}
+use borrow.Author.Tests.{eq-eqb, ne-eqb}
+use Rattle.refusal.specs.Limits.{maxWords}
+use Rattle.refusal.specs.Refusal.{number, Reply, reply, written}
 use Rattle.refusal.specs.Lowest.{_given-when_, lowest}
 use Rattle.refusal.specs.declared.Refusal.{Refusal}
-use Rattle.refusal.specs.declared.Refusal.the-variants.{Count, Contents, Index, LooseWord, Misfit}
+use Rattle.refusal.specs.declared.Refusal.the-variants.{Misfit}
 use Rattle.refusal.specs.declared.Outcome.{Outcome}
 use Rattle.refusal.specs.declared.Outcome.the-variants.{Done, Refused}
-use Rattle.refusal.proofs.First.{refuse, or-else, first-is, first-then, refuse-done, or-else-done}
-use Rattle.lists.specs.Refused.{hasLoose, anyOf}
-use Rattle.album.specs.Layout.{count, degreeAt, offsetAt, startAt, offsetsAgree, wrongCount, brokenLayout, listsOf}
-use Rattle.album.specs.Calls.{albumRefusals, checkRefusals, readRefusals, bodyOf}
-use Rattle.album.specs.Workers.{layoutRefusals, Obeys}
-use Rattle.album.specs.Places.{agree-at, obeys, right-count, right-layout}
+use Rattle.refusal.proofs.First.{refuse, or-else, first-then}
+use Rattle.euclid.specs.Gcds.{padded}
+use Rattle.layout.specs.Layout.{degreeAt, listAt}
+use Rattle.layout.specs.Calls.{checkRefusals, bodyOf}
+use Rattle.layout.specs.Places.{length-list}
+use Rattle.album.specs.Calls.{readRefusals}
+use Rattle.album.specs.Workers.{wordsOf}
+use Rattle.album.proofs.Words.{length-words, body-words}
 
-or-true : (b : Bool) → (b || true) ≡ true
-or-true true = refl
-or-true false = refl
+-- `written o c []` is what a call finds: the words of c or, refused, none. It completes where it finds some,
+some-words : (o : Outcome) (c : List ℕ) → ¬ (length (written o c []) ≡ 0) → o ≡ Done
+some-words Done c h = refl
+some-words (Refused why) c h = absurd (h refl)
 
-and-false : (b : Bool) → (b && false) ≡ false
-and-false true = refl
-and-false false = refl
+-- writes nothing where it finds none,
+no-words : (o : Outcome) (c new old : List ℕ) → 0 < length c → length (written o c []) ≡ 0 → old ≡ written o new old
+no-words Done c new old l e = absurd (omega arith)
+no-words (Refused why) c new old l e = refl
 
-not-true-false : (b : Bool) → (b ≡ true → ⊥) → b ≡ false
-not-true-false true f = absurd (f refl)
-not-true-false false f = refl
+-- and finds no more than c
+few-words : (o : Outcome) (c : List ℕ) → length (written o c []) ≤ length c
+few-words Done c = omega arith
+few-words (Refused why) c = omega arith
 
-module _ (s : List ℕ) where
-  layout-judged : lowest (layoutRefusals s) ≡ refuse (wrongCount maxLists s) Count (refuse (brokenLayout s) Contents Done)
-  unfolding layoutRefusals
-  layout-judged = first-is (layoutRefusals s) tt
+-- none where the slice does not fit
+misfit-words : (o : Outcome) (c : List ℕ) → length (written (or-else o (Refused Misfit)) c []) ≡ 0
+misfit-words Done c = refl
+misfit-words (Refused why) c = refl
 
-  wrong-empty : length s ≡ 0 → wrongCount maxLists s ≡ true
-  unfolding wrongCount
-  wrong-empty e = simp (eq-eqb (length s) 0 e)
+or-else-none : (o : Outcome) → or-else o Done ≡ o
+or-else-none Done = refl
+or-else-none (Refused why) = refl
 
-  wrong-none : count s ≡ 0 → wrongCount maxLists s ≡ true
-  unfolding wrongCount
-  wrong-none e = simp (eq-eqb (count s) 0 e, or-true)
+module _ (p : ℕ) (s : List ℕ) (i : ℕ) (out : List ℕ) where
+  read-judged : lowest (readRefusals p s i out) ≡ or-else (lowest (checkRefusals p s i)) (refuse (not (eqb (length out) maxWords)) Misfit Done)
+  unfolding readRefusals checkRefusals
+  read-judged = first-then (checkRefusals p s i) (Misfit given-when not (eqb (length out) maxWords) ∷ []) tt
 
-  wrong-many : maxLists < count s → wrongCount maxLists s ≡ true
-  unfolding wrongCount
-  wrong-many l = simp (lt-ltb maxLists (count s) l, or-true)
+  -- a slice of 256 words leaves the refusals of every call on list i
+  read-fits : length out ≡ maxWords → lowest (readRefusals p s i out) ≡ lowest (checkRefusals p s i)
+  read-fits q = read-judged ∙ simp (eq-eqb (length out) maxWords q, or-else-none)
 
-  broken-size : (length s ≡ startAt s (count s) → ⊥) → brokenLayout s ≡ true
-  unfolding brokenLayout
-  broken-size f = simp (ne-eqb (length s) (startAt s (count s)) f)
+  pub read-done : lowest (checkRefusals p s i) ≡ Done → length out ≡ maxWords → lowest (readRefusals p s i out) ≡ Done
+  read-done e q = read-fits q ∙ e
 
-  broken-place : offsetsAgree s (count s) ≡ false → brokenLayout s ≡ true
-  unfolding brokenLayout
-  broken-place e = simp (e, and-false)
+  -- the words that are found, none where refused, and what the slice holds afterwards
+  abbrev found : List ℕ
+  found = written (lowest (readRefusals p s i out)) (listAt s i) []
 
-  pub layout-empty : length s ≡ 0 → Refused Count ≡ lowest (layoutRefusals s)
-  layout-empty e = sym (layout-judged ∙ simp (wrong-empty e))
+  abbrev left : List ℕ
+  left = written (lowest (readRefusals p s i out)) (padded maxWords (listAt s i)) out
 
-  pub layout-none : count s ≡ 0 → Refused Count ≡ lowest (layoutRefusals s)
-  layout-none e = sym (layout-judged ∙ simp (wrong-none e))
+  none-left : length found ≡ 0 → out ≡ left
+  none-left e = no-words (lowest (readRefusals p s i out)) (listAt s i) _ out (omega (arith, length-list s i)) e
 
-  pub layout-many : maxLists < count s → Refused Count ≡ lowest (layoutRefusals s)
-  layout-many l = sym (layout-judged ∙ simp (wrong-many l))
+  pub read-misfit : ¬ (length out ≡ maxWords) → (0 ≡ length found) × (out ≡ left)
+  read-misfit f = (sym none, none-left none)
+    where
+      none : length found ≡ 0
+      none =
+          ap (λ o. length (written o (listAt s i) [])) read-judged
+          ∙ rw (ne-eqb (length out) maxWords f) (misfit-words (lowest (checkRefusals p s i)) (listAt s i))
 
-  module _ (some : 0 < length s) (low : 0 < count s) (few : count s ≤ maxLists) where
-    pub layout-size : (length s ≡ startAt s (count s) → ⊥) → Refused Contents ≡ lowest (layoutRefusals s)
-    layout-size f = sym (layout-judged ∙ simp (right-count s some low few, broken-size f))
+  -- b is the list's body, and the slice fits
+  module _ {b : List ℕ} (e : b ≡ bodyOf p s i) (q : length out ≡ maxWords) where
+    words-found : wordsOf b ≡ found
+    words-found = ap wordsOf e ∙ body-words p s i ∙ ap (λ o. written o (listAt s i) []) (sym (read-fits q))
 
-    pub layout-place : (k : ℕ) → k < count s → (offsetAt s k ≡ startAt s k → ⊥) → Refused Contents ≡ lowest (layoutRefusals s)
-    layout-place k l f =
-        sym (layout-judged ∙ simp (right-count s some low few, broken-place (not-true-false _ (λ t. f (agree-at s k (count s) l t)))))
+    count-found : length b / 2 ≡ length found
+    count-found = sym (length-words b) ∙ ap length words-found
 
-    pub layout-done : length s ≡ startAt s (count s) → offsetsAgree s (count s) ≡ true → Done ≡ lowest (layoutRefusals s)
-    layout-done e t = sym (layout-judged ∙ simp (right-count s some low few, right-layout s e t))
+    -- bytes are below 256
+    pub read-short : degreeAt s i < 256 → length b / 2 ≤ length out
+    read-short d = omega (arith, count-found, few-words (lowest (readRefusals p s i out)) (listAt s i), length-list s i)
 
-  pub layout-obeys : lowest (layoutRefusals s) ≡ Done → Obeys s
-  layout-obeys e =
-      let w = refuse-done (wrongCount maxLists s) _ _ (sym layout-judged ∙ e) in
-      obeys s (w .0) (refuse-done (brokenLayout s) _ _ (w .1) .0)
+    pub read-none : length b / 2 ≡ 0 → (length b / 2 ≡ length found) × (out ≡ left)
+    read-none z = (count-found, none-left (sym count-found ∙ z))
 
-module _ (p : ℕ) (s : List ℕ) where
-  album-judged : lowest (albumRefusals p s) ≡ or-else (lowest (layoutRefusals s)) (refuse (anyOf (hasLoose p) (listsOf s)) LooseWord Done)
-  unfolding albumRefusals layoutRefusals
-  album-judged = first-then (layoutRefusals s) (LooseWord given-when anyOf (hasLoose p) (listsOf s) ∷ []) tt
+    pub read-some : {out′ : List ℕ} → ¬ (length b / 2 ≡ 0) → out′ ≡ padded (length out) (wordsOf b)
+        → (length b / 2 ≡ length found) × (out′ ≡ left)
+    read-some z w =
+        let d = some-words (lowest (readRefusals p s i out)) (listAt s i) (λ y. z (count-found ∙ y)) in
+        (count-found, w ∙ ap₂ padded q words-found ∙ rw d)
 
-  pub album-refused : {why : Refusal} → lowest (layoutRefusals s) ≡ Refused why → Refused why ≡ lowest (albumRefusals p s)
-  album-refused e = sym (album-judged ∙ simp e)
+  -- what reading answers
+  abbrev said : Reply
+  said = reply (lowest (readRefusals p s i out)) (degreeAt s i ∷ [])
 
-  module _ (e : lowest (layoutRefusals s) ≡ Done) where
-    pub album-loose : anyOf (hasLoose p) (listsOf s) ≡ true → Refused LooseWord ≡ lowest (albumRefusals p s)
-    album-loose t = sym (album-judged ∙ simp (e, t))
+  pub listed-refused : {why : Refusal} → lowest (checkRefusals p s i) ≡ Refused why → record { number = number why; values = [] } ≡ said
+  listed-refused {why} e = let d : lowest (readRefusals p s i out) ≡ Refused why = read-judged ∙ simp e in rw d
 
-    pub album-done : anyOf (hasLoose p) (listsOf s) ≡ false → Done ≡ lowest (albumRefusals p s)
-    album-done t = sym (album-judged ∙ simp (e, t))
+  -- where n words are found
+  module _ {n : ℕ} (e : n ≡ length found) where
+    pub listed-done : ¬ (n ≡ 0) → record { number = 0; values = (n - 1) ∷ [] } ≡ said
+    listed-done z =
+        let d = some-words (lowest (readRefusals p s i out)) (listAt s i) (λ y. z (e ∙ y)) in
+        let m : n - 1 ≡ degreeAt s i = omega (arith, e ∙ ap (λ o. length (written o (listAt s i) [])) d, length-list s i) in
+        rw (d, m)
 
-module _ (p : ℕ) (s : List ℕ) (i : ℕ) where
-  call-judged : lowest (checkRefusals p s i)
-      ≡ or-else (lowest (layoutRefusals s)) (refuse (leb (count s) i) Index (refuse (anyOf (hasLoose p) (listsOf s)) LooseWord Done))
-  unfolding checkRefusals layoutRefusals
-  call-judged =
-      first-then (layoutRefusals s) (Index given-when leb (count s) i ∷ LooseWord given-when anyOf (hasLoose p) (listsOf s) ∷ []) tt
+    pub listed-misfit : n ≡ 0 → lowest (checkRefusals p s i) ≡ Done → record { number = number Misfit; values = [] } ≡ said
+    listed-misfit z d = rw judged
+      where
+        unfit : ¬ (length out ≡ maxWords)
+        unfit q = omega (arith, e ∙ ap (λ o. length (written o (listAt s i) [])) (read-done d q), length-list s i)
 
-  pub call-refused : {why : Refusal} → lowest (layoutRefusals s) ≡ Refused why → Refused why ≡ lowest (checkRefusals p s i)
-  call-refused e = sym (call-judged ∙ simp e)
-
-  module _ (e : lowest (layoutRefusals s) ≡ Done) where
-    pub call-index : count s ≤ i → Refused Index ≡ lowest (checkRefusals p s i)
-    call-index l = sym (call-judged ∙ simp (e, le-leb (count s) i l))
-
-    module _ (l : i < count s) where
-      pub call-loose : anyOf (hasLoose p) (listsOf s) ≡ true → Refused LooseWord ≡ lowest (checkRefusals p s i)
-      call-loose t = sym (call-judged ∙ simp (e, lt-leb (count s) i l, t))
-
-      pub call-done : anyOf (hasLoose p) (listsOf s) ≡ false → Done ≡ lowest (checkRefusals p s i)
-      call-done t = sym (call-judged ∙ simp (e, lt-leb (count s) i l, t))
-
-  -- a list that can be read
-  pub call-fine : lowest (checkRefusals p s i) ≡ Done → Obeys s × (i < count s)
-  call-fine e =
-      let d = or-else-done (lowest (layoutRefusals s)) _ (sym call-judged ∙ e) in
-      (layout-obeys s (d .0), leb-false (count s) i (refuse-done (leb (count s) i) _ _ (d .1) .0))
-
-  module _ (out : List ℕ) where
-    read-judged : lowest (readRefusals p s i out) ≡ or-else (lowest (checkRefusals p s i)) (refuse (not (eqb (length out) maxWords)) Misfit Done)
-    unfolding readRefusals checkRefusals
-    read-judged = first-then (checkRefusals p s i) (Misfit given-when not (eqb (length out) maxWords) ∷ []) tt
-
-    pub read-refused : {why : Refusal} → lowest (checkRefusals p s i) ≡ Refused why → Refused why ≡ lowest (readRefusals p s i out)
-    read-refused e = sym (read-judged ∙ simp e)
-
-    module _ (e : lowest (checkRefusals p s i) ≡ Done) where
-      pub read-misfit : (length out ≡ maxWords → ⊥) → Refused Misfit ≡ lowest (readRefusals p s i out)
-      read-misfit f = sym (read-judged ∙ simp (e, ne-eqb (length out) maxWords f))
-
-      pub read-done : length out ≡ maxWords → Done ≡ lowest (readRefusals p s i out)
-      read-done q = sym (read-judged ∙ simp (e, eq-eqb (length out) maxWords q))
-
-  pub body-done : lowest (checkRefusals p s i) ≡ Done → (from degree : ℕ) → from ≡ offsetAt s i → degree ≡ degreeAt s i
-      → take (from + 2 * (degree + 1) - from) (drop from s) ≡ bodyOf p s i
-  unfolding bodyOf
-  body-done e from degree f d =
-      let n : from + 2 * (degree + 1) - from ≡ 2 * (degreeAt s i + 1) = omega arith in
-      let fine = call-fine e in
-      ap₂ (λ m k. take m (drop k s)) n (f ∙ fine .0 .placed i (fine .1))
-      ∙ sym (ap (λ o. written o (take (2 * (degreeAt s i + 1)) (drop (startAt s i) s)) []) e)
-
-  pub body-refused : {why : Refusal} → lowest (checkRefusals p s i) ≡ Refused why → [] ≡ bodyOf p s i
-  unfolding bodyOf
-  body-refused e = sym (ap (λ o. written o (take (2 * (degreeAt s i + 1)) (drop (startAt s i) s)) []) e)
-
--- what an outcome answers and leaves in a slice
-pub answered : {outcome found : Outcome} → outcome ≡ found → (values new old : List ℕ)
-    → (reply outcome values ≡ reply found values) × (written outcome new old ≡ written found new old)
-answered e values new old = (ap (λ o. reply o values) e, ap (λ o. written o new old) e)
+        judged : lowest (readRefusals p s i out) ≡ Refused Misfit
+        judged = read-judged ∙ simp (d, ne-eqb (length out) maxWords unfit)

@@ -1,3 +1,3 @@
-pub mod Judged
-pub mod Loose
 pub mod Words
+pub mod Judged
+pub mod Held

@@ -1,41 +1,67 @@
--- The words of a list, read from its body into a slice: the slice holds those below k.
+-- The words of some bytes, and the words of a list's body: they are the list.
 -- Assumes nothing.
-use mathlib.Core.Path.{_≡_, refl, sym, ap, ap₂, _∙_}
-use mathlib.Core.List.{List}
-use Prim.Native.Nat.{ℕ, _+_, _*_, _≤_, _<_}
+use mathlib.Core.Path.{_≡_, refl, sym, _∙_, ap, ap₂}
+use mathlib.Core.List.{List, []}
+use Prim.Native.Nat.{ℕ, _+_, _*_, _/_, _≤_, _<_}
+use native.Mathlib.Nat.{zero-add, mul-div-right}
 use native.Mathlib.Omega.{arith}
-use lib.ListN.{length, getD, List·getD-eq-default}
-use Rattle.lists.specs.Tabulate.{length-tabulate, getD-tabulate}
-use Rattle.lists.proofs.Filled.{Filled}
-use Rattle.euclid.specs.Gcds.{padded}
-use Rattle.euclid.specs.Loops.{padded-is}
-use Rattle.album.specs.Layout.{count, degreeAt, wordAt, offsetAt, startAt, listAt}
-use Rattle.album.specs.Workers.{Obeys, wordsAt}
+use lib.Dec.{lit<}
+use lib.ListN.{length, getD, take, drop, length-take, length-drop, List·getD-eq-default}
+use lib.Seq.{getD-take, getD-drop}
+use Rattle.refusal.specs.Refusal.{written}
+use Rattle.refusal.specs.Lowest.{lowest}
+use Rattle.refusal.specs.declared.Outcome.{Outcome}
+use Rattle.refusal.specs.declared.Outcome.the-variants.{Done, Refused}
+use Rattle.lists.specs.Tabulate.{tabulate, length-tabulate, getD-tabulate, tabulate-ext}
+use Rattle.layout.specs.Layout.{degreeAt, wordAt, wordsAt, startAt, listAt}
+use Rattle.layout.specs.Calls.{checkRefusals, bodyOf}
+use Rattle.layout.specs.Places.{body-inside}
+use Rattle.layout.proofs.Judged.{call-fine}
+use Rattle.album.specs.Workers.{wordsOf}
 
-module _ (s : List ℕ) (at n k : ℕ) where
-  pub word-inside : k < n → wordAt s (at + 2 * k) ≡ getD (wordsAt s at n) k 0
-  unfolding wordsAt
-  word-inside l = sym (getD-tabulate n (λ j. wordAt s (at + 2 * j)) k l)
+module _ (bytes : List ℕ) where
+  pub length-words : length (wordsOf bytes) ≡ length bytes / 2
+  unfolding wordsOf wordsAt
+  length-words = length-tabulate (length bytes / 2) _
 
-  pub word-past : n ≤ k → 0 ≡ getD (wordsAt s at n) k 0
-  unfolding wordsAt
-  word-past l =
-      let e = length-tabulate n (λ j. wordAt s (at + 2 * j)) in
-      sym (List·getD-eq-default (wordsAt s at n) 0 (omega arith))
+  pub word-inside : (k : ℕ) → k < length bytes / 2 → wordAt bytes (2 * k) ≡ getD (wordsOf bytes) k 0
+  unfolding wordsOf wordsAt
+  word-inside k l = sym (getD-tabulate (length bytes / 2) (λ j. wordAt bytes (0 + 2 * j)) k l ∙ ap (wordAt bytes) (zero-add (2 * k)))
 
-words-list : (s : List ℕ) (i : ℕ) → wordsAt s (startAt s i) (degreeAt s i + 1) ≡ listAt s i
-unfolding wordsAt listAt
-words-list s i = refl
+  pub word-past : (k : ℕ) → length bytes / 2 ≤ k → 0 ≡ getD (wordsOf bytes) k 0
+  word-past k l = sym (List·getD-eq-default (wordsOf bytes) 0 (omega (arith, length-words)))
 
--- the words that an entry names are those of the list
-pub list-word : (s : List ℕ) (i from n k : ℕ) → Obeys s → i < count s → from ≡ offsetAt s i → n ≡ degreeAt s i + 1
-    → getD (wordsAt s from n) k 0 ≡ getD (listAt s i) k 0
-list-word s i from n k o l e f = ap₂ (λ a m. getD (wordsAt s a m) k 0) (e ∙ o .placed i l) f ∙ ap (λ c. getD c k 0) (words-list s i)
+module _ (s : List ℕ) (at n : ℕ) (fits : at + 2 * n ≤ length s) where
+  abbrev part : List ℕ
+  part = take (2 * n) (drop at s)
 
--- the list, then zeros
-pub list-end : (s : List ℕ) (i n : ℕ) {l : List ℕ} {k : ℕ} → Filled l k (listAt s i) → degreeAt s i < n → length l ≡ n → n ≤ k
-    → l ≡ padded n (listAt s i)
-unfolding listAt
-list-end s i n {l} h d e p =
-    let q = length-tabulate (degreeAt s i + 1) (λ j. wordAt s (startAt s i + 2 * j)) in
-    padded-is n (listAt s i) l (omega arith) e (λ k r. h .at k (omega arith))
+  count : length part / 2 ≡ n
+  count = ap (λ m. m / 2) length-part ∙ mul-div-right n (lit< tt)
+    where
+      length-part : length part ≡ 2 * n
+      length-part = simp (length-take, length-drop) (omega arith)
+
+  byte : (j : ℕ) → j < 2 * n → getD part j 0 ≡ getD s (at + j) 0
+  byte j l = getD-take (2 * n) (drop at s) j 0 l ∙ getD-drop at s j 0
+
+  word : (k : ℕ) → k < n → wordAt part (0 + 2 * k) ≡ wordAt s (at + 2 * k)
+  word k l = ap₂ (λ a b. a + 256 * b) (byte (0 + 2 * k) (omega arith) ∙ ap (λ j. getD s j 0) (omega arith)) (byte (0 + 2 * k + 1) (omega arith) ∙ ap (λ j. getD s j 0) (omega arith))
+
+  pub part-words : wordsOf (take (2 * n) (drop at s)) ≡ wordsAt s at n
+  unfolding wordsOf wordsAt
+  part-words = ap (λ m. tabulate m (λ j. wordAt part (0 + 2 * j))) count ∙ tabulate-ext n _ _ word
+
+none : wordsOf [] ≡ []
+unfolding wordsOf wordsAt tabulate
+none = refl
+
+pub body-words : (p : ℕ) (s : List ℕ) (i : ℕ) → wordsOf (bodyOf p s i) ≡ written (lowest (checkRefusals p s i)) (listAt s i) []
+unfolding bodyOf listAt
+body-words p s i = go (lowest (checkRefusals p s i)) refl
+  where
+    go : (o : Outcome) → lowest (checkRefusals p s i) ≡ o
+        → wordsOf (written o (take (2 * (degreeAt s i + 1)) (drop (startAt s i) s)) []) ≡ written o (wordsAt s (startAt s i) (degreeAt s i + 1)) []
+    go Done e =
+        let fine = call-fine p s i e in
+        part-words s (startAt s i) (degreeAt s i + 1) (omega (arith, body-inside s (fine .0) i (fine .1), fine .0 .placed i (fine .1)))
+    go (Refused why) e = none

@@ -1,30 +1,20 @@
--- What the functions need and find that work on an album.
---     layoutRefusals     the rows of document 01's table for the album's layout
---     Obeys              the album obeys its layout
---     wordsAt            n words that stand one after the other from a place on
+-- What the functions read and hold that work on the lists of an album.
+--     wordsOf     the words of some bytes: two bytes to a word, low byte first
+--     Held        x is a slice of 256 words that holds a list of n words, which no call refuses, and zeros after it
 -- Assumes nothing.
 use mathlib.Core.Path.{_≡_}
-use mathlib.Core.List.{List, [], _∷_}
-use Prim.Native.Nat.{ℕ, _+_, _*_, _≤_, _<_}
+use mathlib.Core.List.{List}
+use Prim.Native.Nat.{ℕ, _/_}
 use lib.ListN.{length}
-use Rattle.refusal.specs.Limits.{maxLists}
-use Rattle.refusal.specs.Lowest.{Condition, _given-when_}
-use Rattle.refusal.specs.declared.Refusal.the-variants.{Count, Contents}
-use Rattle.lists.specs.Tabulate.{tabulate}
-use Rattle.album.specs.Layout.{count, wordAt, offsetAt, startAt, wrongCount, brokenLayout}
+use Rattle.refusal.specs.Limits.{maxWords}
+use Rattle.lists.specs.Refused.{Listed}
+use Rattle.euclid.specs.Gcds.{padded}
+use Rattle.layout.specs.Layout.{wordsAt}
 
-unfoldable pub layoutRefusals : List ℕ → List Condition
-layoutRefusals s =
-    Count given-when wrongCount maxLists s ∷
-    Contents given-when brokenLayout s ∷
-    []
+unfoldable pub wordsOf : List ℕ → List ℕ
+wordsOf bytes = wordsAt bytes 0 (length bytes / 2)
 
-pub record Obeys (s : List ℕ) : Type 0 where
-  pub some : 0 < length s
-  pub low : 0 < count s
-  pub few : count s ≤ maxLists
-  pub whole : length s ≡ startAt s (count s)
-  pub placed : (i : ℕ) → i < count s → offsetAt s i ≡ startAt s i
-
-unfoldable pub wordsAt : List ℕ → (at n : ℕ) → List ℕ
-wordsAt s at n = tabulate n (λ j. wordAt s (at + 2 * j))
+pub record Held (p : ℕ) (x : List ℕ) (n : ℕ) (c : List ℕ) : Type 0 where
+  pub listed : Listed p maxWords c
+  pub words : n ≡ length c
+  pub slice : x ≡ padded maxWords c

@@ -1,17 +1,16 @@
-// Albums: reading the layout, the words of a list, and a list's bytes as a part of the album itself.
+// Reading the lists of an album.
 ghost use mathlib.Core.Path.{_≡_};
 ghost use mathlib.Core.List.{[], _∷_};
-ghost use Prim.Native.Nat.{_+_, _*_, _≤_, _<_};
+ghost use Prim.Native.Nat.{_+_, _*_, _/_, _≤_};
 ghost use lib.ListN.{length, getD};
 ghost use Rattle.refusal.specs.Limits.{maxWords};
-ghost use Rattle.refusal.specs.Refusal.{reply, outcomeReply, written};
+ghost use Rattle.refusal.specs.Refusal.{reply, written};
 ghost use Rattle.refusal.specs.Lowest.{lowest};
 ghost use Rattle.field.specs.Field.{p};
-ghost use Rattle.lists.specs.Refused.{hasLoose, anyOf};
 ghost use Rattle.euclid.specs.Gcds.{padded};
-ghost use Rattle.album.specs.Layout.{count, degreeAt, wordAt, listAt, listsOf};
-ghost use Rattle.album.specs.Calls.{albumRefusals, checkRefusals, readRefusals, listedReply, bodyOf};
-ghost use Rattle.album.specs.Workers.{layoutRefusals, Obeys, wordsAt};
+ghost use Rattle.layout.specs.Layout.{degreeAt, listAt};
+ghost use Rattle.album.specs.Calls.{readRefusals, listedReply};
+ghost use Rattle.album.specs.Workers.{wordsOf};
 use lists::NaiveDegree;
 use refusal::Outcome;
 use refusal::Refusal;
@@ -22,160 +21,64 @@ pub enum Listed {
     Refused(Refusal),
 }
 
-// What every call on the album refuses.
-pub fn judge_album(album: &[u8]) -> Outcome
-    ensures { λ r. ⌜ r ≡ lowest (albumRefusals p (now (album .entry))) ⌝ }
-{
-    if let Outcome::Refused(why) = judge_layout(album) {
-        return Outcome::Refused(why);
-    }
-    if has_loose_word(album) {
-        return Outcome::Refused(Refusal::LooseWord);
-    }
-    Outcome::Done
-}
-
-// The refusal that applies to a call on list i.
-pub fn check(album: &[u8], i: usize) -> Outcome
-    ensures { λ r. ⌜ outcomeReply r ≡ reply (lowest (checkRefusals p (now (album .entry)) i)) [] ⌝ }
-{
-    judge_call(album, i)
-}
-
 // The words of list i, in a slice of 256 words, zeros after them.
 pub fn read_list(album: &[u8], i: usize, out: &mut [u16]) -> Listed
     ensures answer { λ r. ⌜ listedReply r ≡ reply (lowest (readRefusals p (now (album .entry)) i (now (out .entry)))) (degreeAt (now (album .entry)) i ∷ []) ⌝ }
     ensures writes { λ _. ⌜ now (out .exit) ≡ written (lowest (readRefusals p (now (album .entry)) i (now (out .entry)))) (padded maxWords (listAt (now (album .entry)) i)) (now (out .entry)) ⌝ }
 {
-    if let Outcome::Refused(why) = judge_call(album, i) {
-        return Listed::Refused(why);
+    let n = read(album, i, out);
+    if n != 0 {
+        return Listed::Done(NaiveDegree(n - 1));
     }
+    // Refused: for the album or i, or else for the slice.
+    match layout::judge_call(album, i) {
+        Outcome::Refused(why) => Listed::Refused(why),
+        Outcome::Done => Listed::Refused(Refusal::Misfit),
+    }
+}
+
+// The same for a caller that needs no refusal's number: the answer is the number of the list's words, 0 where refused.
+pub fn read(album: &[u8], i: usize, out: &mut [u16]) -> usize
+    ensures answer { λ r. ⌜ r ≡ length (written (lowest (readRefusals p (now (album .entry)) i (now (out .entry)))) (listAt (now (album .entry)) i) []) ⌝ }
+    ensures writes { λ _. ⌜ now (out .exit) ≡ written (lowest (readRefusals p (now (album .entry)) i (now (out .entry)))) (padded maxWords (listAt (now (album .entry)) i)) (now (out .entry)) ⌝ }
+{
     if out.len() != refusal::MAX_WORDS {
-        return Listed::Refused(Refusal::Misfit);
+        return 0;
     }
-    Listed::Done(NaiveDegree(read_words(album, i, out)))
+    let body = layout::body(album, i);
+    let n = body.len() / 2;
+    if n != 0 {
+        read_words(body, out);
+    }
+    n
 }
 
-// The bytes of list i, as a part of the album; the empty part when refused.
-pub fn body(album: &[u8], i: usize) -> &[u8]
-    ensures { λ r. ⌜ now r ≡ bodyOf p (now (album .entry)) i ⌝ }
+// The words of some bytes, zeros after them.
+fn read_words(bytes: &[u8], out: &mut [u16])
+    requires { ⌜ length (now bytes) / 2 ≤ length (now out) ⌝ }
+    ensures { λ _. ⌜ now (out .exit) ≡ padded (length (now (out .entry))) (wordsOf (now (bytes .entry))) ⌝ }
 {
-    match judge_call(album, i) {
-        Outcome::Done => {
-            let e = 1 + 3 * i;
-            let from = word(album, e + 1);
-            let to = from + 2 * (wide(album[e]) + 1);
-            &album[from..to]
-        }
-        Outcome::Refused(_) => &album[0..0],
-    }
-}
-
-// A byte as a number.
-fn wide(b: u8) -> usize
-    ensures { λ r. ⌜ (r ≡ b) × (r < 256) ⌝ }
-{
-    b as usize
-}
-
-// The word at a place, low byte first.
-fn word(s: &[u8], at: usize) -> usize
-    requires { ⌜ at + 1 < length (now s) ⌝ }
-    ensures { λ r. ⌜ (r ≡ wordAt (now (s .entry)) at) × (r < 65536) ⌝ }
-{
-    wide(s[at]) + 256 * wide(s[at + 1])
-}
-
-// Whether the album breaks its layout: `at` is where the next body has to start.
-fn judge_layout(album: &[u8]) -> Outcome
-    ensures { λ r. ⌜ r ≡ lowest (layoutRefusals (now (album .entry))) ⌝ }
-{
-    if album.len() == 0 {
-        return Outcome::Refused(Refusal::Count);
-    }
-    let n = wide(album[0]);
-    if n == 0 {
-        return Outcome::Refused(Refusal::Count);
-    }
-    if refusal::MAX_LISTS < n {
-        return Outcome::Refused(Refusal::Count);
-    }
-    let mut at = 1 + 3 * n;
-    if album.len() < at {
-        return Outcome::Refused(Refusal::Contents);
-    }
     let mut k = 0;
-    while k < n {
-        let e = 1 + 3 * k;
-        if word(album, e + 1) != at {
-            return Outcome::Refused(Refusal::Contents);
-        }
-        at += 2 * (wide(album[e]) + 1);
+    while k < out.len() {
+        out[k] = word_or_zero(bytes, k);
         k += 1;
     }
-    if album.len() != at {
-        return Outcome::Refused(Refusal::Contents);
-    }
-    Outcome::Done
 }
 
-// What a call on list i refuses.
-fn judge_call(album: &[u8], i: usize) -> Outcome
-    ensures { λ r. ⌜ r ≡ lowest (checkRefusals p (now (album .entry)) i) ⌝ }
+// Word k of some bytes; 0 past their end.
+fn word_or_zero(bytes: &[u8], k: usize) -> u16
+    ensures { λ r. ⌜ r ≡ getD (wordsOf (now (bytes .entry))) k 0 ⌝ }
 {
-    if let Outcome::Refused(why) = judge_layout(album) {
-        return Outcome::Refused(why);
-    }
-    if wide(album[0]) <= i {
-        return Outcome::Refused(Refusal::Index);
-    }
-    if has_loose_word(album) {
-        return Outcome::Refused(Refusal::LooseWord);
-    }
-    Outcome::Done
-}
-
-// Whether a list of the album has a loose word: the bodies' words stand one after the other up to the end.
-fn has_loose_word(album: &[u8]) -> bool
-    requires { ⌜ Obeys (now album) ⌝ }
-    ensures { λ r. ⌜ r ≡ anyOf (hasLoose p) (listsOf (now (album .entry))) ⌝ }
-{
-    let mut at = 1 + 3 * wide(album[0]);
-    while at + 1 < album.len() {
-        if 65521 <= word(album, at) {
-            return true;
-        }
-        at += 2;
-    }
-    false
-}
-
-// Word k of a list of n words whose body starts at `from`; 0 past its end.
-fn word_or_zero(album: &[u8], from: usize, n: usize, k: usize) -> u16
-    requires { ⌜ (k < maxWords) × (n ≤ maxWords) × (from + 2 * n ≤ length (now album)) ⌝ }
-    ensures { λ r. ⌜ r ≡ getD (wordsAt (now (album .entry)) from n) k 0 ⌝ }
-{
-    if k < n {
-        word(album, from + 2 * k) as u16
+    if k < bytes.len() / 2 {
+        word(bytes[2 * k], bytes[2 * k + 1])
     } else {
         0
     }
 }
 
-// The words of list i, then zeros. Hands back the naive degree.
-fn read_words(album: &[u8], i: usize, out: &mut [u16]) -> usize
-    requires { ⌜ Obeys (now album) ⌝ }
-    requires { ⌜ (i < count (now album)) × (length (now out) ≡ maxWords) ⌝ }
-    ensures { λ r. ⌜ r ≡ degreeAt (now (album .entry)) i ⌝ }
-    ensures { λ _. ⌜ now (out .exit) ≡ padded maxWords (listAt (now (album .entry)) i) ⌝ }
+// A word from its two bytes.
+fn word(low: u8, high: u8) -> u16
+    ensures { λ r. ⌜ r ≡ low + 256 * high ⌝ }
 {
-    let e = 1 + 3 * i;
-    let from = word(album, e + 1);
-    let degree = wide(album[e]);
-    let mut k = 0;
-    while k < out.len() {
-        out[k] = word_or_zero(album, from, degree + 1, k);
-        k += 1;
-    }
-    degree
+    low as u16 + 256 * (high as u16)
 }

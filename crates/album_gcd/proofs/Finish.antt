@@ -21,7 +21,7 @@ use Rattle.euclid.specs.Loops.{getD-padded}
 use Rattle.albums.specs.Albums.{albumGcd}
 use Rattle.albums.specs.Greatest.{coefficients-none, album-length, album-ends, album-is-greatest}
 use Rattle.albums.specs.Folds.{zeroStart, foldGcd, fold-album}
-use Rattle.album.specs.Layout.{listsOf}
+use Rattle.layout.specs.Layout.{listsOf}
 use Rattle.gcd.specs.declared.Gcd.the-variants as G
 use Rattle.gcd.specs.Calls.{gcdReply}
 use Rattle.album_gcd.specs.Calls.{albumGcdRefusals, albumGcdValues, AlbumGreatestSo}

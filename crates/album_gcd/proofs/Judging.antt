@@ -13,10 +13,10 @@ use Rattle.refusal.specs.declared.Refusal.{Refusal}
 use Rattle.refusal.specs.declared.Refusal.the-variants.{AllZero, Misfit}
 use Rattle.refusal.specs.declared.Outcome.the-variants.{Done, Refused}
 use Rattle.refusal.proofs.First.{refuse, or-else, first-then, refuse-done, or-else-done}
-use Rattle.album.specs.Layout.{listsOf}
-use Rattle.album.specs.Calls.{albumRefusals}
+use Rattle.layout.specs.Layout.{listsOf}
+use Rattle.layout.specs.Calls.{albumRefusals}
+use Rattle.layout.specs.Workers.{Passed}
 use Rattle.album_gcd.specs.Calls.{allZero, albumGcdRefusals}
-use Rattle.album_gcd.specs.Workers.{Passed}
 
 module _ (p : ℕ) (s h : List ℕ) where
   rows-judged : lowest (albumGcdRefusals p s h)

@@ -1,5 +1,4 @@
 pub mod Judging
-pub mod Lists
 pub mod Zeros
 pub mod Power
 pub mod Turning

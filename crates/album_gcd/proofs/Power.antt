@@ -13,8 +13,8 @@ use Rattle.lists.specs.Degrees.{naiveDegree, significant, extent, power}
 use Rattle.lists.specs.Extents.{significant-le}
 use Rattle.euclid.specs.Gcds.{commonPower}
 use Rattle.euclid.specs.Powers.{significant-nil, commonPower-le, commonPower-attained}
-use Rattle.album_gcd.specs.Workers.{Held}
-use Rattle.album_gcd.proofs.Lists.{held-take}
+use Rattle.album.specs.Workers.{Held}
+use Rattle.album.proofs.Held.{held-take}
 use Rattle.album_gcd.proofs.Zeros.{Nonzero}
 
 power-is : (c : List ℕ) → 0 < significant c → power c ≡ length c - significant c

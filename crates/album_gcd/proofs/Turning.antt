@@ -25,19 +25,14 @@ use Rattle.lists.specs.Refused.{wrongLength, hasLoose, listRefusals, Listed}
 use Rattle.lists.proofs.Judged.{judged}
 use Rattle.euclid.specs.Gcds.{gcdOf, countOf, padded}
 use Rattle.euclid.specs.Gcd.{gcd-rounds}
-use Rattle.euclid.specs.Loops.{length-padded, padded-is}
+use Rattle.euclid.specs.Loops.{padded-is}
 use Rattle.albums.specs.Folds.{zeroStart, turn, foldGcd, turn-zero, turn-nonzero, fold-none, fold-drop, start-listed, turn-listed}
 use Rattle.gcd.specs.declared.Gcd.the-variants as G
 use Rattle.gcd.specs.Calls.{gcdReply, gcdValues, gcdRefusals}
 use Rattle.gcd.proofs.Ready.{judged-done}
-use Rattle.album_gcd.specs.Workers.{Held, Turned, Folded}
-use Rattle.album_gcd.proofs.Lists.{numbered, held-take}
-
-pub held-length : {p n : ℕ} {x c : List ℕ} → Held p x n c → length x ≡ maxWords
-held-length {p} {n} {x} {c} h = ap length (h .slice) ∙ length-padded maxWords c (h .listed .short)
-
-pub held-again : {p n : ℕ} {x c : List ℕ} → Held p x n c → Held p x n (take n x)
-held-again h = rw (held-take h) h
+use Rattle.album.specs.Workers.{Held}
+use Rattle.album.proofs.Held.{held-take, held-length}
+use Rattle.album_gcd.specs.Workers.{Turned, Folded}
 
 -- a list that no call refuses passes
 module _ (p : ℕ) where
@@ -81,10 +76,8 @@ module _ (F : PrimeField) (big : maxWords ≤ F .p) where
       pass = gcd-pass (F .p) f c (h .listed) lc x some (held-length h)
 
       pub turn-never : (why : Refusal) → gcdReply (G.Refused why) ≡ reply (lowest (gcdRefusals (F .p) f c x)) (gcdValues F f c) → ⊥
-      turn-never why e =
-          let z = ap (λ z. z .number) (e ∙ ap (λ o. reply o (gcdValues F f c)) pass) in
-          let n = numbered why in
-          omega arith
+      unfolding gcdValues
+      turn-never why e = let z = ap (λ z. length (z .values)) (e ∙ ap (λ o. reply o (gcdValues F f c)) pass) in omega arith
 
       module _ (w : NaiveDegree) (c′ k : ℕ)
           (e : gcdReply (G.Done w c′ k) ≡ reply (lowest (gcdRefusals (F .p) f c x)) (gcdValues F f c)) where

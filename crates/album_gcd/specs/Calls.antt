@@ -21,8 +21,8 @@ use Rattle.lists.specs.Lists.{meaning}
 use Rattle.euclid.specs.Gcds.{commonPower}
 use Rattle.albums.specs.Albums.{albumGcd}
 use Rattle.albums.specs.Greatest.{IsGreatestOf}
-use Rattle.album.specs.Layout.{listsOf}
-use Rattle.album.specs.Calls.{albumRefusals}
+use Rattle.layout.specs.Layout.{listsOf}
+use Rattle.layout.specs.Calls.{albumRefusals}
 use Rattle.gcd.specs.declared.Gcd.{Gcd}
 use Rattle.gcd.specs.declared.Gcd.the-variants.{Done, Refused}
 

@@ -1,6 +1,4 @@
--- What the functions need and find that work on an album; s is its bytes.
---     Passed        none of the refusals of every call on an album applies
---     Held          x is a slice of 256 words that holds a list of n words, which no call refuses, and zeros after it
+-- What the functions behind the GCD of an album find and answer; s is the album's bytes.
 --     Turned        x holds the result so far, f, after one more list c, at k rounds more
 --     Folded        x holds the result after all lists, at k rounds
 --     Answered      what the call answers, leaves in the slice of h and promises
@@ -8,29 +6,18 @@
 use mathlib.Core.Path.{_≡_}
 use mathlib.Core.List.{List}
 use Prim.Native.Nat.{ℕ, _+_, _≤_}
-use lib.ListN.{length}
 use Rattle.algebra.specs.PrimeField.{PrimeField}
 use Rattle.refusal.specs.Limits.{maxWords}
 use Rattle.refusal.specs.Refusal.{reply, written}
 use Rattle.refusal.specs.Lowest.{lowest}
-use Rattle.refusal.specs.declared.Outcome.the-variants.{Done}
-use Rattle.lists.specs.Refused.{Listed}
 use Rattle.euclid.specs.Gcds.{padded}
 use Rattle.albums.specs.Albums.{albumGcd}
 use Rattle.albums.specs.Folds.{zeroStart, turn, foldGcd}
-use Rattle.album.specs.Layout.{listsOf}
-use Rattle.album.specs.Calls.{albumRefusals}
+use Rattle.layout.specs.Layout.{listsOf}
+use Rattle.album.specs.Workers.{Held}
 use Rattle.gcd.specs.declared.Gcd.{Gcd}
 use Rattle.gcd.specs.Calls.{gcdReply}
 use Rattle.album_gcd.specs.Calls.{albumGcdRefusals, albumGcdValues, AlbumGreatest}
-
-abbrev pub Passed : ℕ → List ℕ → Type 0
-Passed p s = lowest (albumRefusals p s) ≡ Done
-
-pub record Held (p : ℕ) (x : List ℕ) (n : ℕ) (c : List ℕ) : Type 0 where
-  pub listed : Listed p maxWords c
-  pub words : n ≡ length c
-  pub slice : x ≡ padded maxWords c
 
 module _ (F : PrimeField) where
   pub record Turned (f c x : List ℕ) (n k : ℕ) : Type 0 where

@@ -1,7 +1,7 @@
 // The GCD of an album.
 ghost use mathlib.Core.Path.{_≡_};
 ghost use mathlib.Core.Bool.{false};
-ghost use Prim.Native.Nat.{ℕ, _<_};
+ghost use Prim.Native.Nat.{ℕ};
 ghost use lib.ListN.{length, getD, take};
 ghost use Rattle.algebra.specs.PrimeField.{F65521};
 ghost use Rattle.refusal.specs.Limits.{maxWords};
@@ -11,10 +11,12 @@ ghost use Rattle.field.specs.Field.{p};
 ghost use Rattle.lists.specs.Refused.{Listed};
 ghost use Rattle.euclid.specs.Gcds.{padded, commonPower};
 ghost use Rattle.albums.specs.Albums.{albumGcd};
-ghost use Rattle.album.specs.Layout.{count, listAt, listsOf};
+ghost use Rattle.layout.specs.Layout.{count, listsOf};
+ghost use Rattle.layout.specs.Workers.{Passed};
+ghost use Rattle.album.specs.Workers.{Held};
 ghost use Rattle.gcd.specs.Calls.{gcdReply};
 ghost use Rattle.album_gcd.specs.Calls.{allZero, albumGcdRefusals, albumGcdValues, AlbumGreatest};
-ghost use Rattle.album_gcd.specs.Workers.{Passed, Held, Turned, Folded, Answered};
+ghost use Rattle.album_gcd.specs.Workers.{Turned, Folded, Answered};
 use gcd::Gcd;
 use lists::NaiveDegree;
 use refusal::Outcome;
@@ -39,18 +41,6 @@ fn count_lists(album: &[u8]) -> usize
     album[0] as usize
 }
 
-// List i, to a slice of 256 words. The number of its words.
-fn read(album: &[u8], i: usize, list: &mut [u16]) -> usize
-    requires { ⌜ Passed p (now album) ⌝ }
-    requires { ⌜ (i < count (now album)) × (length (now list) ≡ maxWords) ⌝ }
-    ensures { λ r. ⌜ Held p (now (list .exit)) r (listAt (now (album .entry)) i) ⌝ }
-{
-    match album::read_list(album, i, list) {
-        album::Listed::Done(degree) => degree.0 + 1,
-        album::Listed::Refused(_) => 0,
-    }
-}
-
 // Whether every list is zero.
 fn all_zero(album: &[u8], list: &mut [u16]) -> bool
     requires { ⌜ Passed p (now album) ⌝ }
@@ -60,7 +50,7 @@ fn all_zero(album: &[u8], list: &mut [u16]) -> bool
     let n = count_lists(album);
     let mut i = 0;
     while i < n {
-        let m = read(album, i, list);
+        let m = album::read(album, i, list);
         if lists::significant_words(&list[..m]) != 0 {
             return false;
         }
@@ -74,7 +64,7 @@ fn judge(album: &[u8], list: &mut [u16], h: &[u16]) -> Outcome
     requires { ⌜ length (now list) ≡ maxWords ⌝ }
     ensures { λ r. ⌜ r ≡ lowest (albumGcdRefusals p (now (album .entry)) (now (h .entry))) ⌝ }
 {
-    if let Outcome::Refused(why) = album::judge_album(album) {
+    if let Outcome::Refused(why) = layout::judge_album(album) {
         return Outcome::Refused(why);
     }
     if all_zero(album, list) {
@@ -96,7 +86,7 @@ fn common_power(album: &[u8], list: &mut [u16]) -> usize
     let mut least = 256;
     let mut j = 0;
     while j < n {
-        let m = read(album, j, list);
+        let m = album::read(album, j, list);
         let used = lists::significant_words(&list[..m]);
         if used != 0 {
             if m - used < least {
@@ -159,7 +149,7 @@ fn all_turns(album: &[u8], list: &mut [u16], last: &mut [u16], h: &mut [u16]) ->
     let mut rounds = 0;
     let mut k = 0;
     while k < n {
-        let m = read(album, k, list);
+        let m = album::read(album, k, list);
         let found = turn(&list[..m], last, h, words);
         words = found.words;
         rounds += found.rounds;

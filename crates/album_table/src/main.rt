@@ -34,8 +34,8 @@ fn print_first(name: &[u8], list: &[u16], n: usize) {
 fn show_list(bytes: &[u8], i: usize) {
     io::write_all(STDOUT_FILENO, b"check");
     print_number(i);
-    print_number(refusal::outcome_number(album::check(bytes, i)) as usize);
-    print_number(album::body(bytes, i).len());
+    print_number(refusal::outcome_number(layout::check(bytes, i)) as usize);
+    print_number(layout::body(bytes, i).len());
     io::write_all(STDOUT_FILENO, b"\n");
     let mut words = [0u16; 256];
     match album::read_list(bytes, i, &mut words) {

@@ -12,7 +12,8 @@ use Rattle.refusal.specs.declared.Refusal.{Refusal}
 use Rattle.refusal.specs.declared.Refusal.the-variants.{Misfit}
 use Rattle.refusal.specs.declared.Outcome.the-variants.{Done, Refused}
 use Rattle.refusal.proofs.First.{refuse, or-else, first-then, refuse-done, or-else-done}
-use Rattle.album.specs.Calls.{albumRefusals}
+use Rattle.layout.specs.Calls.{albumRefusals}
+use Rattle.layout.specs.Workers.{Passed}
 use Rattle.contents.specs.Workers.{fitRefusals}
 
 module _ (p : ℕ) (s : List ℕ) (n : ℕ) where
@@ -23,7 +24,7 @@ module _ (p : ℕ) (s : List ℕ) (n : ℕ) where
   pub fit-refused : {why : Refusal} → lowest (albumRefusals p s) ≡ Refused why → Refused why ≡ lowest (fitRefusals p s n)
   fit-refused e = sym (fit-judged ∙ simp e)
 
-  module _ (e : lowest (albumRefusals p s) ≡ Done) where
+  module _ (e : Passed p s) where
     pub fit-misfit : (n ≡ maxLists → ⊥) → Refused Misfit ≡ lowest (fitRefusals p s n)
     fit-misfit f = sym (fit-judged ∙ simp (e, ne-eqb n maxLists f))
 

@@ -13,7 +13,7 @@ use Rattle.refusal.specs.Limits.{maxLists}
 use Rattle.refusal.specs.Lowest.{lowest}
 use Rattle.refusal.specs.declared.Outcome.{Outcome}
 use Rattle.refusal.specs.declared.Outcome.the-variants.{Done, Refused}
-use Rattle.album.specs.Layout.{count, offsetAt}
+use Rattle.layout.specs.Layout.{count, offsetAt}
 use Rattle.contents.specs.Calls.{recordAt, recordsFrom, contentsRefusals, filled}
 use Rattle.contents.specs.Workers.{fitRefusals, recordsDue}
 use Rattle.contents.specs.declared.Entry.{Entry}

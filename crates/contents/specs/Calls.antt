@@ -14,8 +14,8 @@ use Rattle.refusal.specs.Lowest.{Condition, _given-when_}
 use Rattle.refusal.specs.declared.Refusal.the-variants.{Misfit}
 use Rattle.refusal.specs.declared.Outcome.{Outcome}
 use Rattle.refusal.specs.declared.Outcome.the-variants.{Done, Refused}
-use Rattle.album.specs.Layout.{count, degreeAt, offsetAt}
-use Rattle.album.specs.Calls.{albumRefusals}
+use Rattle.layout.specs.Layout.{count, degreeAt, offsetAt}
+use Rattle.layout.specs.Calls.{albumRefusals}
 use Rattle.contents.specs.declared.Entry.{Entry}
 
 unfoldable pub recordAt : List ℕ → ℕ → Entry

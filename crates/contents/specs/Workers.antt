@@ -11,7 +11,7 @@ use Rattle.refusal.specs.Lowest.{Condition, _given-when_}
 use Rattle.refusal.specs.declared.Refusal.the-variants.{Misfit}
 use Rattle.refusal.specs.declared.Outcome.{Outcome}
 use Rattle.refusal.specs.declared.Outcome.the-variants.{Done, Refused}
-use Rattle.album.specs.Calls.{albumRefusals}
+use Rattle.layout.specs.Calls.{albumRefusals}
 
 unfoldable pub fitRefusals : ℕ → List ℕ → ℕ → List Condition
 fitRefusals p s n = albumRefusals p s ++ (Misfit given-when not (eqb n maxLists) ∷ [])

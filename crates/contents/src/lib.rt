@@ -38,7 +38,7 @@ pub fn contents(album: &[u8], out: &mut [Entry]) -> Outcome
 fn judge_contents(album: &[u8], n: usize) -> Outcome
     ensures { λ r. ⌜ r ≡ lowest (fitRefusals p (now (album .entry)) n) ⌝ }
 {
-    if let Outcome::Refused(why) = album::judge_album(album) {
+    if let Outcome::Refused(why) = layout::judge_album(album) {
         return Outcome::Refused(why);
     }
     if n != refusal::MAX_LISTS {

@@ -11,7 +11,8 @@ ghost use Rattle.evaluation.specs.Calls.{evaluateRefusals};
 ghost use Rattle.division.specs.Calls.{divideRefusals};
 ghost use Rattle.gcd.specs.Calls.{gcdReply, gcdRefusals};
 ghost use Rattle.cofactors.specs.Calls.{cofactorRefusals};
-ghost use Rattle.album.specs.Calls.{listedReply, checkRefusals, readRefusals};
+ghost use Rattle.layout.specs.Calls.{checkRefusals};
+ghost use Rattle.album.specs.Calls.{listedReply, readRefusals};
 ghost use Rattle.album_gcd.specs.Calls.{albumGcdRefusals};
 ghost use Rattle.report_text.specs.Calls.{textReply, reportRefusals};
 ghost use Rattle.host.specs.Calls.{productRows, divisionRows, gcdRows};
@@ -114,10 +115,10 @@ fn find_cofactors(f: &[u16], g: &[u16], h: &mut [u16], a: &mut [u16], b: &mut [u
     cofactors::find_cofactors(f, g, h, a, b)
 }
 
-fn album_check(album: &[u8], i: usize) -> Outcome
+fn layout_check(album: &[u8], i: usize) -> Outcome
     ensures { λ r. ⌜ Demand1 (checkRefusals p (now (album .entry)) i) (outcomeReply r .number) [] ⌝ }
 {
-    album::check(album, i)
+    layout::check(album, i)
 }
 
 fn album_read_list(album: &[u8], i: usize, out: &mut [u16]) -> Listed
@@ -126,11 +127,11 @@ fn album_read_list(album: &[u8], i: usize, out: &mut [u16]) -> Listed
     album::read_list(album, i, out)
 }
 
-// The part is empty when refused, and `album_check` gives the number.
-fn album_body(album: &[u8], i: usize) -> &[u8]
+// The part is empty when refused, and `layout_check` gives the number.
+fn layout_body(album: &[u8], i: usize) -> &[u8]
     ensures { λ r. ⌜ EmptyRefused (checkRefusals p (now (album .entry)) i) (now r) ⌝ }
 {
-    album::body(album, i)
+    layout::body(album, i)
 }
 
 fn gcd_of_album(album: &[u8], h: &mut [u16]) -> Gcd

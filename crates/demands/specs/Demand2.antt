@@ -42,11 +42,11 @@ use Rattle.arithmetic.proofs.Judged.{product-fits, raise-fits, sum-fits}
 use Rattle.extents.specs.Calls.{trimRefusals}
 use Rattle.derivatives.specs.Calls.{derivativeWords, derivativeRefusals}
 use Rattle.division.specs.Calls.{divideRefusals, DividesSo}
-use Rattle.album.specs.Layout.{count, wrongCount, brokenLayout, listsOf}
-use Rattle.album.specs.Calls.{checkRefusals}
-use Rattle.album.specs.Written.{albumOf}
-use Rattle.album.specs.Reading.{album-is-read}
-use Rattle.album.specs.Whole.{album-whole}
+use Rattle.layout.specs.Layout.{count, wrongCount, brokenLayout, listsOf}
+use Rattle.layout.specs.Calls.{checkRefusals}
+use Rattle.layout.specs.Written.{albumOf}
+use Rattle.layout.specs.Reading.{album-is-read}
+use Rattle.layout.specs.Whole.{album-whole}
 use Rattle.demands.specs.Demand3.{demand3}
 
 module _ (F : PrimeField) where

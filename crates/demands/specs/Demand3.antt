@@ -13,7 +13,7 @@ use lib.ListN.{getD}
 use Rattle.algebra.specs.Ring.{CommRing}
 use Rattle.algebra.specs.OneMinusT.{⟨1-t⟩^}
 use Rattle.algebra.specs.Rounds.{Rounds}
-use Rattle.algebra.specs.PrimeField.{PrimeField, F65521, p-is, positive}
+use Rattle.algebra.specs.PrimeField.{PrimeField, F65521, p-is}
 use Rattle.refusal.specs.Limits.{maxWords}
 use Rattle.refusal.specs.Lowest.{lowest}
 use Rattle.refusal.specs.declared.Outcome.the-variants.{Done}
@@ -25,7 +25,8 @@ use Rattle.euclid.specs.Greatest.{IsGreatest, gcd-is-greatest}
 use Rattle.euclid.specs.Cofactors.{cofactors-are, cofactors-only}
 use Rattle.albums.specs.Albums.{albumGcd}
 use Rattle.albums.specs.Greatest.{IsGreatestOf, meaning-none, album-is-greatest}
-use Rattle.album.specs.Layout.{listsOf}
+use Rattle.layout.specs.Layout.{listsOf}
+use Rattle.layout.proofs.Passed.{passed-each}
 use Rattle.division.specs.Calls.{divideRefusals, DividesSo}
 use Rattle.division.proofs.Judged.{divide-fits}
 use Rattle.division.proofs.Answers.{divides-so}
@@ -35,7 +36,6 @@ use Rattle.cofactors.specs.Calls.{cofactorRefusals, CofactorsSo}
 use Rattle.cofactors.proofs.Results.{cofactors-ready}
 use Rattle.album_gcd.specs.Calls.{albumGcdRefusals}
 use Rattle.album_gcd.proofs.Judging.{judged-fine}
-use Rattle.album_gcd.proofs.Lists.{passed-each}
 use Rattle.album_gcd.proofs.Zeros.{nonzero}
 use Rattle.album_gcd.proofs.Finish.{each}
 
@@ -67,7 +67,7 @@ module _ (F : PrimeField) where
         of-album =
             λ s h bytes e.
             let j = judged-fine (F .p) s h e in
-            let listed = passed-each (F .p) s (j .0) (positive F) bytes in
+            let listed = passed-each (F .p) s (j .0) bytes in
             let one = nonzero (listsOf s) (j .1) in
             album-is-greatest F (listsOf s) (each F wide (listsOf s) listed one) (one .index) (one .some);
         of-two =

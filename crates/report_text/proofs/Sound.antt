@@ -4,10 +4,10 @@
 use mathlib.Core.Path.{_≡_, refl, sym, _∙_, ap, ap₂, subst}
 use mathlib.Core.Bool.{Bool, true, false}
 use mathlib.Core.List.{List, [], _∷_, _++_}
-use Prim.Native.Nat.{ℕ, _+_, _-_, _≤_, _<_}
+use Prim.Native.Nat.{ℕ, _+_, _≤_, _<_}
 use native.Mathlib.Decide.{decLt}
 use native.Mathlib.Omega.{arith}
-use lib.ListN.{length, getD, take, replicate, length-append, List·getD-eq-default}
+use lib.ListN.{length, getD, take, List·getD-eq-default}
 use lib.Seq.{take-at}
 use Rattle.algebra.specs.PrimeField.{PrimeField}
 use Rattle.refusal.specs.Limits.{maxWords}
@@ -22,12 +22,13 @@ use Rattle.euclid.specs.Gcds.{commonPower, padded}
 use Rattle.euclid.specs.Loops.{getD-padded}
 use Rattle.euclid.specs.Powers.{commonPower-attained}
 use Rattle.albums.specs.Albums.{albumGcd}
-use Rattle.album.specs.Layout.{listsOf}
+use Rattle.layout.specs.Layout.{listsOf}
+use Rattle.layout.specs.Workers.{Passed}
+use Rattle.album.proofs.Held.{padded-inside}
 use Rattle.gcd.specs.declared.Gcd.{Gcd}
 use Rattle.gcd.specs.declared.Gcd.the-variants as G
 use Rattle.gcd.specs.Calls.{gcdReply}
 use Rattle.album_gcd.specs.Calls.{allZero, albumGcdRefusals, albumGcdValues, AlbumGreatestSo, AlbumGreatest}
-use Rattle.album_gcd.specs.Workers.{Passed}
 use Rattle.album_gcd.proofs.Judging.{judged-zero, judged-done}
 use Rattle.album_gcd.proofs.Zeros.{nonzero}
 use Rattle.report_text.specs.Text.{decimal, line}
@@ -120,7 +121,7 @@ module _ (F : PrimeField) (s h : List ℕ) (e : Passed (F .p) s) (q : length h �
           some = done-some;
           list = ap (take (w .0 + 1)) slice ∙ take-at (albumGcd F (listsOf s) .list) _ (w .0 + 1) words;
           words = words;
-          short = omega (arith, ap length slice, length-append (albumGcd F (listsOf s) .list) (replicate (maxWords - length (albumGcd F (listsOf s) .list)) 0));
+          short = omega (arith, ap length slice, padded-inside maxWords (albumGcd F (listsOf s) .list));
           word = word;
           power = ap (λ v. getD v 1 0) values;
         }

@@ -2,12 +2,12 @@
 -- Assumes nothing.
 use mathlib.Core.Path.{_≡_, refl, sym, _∙_, ap, ap₂}
 use mathlib.Core.List.{List, [], _∷_, _++_}
-use Prim.Native.Nat.{ℕ, _+_, _-_, _≤_, _<_}
+use Prim.Native.Nat.{ℕ, _+_, _≤_, _<_}
 use native.Mathlib.Omega.{arith}
-use lib.ListN.{length, getD, take, replicate, length-append}
+use lib.ListN.{length, getD, take}
 use borrow.Author.Tests.{eq-eqb, ne-eqb}
 use Rattle.algebra.specs.PrimeField.{PrimeField, F65521}
-use Rattle.refusal.specs.Refusal.{number, reply, written}
+use Rattle.refusal.specs.Refusal.{reply, written}
 use Rattle.refusal.specs.Lowest.{lower, lowest}
 use Rattle.refusal.specs.declared.Refusal.{Refusal}
 use Rattle.refusal.specs.declared.Refusal.the-variants.{Misfit}
@@ -15,10 +15,12 @@ use Rattle.refusal.specs.declared.Outcome.{Outcome}
 use Rattle.refusal.specs.declared.Outcome.the-variants.{Done, Refused}
 use Rattle.field.specs.Field.{p}
 use Rattle.euclid.specs.Gcds.{padded}
-use Rattle.album.specs.Layout.{count, listsOf}
-use Rattle.album.specs.Calls.{albumRefusals}
-use Rattle.album_gcd.specs.Workers.{Passed}
-use Rattle.album_gcd.proofs.Lists.{numbered, length-lists, passed-obeys, passed-each}
+use Rattle.layout.specs.Layout.{count, listsOf}
+use Rattle.layout.specs.Calls.{albumRefusals}
+use Rattle.layout.specs.Workers.{Passed}
+use Rattle.layout.specs.Places.{length-lists}
+use Rattle.layout.proofs.Passed.{passed-obeys, passed-each}
+use Rattle.album.proofs.Held.{padded-inside}
 use Rattle.report_text.specs.Text.{decimal, line}
 use Rattle.report_text.specs.Report.{⟨lists⟩, listLines, refusedLine, soundReport, reportOf}
 use Rattle.report_text.specs.Calls.{maxText, reportRefusals, textReply}
@@ -29,7 +31,7 @@ use Rattle.report_text.proofs.Puts.{put-is, put-then}
 use Rattle.report_text.proofs.Fits.{named-fits, lines-fit}
 use Rattle.report_text.proofs.Sound.{sound-lines}
 
-module _ (p : ℕ) (s : List ℕ) (e : Passed p s) (big : 0 < p) (bytes : (k : ℕ) → getD s k 0 < 256) where
+module _ (p : ℕ) (s : List ℕ) (e : Passed p s) (bytes : (k : ℕ) → getD s k 0 < 256) where
   abbrev first : List ℕ
   first = line (⟨lists⟩ ∷ decimal (count s) ∷ [])
 
@@ -40,7 +42,7 @@ module _ (p : ℕ) (s : List ℕ) (e : Passed p s) (big : 0 < p) (bytes : (k : �
   lists-fit =
       let few = passed-obeys p s e .few in
       let n = length-lists s in
-      let fits = lines-fit (listsOf s) 0 (omega arith) (λ j l. let h = passed-each p s e big bytes j l .short in omega arith) in
+      let fits = lines-fit (listsOf s) 0 (omega arith) (λ j l. let h = passed-each p s e bytes j l .short in omega arith) in
       omega arith
 
   module _ {a : List ℕ} (q : length a ≡ maxText) where
@@ -96,13 +98,11 @@ cleared {t} {a} {b} {c} {r} q x z =
 -- for a caller: the text that an answer names lies in the slice
 inside-so : (t a : List ℕ) (o : Outcome) {c : List ℕ} {k : ℕ} → textReply (T.Done k) ≡ reply o (length t ∷ [])
     → c ≡ written o (padded maxText t) a → k ≤ length c
-unfolding padded
 inside-so t a Done {c} {k} e z =
     let n : k ≡ length t = ap (λ v. getD (v .values) 0 0) e in
-    omega (arith, ap length z, length-append t (replicate (maxText - length t) 0))
+    omega (arith, ap length z, padded-inside maxText t)
 inside-so t a (Refused why) {c} {k} e z =
-    let n : 0 ≡ number why = ap (λ v. v .number) e in
-    absurd (omega (arith, numbered why))
+    absurd (let n = ap (λ v. length (v .values)) e in omega arith)
 
 pub text-inside : (s a : List ℕ) {c : List ℕ} {k : ℕ} {r : Text} → r ≡ T.Done k
     → textReply r ≡ reply (lowest (reportRefusals a)) (length (reportOf p F65521 s) ∷ [])

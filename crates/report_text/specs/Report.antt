@@ -22,8 +22,8 @@ use Rattle.refusal.specs.declared.Outcome.the-variants.{Done, Refused}
 use Rattle.lists.specs.Degrees.{naiveDegree, significant, extent, power}
 use Rattle.euclid.specs.Gcds.{commonPower}
 use Rattle.albums.specs.Albums.{albumGcd}
-use Rattle.album.specs.Layout.{listsOf}
-use Rattle.album.specs.Calls.{albumRefusals}
+use Rattle.layout.specs.Layout.{listsOf}
+use Rattle.layout.specs.Calls.{albumRefusals}
 use Rattle.album_gcd.specs.Calls.{allZero}
 use Rattle.report_text.specs.Text.{decimal, line}
 

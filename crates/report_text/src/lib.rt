@@ -9,13 +9,12 @@ ghost use Rattle.refusal.specs.Refusal.{reply, written};
 ghost use Rattle.refusal.specs.Lowest.{lowest};
 ghost use Rattle.field.specs.Field.{p};
 ghost use Rattle.euclid.specs.Gcds.{padded};
-ghost use Rattle.album.specs.Layout.{count, listAt, listsOf};
-ghost use Rattle.album_gcd.specs.Workers.{Passed, Held};
+ghost use Rattle.layout.specs.Layout.{listsOf};
+ghost use Rattle.layout.specs.Workers.{Passed};
 ghost use Rattle.report_text.specs.Text.{decimal, line};
 ghost use Rattle.report_text.specs.Report.{listLine, listLines, gcdLines, refusedLine, soundReport, reportOf};
 ghost use Rattle.report_text.specs.Calls.{maxText, reportRefusals, textReply};
 ghost use Rattle.report_text.specs.Workers.{Room, Put, lineEnd, maxAnswer, answerLines};
-use album::Listed;
 use gcd::Gcd;
 use refusal::Outcome;
 use refusal::Refusal;
@@ -61,7 +60,7 @@ fn report_in(album: &[u8], list: &mut [u16], h: &mut [u16], out: &mut [u8]) -> u
     requires { ⌜ (length (now list) ≡ maxWords) × (length (now h) ≡ maxWords) × (length (now out) ≡ maxText) ⌝ }
     ensures { λ r. ⌜ Put (reportOf p F65521 (now (album .entry))) 0 (now (out .entry)) (now (out .exit)) r ⌝ }
 {
-    match album::judge_album(album) {
+    match layout::judge_album(album) {
         Outcome::Refused(why) => put_refused(why, 0, out),
         Outcome::Done => put_sound(album, list, h, out),
     }
@@ -204,18 +203,6 @@ fn put_gcd(h: &[u16], c: usize, at: usize, out: &mut [u8]) -> usize
     put_words(h, end, out)
 }
 
-// List i, to a slice of 256 words. The number of its words.
-fn read(album: &[u8], i: usize, list: &mut [u16]) -> usize
-    requires { ⌜ Passed p (now album) ⌝ }
-    requires { ⌜ (i < count (now album)) × (length (now list) ≡ maxWords) ⌝ }
-    ensures { λ r. ⌜ Held p (now (list .exit)) r (listAt (now (album .entry)) i) ⌝ }
-{
-    match album::read_list(album, i, list) {
-        Listed::Done(degree) => degree.0 + 1,
-        Listed::Refused(_) => 0,
-    }
-}
-
 // The lines of the lists; `list` is room for one.
 fn put_lists(album: &[u8], list: &mut [u16], at: usize, out: &mut [u8]) -> usize
     requires { ⌜ (Passed p (now album)) × (length (now list) ≡ maxWords) ⌝ }
@@ -226,7 +213,7 @@ fn put_lists(album: &[u8], list: &mut [u16], at: usize, out: &mut [u8]) -> usize
     let mut place = at;
     let mut i = 0;
     while i < n {
-        let m = read(album, i, list);
+        let m = album::read(album, i, list);
         place = put_list(i, &list[..m], place, out);
         i += 1;
     }

@@ -7,9 +7,12 @@ use lib.ListN.{length, getD}
 use borrow.Author.Needs.{needs}
 use Rattle.algebra.specs.PrimeField.{F65521}
 use Rattle.refusal.specs.Limits.{maxWords}
-use Rattle.album.specs.Layout.{listsOf}
-use Rattle.album_gcd.proofs.Lists.{passed-obeys, length-lists, list-at, held-take}
-use Rattle.album_gcd.proofs.Turning.{held-length, held-again, Folding, folding-start, folding-next, folding-end}
+use Rattle.layout.specs.Layout.{listAt, listsOf}
+use Rattle.layout.specs.Places.{length-lists, list-at}
+use Rattle.layout.proofs.Passed.{passed-obeys}
+use Rattle.album.specs.Workers.{Held}
+use Rattle.album.proofs.Held.{held-take, held-length, held-inside, held-count, held-again, read-held}
+use Rattle.album_gcd.proofs.Turning.{Folding, folding-start, folding-next, folding-end}
 use Rattle.album_gcd.proofs.all_turns.Statement.{statement}
 use Rattle.album_gcd.proofs.all_turns.Tie as tie
 
@@ -38,23 +41,25 @@ loop-holds c =
     )
 
 read-requires : tie.Need-read-requires Inv-loop μ-loop
-read-requires c κs =
-    let start = c .before .before .before .before .before .before .before .before .before .before .before .before .before in
-    (start .pre .0, (omega (arith, c .before .before .before .before .before .before .before .before .count-lists .ensures), c .before .before .loop .inv .1))
+read-requires c κs = search needs
+
+-- list k, as it is read
+held : (c : tie.After-read Inv-loop μ-loop) → Held 65521 (c .read .last .1 .1 .0) (c .read .result) (listAt (c .before .before .before .before .before .before .before .before .before .before .before .before .before .before .args .album .now) (c .before .before .before .loop .k))
+held c =
+    let n = c .before .before .before .before .before .before .before .before .before .count-lists .ensures in
+    read-held 65521 _ _ _ (c .before .before .before .before .before .before .before .before .before .before .before .before .before .before .pre .0) (omega arith) (c .before .before .before .loop .inv .1) (c .read .kept .1 .1 .0) (c .read .ensures .0) (c .read .ensures .1)
 
 slice-reshare-prefix-turn : tie.Need-slice-reshare-prefix-turn Inv-loop μ-loop
-slice-reshare-prefix-turn c = search needs
+slice-reshare-prefix-turn c = held-inside (held (c .before .before))
 
 slice-aggregate-turn : tie.Need-slice-aggregate-turn Inv-loop μ-loop
-slice-aggregate-turn c =
-    let h = c .before .before .before .read .ensures in
-    h .words ∙ ap length (sym (held-take h))
+slice-aggregate-turn c = held-count (held (c .before .before .before))
 
 turn-requires : tie.Need-turn-requires Inv-loop μ-loop
 unfolding F65521
 turn-requires c κs =
     let w = c .before .before .before .before .before .before .before .before .loop .inv in
-    (held-again (c .before .before .before .before .before .read .ensures) .listed, (held-again (w .3 .held), w .2))
+    (held-again (held (c .before .before .before .before .before)) .listed, (held-again (w .3 .held), w .2))
 
 add-rounds : tie.Need-add-rounds Inv-loop μ-loop
 add-rounds c =
@@ -77,7 +82,7 @@ loop-again c =
       search needs,
       search needs,
       folding-next F65521 (listsOf s) (c .before .before .before .before .before .before .before .before .before .before .before .before .before .before .loop .inv .3) (omega (arith, length-lists s))
-          (held-take (c .before .before .before .before .before .before .before .before .before .before .before .read .ensures) ∙ sym (list-at s _ (omega arith))) (c .before .before .before .before .before .turn .ensures),
+          (held-take (held (c .before .before .before .before .before .before .before .before .before .before .before)) ∙ sym (list-at s _ (omega arith))) (c .before .before .before .before .before .turn .ensures),
     )
 
 same-length : tie.Need-same-length Inv-loop μ-loop

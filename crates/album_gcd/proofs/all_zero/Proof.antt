@@ -8,9 +8,11 @@ use lib.ListN.{length, getD, drop}
 use borrow.Author.Needs.{needs}
 use Rattle.refusal.specs.Limits.{maxWords}
 use Rattle.lists.specs.Degrees.{significant}
-use Rattle.album.specs.Layout.{listsOf}
+use Rattle.layout.specs.Layout.{listAt, listsOf}
+use Rattle.layout.specs.Places.{length-lists, list-at}
+use Rattle.album.specs.Workers.{Held}
+use Rattle.album.proofs.Held.{held-take, held-inside, held-count, read-held}
 use Rattle.album_gcd.specs.Calls.{allZero}
-use Rattle.album_gcd.proofs.Lists.{length-lists, list-at, held-take}
 use Rattle.album_gcd.proofs.Zeros.{zero-here, zero-on, zero-end}
 use Rattle.album_gcd.proofs.all_zero.Statement.{statement}
 use Rattle.album_gcd.proofs.all_zero.Tie as tie
@@ -28,18 +30,20 @@ loop-holds : tie.Need-loop-holds Inv-loop μ-loop
 loop-holds c = (search needs, c .before .before .before .pre .1, refl)
 
 read-requires : tie.Need-read-requires Inv-loop μ-loop
-read-requires c κs =
-    let start = c .before .before .before .before .before .before in
-    (start .pre .0, (omega (arith, c .before .before .before .count-lists .ensures), c .before .before .loop .inv .1))
+read-requires c κs = search needs
+
+-- list i, as it is read
+held : (c : tie.After-read Inv-loop μ-loop) → Held 65521 (c .read .last .1 .1 .0) (c .read .result) (listAt (c .before .before .before .before .before .before .before .args .album .now) (c .before .before .before .loop .i))
+held c =
+    let n = c .before .before .before .before .count-lists .ensures in
+    read-held 65521 _ _ _ (c .before .before .before .before .before .before .before .pre .0) (omega arith) (c .before .before .before .loop .inv .1) (c .read .kept .1 .1 .0) (c .read .ensures .0) (c .read .ensures .1)
 
 slice-reshare-prefix-significant-words :
     tie.Need-slice-reshare-prefix-significant-words Inv-loop μ-loop
-slice-reshare-prefix-significant-words c = search needs
+slice-reshare-prefix-significant-words c = held-inside (held (c .before .before))
 
 slice-aggregate-significant-words : tie.Need-slice-aggregate-significant-words Inv-loop μ-loop
-slice-aggregate-significant-words c =
-    let h = c .before .before .before .read .ensures in
-    h .words ∙ ap length (sym (held-take h))
+slice-aggregate-significant-words c = held-count (held (c .before .before .before))
 
 significant-words-requires : tie.Need-significant-words-requires Inv-loop μ-loop
 significant-words-requires c κs = search needs
@@ -50,7 +54,7 @@ found : (c : tie.After-significant-words Inv-loop μ-loop)
 found c =
     let s = c .before .before .before .before .before .before .before .before .before .before .before .args .album .now in
     let l = c .before .before .before .before .before .before .before .before .count-lists .ensures in
-    c .significant-words .ensures ∙ ap significant (held-take (c .before .before .before .before .read .ensures) ∙ sym (list-at s _ (omega arith)))
+    c .significant-words .ensures ∙ ap significant (held-take (held (c .before .before .before .before)) ∙ sym (list-at s _ (omega arith)))
 
 same-length : tie.Need-same-length Inv-loop μ-loop
 same-length c = search needs

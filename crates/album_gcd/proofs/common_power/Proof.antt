@@ -1,17 +1,19 @@
 -- `album_gcd::common_power` meets its contract: the least power of the lists below j is found.
 -- Assumes nothing.
-use mathlib.Core.Path.{_≡_, sym, _∙_, ap}
+use mathlib.Core.Path.{_≡_, sym, _∙_}
 use mathlib.Core.List.{[]}
 use mathlib.Core.Logic.{⊎-elim}
 use Prim.Native.Nat.{_≤_, _<_, _-_}
 use native.Mathlib.Omega.{arith}
-use lib.Dec.{leb→le}
 use lib.ListN.{length, getD}
 use borrow.Author.Needs.{needs}
 use Rattle.refusal.specs.Limits.{maxWords}
 use Rattle.lists.specs.Degrees.{significant, power}
-use Rattle.album.specs.Layout.{listsOf}
-use Rattle.album_gcd.proofs.Lists.{length-lists, list-at, held-take, passed-each}
+use Rattle.layout.specs.Layout.{listAt, listsOf}
+use Rattle.layout.specs.Places.{length-lists, list-at}
+use Rattle.layout.proofs.Passed.{passed-each}
+use Rattle.album.specs.Workers.{Held}
+use Rattle.album.proofs.Held.{held-inside, held-count, read-held}
 use Rattle.album_gcd.proofs.Zeros.{nonzero}
 use Rattle.album_gcd.proofs.Power.{list-power, Lowest, lowest-start, lowest-keep, lowest-less, lowest-end}
 use Rattle.album_gcd.proofs.common_power.Statement.{statement}
@@ -30,18 +32,20 @@ loop-holds : tie.Need-loop-holds Inv-loop μ-loop
 loop-holds c = (search needs, c .before .before .before .pre .1, lowest-start _)
 
 read-requires : tie.Need-read-requires Inv-loop μ-loop
-read-requires c κs =
-    let start = c .before .before .before .before .before .before in
-    (start .pre .0 .0, (omega (arith, c .before .before .before .count-lists .ensures), c .before .before .loop .inv .1))
+read-requires c κs = search needs
+
+-- list j, as it is read
+held : (c : tie.After-read Inv-loop μ-loop) → Held 65521 (c .read .last .1 .1 .0) (c .read .result) (listAt (c .before .before .before .before .before .before .before .args .album .now) (c .before .before .before .loop .j))
+held c =
+    let n = c .before .before .before .before .count-lists .ensures in
+    read-held 65521 _ _ _ (c .before .before .before .before .before .before .before .pre .0 .0) (omega arith) (c .before .before .before .loop .inv .1) (c .read .kept .1 .1 .0) (c .read .ensures .0) (c .read .ensures .1)
 
 slice-reshare-prefix-significant-words :
     tie.Need-slice-reshare-prefix-significant-words Inv-loop μ-loop
-slice-reshare-prefix-significant-words c = search needs
+slice-reshare-prefix-significant-words c = held-inside (held (c .before .before))
 
 slice-aggregate-significant-words : tie.Need-slice-aggregate-significant-words Inv-loop μ-loop
-slice-aggregate-significant-words c =
-    let h = c .before .before .before .read .ensures in
-    h .words ∙ ap length (sym (held-take h))
+slice-aggregate-significant-words c = held-count (held (c .before .before .before))
 
 significant-words-requires : tie.Need-significant-words-requires Inv-loop μ-loop
 significant-words-requires c κs = search needs
@@ -54,7 +58,7 @@ listed : (c : tie.After-significant-words Inv-loop μ-loop)
 listed c =
     let s = c .before .before .before .before .before .before .before .before .before .before .before .args .album .now in
     let l = c .before .before .before .before .before .before .before .before .count-lists .ensures in
-    let h = c .before .before .before .before .read .ensures in
+    let h = held (c .before .before .before .before) in
     list-power (sym (list-at s _ (omega arith))) h (c .significant-words .ensures)
 
 sub-if2 : tie.Need-sub-if2 Inv-loop μ-loop
@@ -93,7 +97,7 @@ returns c =
     let bytes = c .before .before .before .before .shared-slice-known .given in
     let l = c .before .before .count-lists .ensures in
     lowest-end (listsOf s) (c .before .loop .inv .2) (omega (arith, length-lists s)) (nonzero (listsOf s) (start .pre .0 .1))
-    (λ j k. passed-each 65521 s (start .pre .0 .0) (leb→le 1 65521 tt) (λ i. omega (arith, bytes i)) j k .short)
+    (λ j k. passed-each 65521 s (start .pre .0 .0) (λ i. omega (arith, bytes i)) j k .short)
 
 pub common-power-spec : {M : Type 1} → statement M
 common-power-spec =

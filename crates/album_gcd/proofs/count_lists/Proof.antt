@@ -2,7 +2,7 @@
 -- Assumes nothing.
 use native.Mathlib.Omega.{arith}
 use borrow.Author.Needs.{needs}
-use Rattle.album_gcd.proofs.Lists.{passed-obeys}
+use Rattle.layout.proofs.Passed.{passed-obeys}
 use Rattle.album_gcd.proofs.count_lists.Statement.{statement}
 use Rattle.album_gcd.proofs.count_lists.Tie as tie
 

@@ -4,9 +4,9 @@ use native.Mathlib.Omega.{arith}
 use lib.Dec.{leb→le}
 use borrow.Author.Needs.{needs}
 use Rattle.algebra.specs.PrimeField.{F65521}
-use Rattle.album.specs.Layout.{listsOf}
+use Rattle.layout.specs.Layout.{listsOf}
+use Rattle.layout.proofs.Passed.{passed-each}
 use Rattle.album_gcd.proofs.Judging.{judged-done}
-use Rattle.album_gcd.proofs.Lists.{passed-each}
 use Rattle.album_gcd.proofs.Zeros.{nonzero}
 use Rattle.album_gcd.proofs.Finish.{answered}
 use Rattle.album_gcd.proofs.gcd_into.Statement.{statement}
@@ -37,7 +37,7 @@ returns c =
     let s = start .args .album .now in
     let bytes = c .before .before .before .before .before .before .before .before .before .before .before .before .before .before .before .before .before .before .shared-slice-known .given in
     answered F65521 (leb→le 256 65521 tt) s (start .args .h .now)
-    (passed-each 65521 s (start .pre .0 .0) (leb→le 1 65521 tt) (λ k. omega (arith, bytes k))) (nonzero (listsOf s) (start .pre .0 .1))
+    (passed-each 65521 s (start .pre .0 .0) (λ k. omega (arith, bytes k))) (nonzero (listsOf s) (start .pre .0 .1))
     (judged-done 65521 s _ (start .pre .0 .0) (start .pre .0 .1) (start .pre .1 .0 .2)) (c .before .before .before .before .before .before .before .before .before .before .before .all-turns .ensures) (c .before .before .before .common-power .ensures)
 
 pub gcd-into-spec : {M : Type 1} → statement M

@@ -2,7 +2,7 @@
 -- Assumes nothing.
 use mathlib.Core.Path.{sym, _∙_}
 use borrow.Author.Needs.{needs}
-use Rattle.album_gcd.specs.Workers.{Passed}
+use Rattle.layout.specs.Workers.{Passed}
 use Rattle.album_gcd.proofs.Judging.{judged-album, judged-zero, judged-misfit, judged-done}
 use Rattle.album_gcd.proofs.judge.Statement.{statement}
 use Rattle.album_gcd.proofs.judge.Tie as tie

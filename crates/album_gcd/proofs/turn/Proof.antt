@@ -8,8 +8,9 @@ use borrow.Author.Needs.{needs}
 use Rattle.algebra.specs.PrimeField.{F65521}
 use Rattle.lists.specs.Degrees.{significant}
 use Rattle.gcd.specs.Calls.{gcdReply}
-use Rattle.album_gcd.specs.Workers.{Held}
-use Rattle.album_gcd.proofs.Turning.{held-length, turn-over, turn-never, turn-short, turn-with, turn-as}
+use Rattle.album.specs.Workers.{Held}
+use Rattle.album.proofs.Held.{held-length}
+use Rattle.album_gcd.proofs.Turning.{turn-over, turn-never, turn-short, turn-with, turn-as}
 use Rattle.album_gcd.proofs.turn.Statement.{statement}
 use Rattle.album_gcd.proofs.turn.Tie as tie
 

@@ -1,9 +1,7 @@
 -- `contents::judge_contents` meets its contract: the tests stand in the order of the numbers.
 -- Assumes nothing.
-use mathlib.Core.Path.{_≡_, sym, _∙_}
-use Rattle.refusal.specs.Lowest.{lowest}
-use Rattle.refusal.specs.declared.Outcome.the-variants.{Done}
-use Rattle.album.specs.Calls.{albumRefusals}
+use mathlib.Core.Path.{sym, _∙_}
+use Rattle.layout.specs.Workers.{Passed}
 use Rattle.contents.proofs.Judged.{fit-refused, fit-misfit, fit-done}
 use borrow.Author.Needs.{needs}
 use Rattle.contents.proofs.judge_contents.Statement.{statement}
@@ -21,15 +19,15 @@ returns c = fit-refused 65521 _ _ (sym (c .before .before .before .judge-album .
 enum-told : tie.Need-enum-told
 enum-told c = search needs
 
--- the album is not refused
-fine : (c : tie.After-enum-told) → lowest (albumRefusals 65521 (c .before .before .before .before .args .album .now)) ≡ Done
-fine c = sym (c .before .before .judge-album .ensures) ∙ c .enum-told .given .1
+-- the album passed
+passed : (c : tie.After-enum-told) → Passed 65521 (c .before .before .before .before .args .album .now)
+passed c = sym (c .before .before .judge-album .ensures) ∙ c .enum-told .given .1
 
 returns-2 : tie.Need-returns-2
-returns-2 c = fit-misfit 65521 _ _ (fine (c .before)) (c .if1 .taken)
+returns-2 c = fit-misfit 65521 _ _ (passed (c .before)) (c .if1 .taken)
 
 returns-3 : tie.Need-returns-3
-returns-3 c = fit-done 65521 _ _ (fine (c .before)) (c .if1 .left)
+returns-3 c = fit-done 65521 _ _ (passed (c .before)) (c .if1 .left)
 
 pub judge-contents-spec : {M : Type 1} → statement M
 judge-contents-spec =

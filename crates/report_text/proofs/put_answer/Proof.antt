@@ -3,14 +3,13 @@
 use mathlib.Core.Path.{_≡_, refl, sym, _∙_, ap}
 use Prim.Native.Nat.{_<_}
 use native.Mathlib.Omega.{arith}
-use lib.Dec.{leb→le}
 use lib.ListN.{length}
 use borrow.Author.Needs.{needs}
 use Rattle.algebra.specs.PrimeField.{F65521}
 use Rattle.refusal.specs.Limits.{maxWords}
 use Rattle.albums.specs.Albums.{albumGcd}
-use Rattle.album.specs.Layout.{listsOf}
-use Rattle.album_gcd.proofs.Lists.{passed-each}
+use Rattle.layout.specs.Layout.{listsOf}
+use Rattle.layout.proofs.Passed.{passed-each}
 use Rattle.report_text.specs.Report.{gcdLines}
 use Rattle.report_text.proofs.Puts.{put-is}
 use Rattle.report_text.proofs.Fits.{refused-fits}
@@ -43,7 +42,7 @@ small c =
     let a = given c in
     let l =
     common-power-short (listsOf s) maxWords (omega arith) (a .some)
-    (λ j k. passed-each 65521 s (c .before .before .before .before .before .before .before .before .before .pre .0 .0) (leb→le 1 65521 tt) (λ i. omega (arith, bytes i)) j k .short) in
+    (λ j k. passed-each 65521 s (c .before .before .before .before .before .before .before .before .before .pre .0 .0) (λ i. omega (arith, bytes i)) j k .short) in
     omega (arith, a .power)
 
 add-put-gcd : tie.Need-add-put-gcd

@@ -7,9 +7,11 @@ use native.Mathlib.Omega.{arith}
 use lib.ListN.{length, drop}
 use borrow.Author.Needs.{needs}
 use Rattle.refusal.specs.Limits.{maxWords}
-use Rattle.album.specs.Layout.{listsOf}
-use Rattle.album_gcd.proofs.Lists.{held-take, length-lists, list-at, passed-obeys}
-use Rattle.album_gcd.proofs.Turning.{held-length}
+use Rattle.layout.specs.Layout.{listAt, listsOf}
+use Rattle.layout.specs.Places.{length-lists, list-at}
+use Rattle.layout.proofs.Passed.{passed-obeys}
+use Rattle.album.specs.Workers.{Held}
+use Rattle.album.proofs.Held.{held-take, held-length, held-inside, held-count, read-held}
 use Rattle.report_text.specs.Report.{listLine, listLines}
 use Rattle.report_text.proofs.Puts.{Left, put-none, put-is, room-is, left-start, left-next, left-room, left-end}
 use Rattle.report_text.proofs.Lines.{lines-next, lines-end}
@@ -32,21 +34,26 @@ loop-holds : tie.Need-loop-holds Inv-loop μ-loop
 loop-holds c = (omega arith, c .before .before .before .before .pre .0 .1, left-start)
 
 read-requires : tie.Need-read-requires Inv-loop μ-loop
-read-requires c κs = (c .before .before .before .before .before .before .before .pre .0 .0, (omega arith, c .before .before .loop .inv .1))
+read-requires c κs = search needs
+
+-- list i, as it is read
+held : (c : tie.After-read Inv-loop μ-loop) → Held 65521 (c .read .last .1 .1 .0) (c .read .result) (listAt (c .before .before .before .before .before .before .before .before .args .album .now) (c .before .before .before .loop .i))
+held c = read-held 65521 _ _ _ (c .before .before .before .before .before .before .before .before .pre .0 .0) (omega arith) (c .before .before .before .loop .inv .1) (c .read .kept .1 .1 .0) (c .read .ensures .0) (c .read .ensures .1)
 
 slice-reshare-prefix-put-list : tie.Need-slice-reshare-prefix-put-list Inv-loop μ-loop
-slice-reshare-prefix-put-list c = let e = c .before .before .read .ensures in omega (arith, held-length e, e .words, e .listed .short)
+slice-reshare-prefix-put-list c = held-inside (held (c .before .before))
 
 slice-aggregate-put-list : tie.Need-slice-aggregate-put-list Inv-loop μ-loop
-slice-aggregate-put-list c = let e = c .before .before .before .read .ensures in e .words ∙ ap length (sym (held-take e))
+slice-aggregate-put-list c = held-count (held (c .before .before .before))
 
 put-list-requires : tie.Need-put-list-requires Inv-loop μ-loop
 put-list-requires c κs =
-    let e = c .before .before .before .before .read .ensures in
-    let l = length-lists (c .before .before .before .before .before .before .before .before .before .before .before .before .args .album .now) in (
+    let s = c .before .before .before .before .before .before .before .before .before .before .before .before .args .album .now in
+    let e = held (c .before .before .before .before) in
+    let l = length-lists s in (
       omega (arith, ap length (held-take e), e .listed .some),
-      room-is (ap (listLine _) (list-at (c .before .before .before .before .before .before .before .before .before .before .before .before .args .album .now) _ (omega arith) ∙ sym (held-take e)))
-          (left-room _ _ (lines-next (listsOf (c .before .before .before .before .before .before .before .before .before .before .before .before .args .album .now)) _ (omega arith)) (c .before .before .before .before .before .before .before .loop .inv .2) (c .before .before .before .before .before .before .before .before .before .before .before .before .pre .1)),
+      room-is (ap (listLine _) (list-at s _ (omega arith) ∙ sym (held-take e)))
+          (left-room _ _ (lines-next (listsOf s) _ (omega arith)) (c .before .before .before .before .before .before .before .loop .inv .2) (c .before .before .before .before .before .before .before .before .before .before .before .before .pre .1)),
     )
 
 add-i : tie.Need-add-i Inv-loop μ-loop
@@ -57,12 +64,13 @@ loop-less c = omega arith
 
 loop-again : tie.Need-loop-again Inv-loop μ-loop
 loop-again c =
-    let e = c .before .before .before .before .before .before .before .read .ensures in
-    let l = length-lists (c .before .before .before .before .before .before .before .before .before .before .before .before .before .before .before .args .album .now) in (
+    let s = c .before .before .before .before .before .before .before .before .before .before .before .before .before .before .before .args .album .now in
+    let e = held (c .before .before .before .before .before .before .before) in
+    let l = length-lists s in (
       omega arith,
       held-length e,
-      left-next _ _ (lines-next (listsOf (c .before .before .before .before .before .before .before .before .before .before .before .before .before .before .before .args .album .now)) _ (omega arith)) (c .before .before .before .before .before .before .before .before .before .before .loop .inv .2)
-          (put-is (ap (listLine _) (held-take e ∙ sym (list-at (c .before .before .before .before .before .before .before .before .before .before .before .before .before .before .before .args .album .now) _ (omega arith)))) refl (c .before .before .put-list .ensures)),
+      left-next _ _ (lines-next (listsOf s) _ (omega arith)) (c .before .before .before .before .before .before .before .before .before .before .loop .inv .2)
+          (put-is (ap (listLine _) (held-take e ∙ sym (list-at s _ (omega arith)))) refl (c .before .before .put-list .ensures)),
     )
 
 same-length : tie.Need-same-length Inv-loop μ-loop

@@ -1,10 +1,9 @@
 -- `report_text::put_sound` meets its contract.
 -- Assumes nothing.
 use native.Mathlib.Omega.{arith}
-use lib.Dec.{leb→le}
 use borrow.Author.Needs.{needs}
 use Rattle.algebra.specs.PrimeField.{F65521}
-use Rattle.album_gcd.proofs.Lists.{passed-obeys}
+use Rattle.layout.proofs.Passed.{passed-obeys}
 use Rattle.report_text.proofs.Whole.{first-room, lists-room, answer-room, put-whole-report}
 use Rattle.report_text.proofs.put_sound.Statement.{statement}
 use Rattle.report_text.proofs.put_sound.Tie as tie
@@ -19,13 +18,13 @@ cast-put-named : tie.Need-cast-put-named
 cast-put-named c = omega (arith, c .shared-slice-known2 .given 0)
 
 put-named-requires : tie.Need-put-named-requires
-put-named-requires c κs = first-room 65521 (c .before .before .before .before .before .before .before .args .album .now) (c .before .before .before .before .before .before .before .pre .0) (leb→le 1 65521 tt) (λ i. omega (arith, c .before .before .before .before .before .before .shared-slice-known .given i)) (c .before .before .before .before .before .before .before .pre .1 .2)
+put-named-requires c κs = first-room 65521 (c .before .before .before .before .before .before .before .args .album .now) (c .before .before .before .before .before .before .before .pre .0) (λ i. omega (arith, c .before .before .before .before .before .before .shared-slice-known .given i)) (c .before .before .before .before .before .before .before .pre .1 .2)
 
 put-lists-requires : tie.Need-put-lists-requires
-put-lists-requires c κs = ((c .before .before .before .before .before .before .before .before .before .before .before .before .pre .0, c .before .before .before .before .before .before .before .before .before .before .before .before .pre .1 .0), lists-room 65521 (c .before .before .before .before .before .before .before .before .before .before .before .before .args .album .now) (c .before .before .before .before .before .before .before .before .before .before .before .before .pre .0) (leb→le 1 65521 tt) (λ i. omega (arith, c .before .before .before .before .before .before .before .before .before .before .before .shared-slice-known .given i)) (c .before .before .before .before .before .before .before .before .before .before .before .before .pre .1 .2) (c .before .before .before .before .put-named .ensures))
+put-lists-requires c κs = ((c .before .before .before .before .before .before .before .before .before .before .before .before .pre .0, c .before .before .before .before .before .before .before .before .before .before .before .before .pre .1 .0), lists-room 65521 (c .before .before .before .before .before .before .before .before .before .before .before .before .args .album .now) (c .before .before .before .before .before .before .before .before .before .before .before .before .pre .0) (λ i. omega (arith, c .before .before .before .before .before .before .before .before .before .before .before .shared-slice-known .given i)) (c .before .before .before .before .before .before .before .before .before .before .before .before .pre .1 .2) (c .before .before .before .before .put-named .ensures))
 
 put-answer-requires : tie.Need-put-answer-requires
-put-answer-requires c κs = ((c .before .before .before .before .before .before .before .before .before .before .before .before .before .before .before .before .before .before .before .pre .0, c .before .before .before .before .before .before .before .before .before .before .before .before .before .before .before .before .before .before .before .pre .1 .1), answer-room 65521 (c .before .before .before .before .before .before .before .before .before .before .before .before .before .before .before .before .before .before .before .args .album .now) (c .before .before .before .before .before .before .before .before .before .before .before .before .before .before .before .before .before .before .before .pre .0) (leb→le 1 65521 tt) (λ i. omega (arith, c .before .before .before .before .before .before .before .before .before .before .before .before .before .before .before .before .before .before .shared-slice-known .given i)) (c .before .before .before .before .before .before .before .before .before .before .before .before .before .before .before .before .before .before .before .pre .1 .2) (c .before .before .before .before .before .before .before .before .before .before .before .put-named .ensures) (c .before .before .before .before .before .before .put-lists .ensures))
+put-answer-requires c κs = ((c .before .before .before .before .before .before .before .before .before .before .before .before .before .before .before .before .before .before .before .pre .0, c .before .before .before .before .before .before .before .before .before .before .before .before .before .before .before .before .before .before .before .pre .1 .1), answer-room 65521 (c .before .before .before .before .before .before .before .before .before .before .before .before .before .before .before .before .before .before .before .args .album .now) (c .before .before .before .before .before .before .before .before .before .before .before .before .before .before .before .before .before .before .before .pre .0) (λ i. omega (arith, c .before .before .before .before .before .before .before .before .before .before .before .before .before .before .before .before .before .before .shared-slice-known .given i)) (c .before .before .before .before .before .before .before .before .before .before .before .before .before .before .before .before .before .before .before .pre .1 .2) (c .before .before .before .before .before .before .before .before .before .before .before .put-named .ensures) (c .before .before .before .before .before .before .put-lists .ensures))
 
 same-length : tie.Need-same-length
 same-length c = search needs

@@ -1,0 +1,61 @@
+-- A list that a slice holds, and what reading a list of an album that passed gives: the slice holds it.
+-- Assumes nothing.
+use mathlib.Core.Path.{_≡_, sym, _∙_, ap}
+use mathlib.Core.List.{List, []}
+use Prim.Native.Nat.{ℕ, _-_, _≤_, _<_}
+use native.Mathlib.Omega.{arith}
+use lib.ListN.{length, take, replicate, length-append}
+use lib.Seq.{take-at}
+use Rattle.refusal.specs.Limits.{maxWords}
+use Rattle.refusal.specs.Refusal.{written}
+use Rattle.refusal.specs.Lowest.{lowest}
+use Rattle.refusal.specs.declared.Outcome.the-variants.{Done}
+use Rattle.euclid.specs.Gcds.{padded}
+use Rattle.euclid.specs.Loops.{length-padded}
+use Rattle.layout.specs.Layout.{count, listAt}
+use Rattle.layout.specs.Workers.{Passed}
+use Rattle.layout.proofs.Passed.{passed-call, passed-listed}
+use Rattle.album.specs.Calls.{readRefusals}
+use Rattle.album.specs.Workers.{Held}
+use Rattle.album.proofs.Judged.{read-done}
+
+pub held-take : {p n : ℕ} {x c : List ℕ} → Held p x n c → take n x ≡ c
+unfolding padded
+held-take {p} {n} {x} {c} h = ap (take n) (h .slice) ∙ take-at c _ n (sym (h .words))
+
+pub held-length : {p n : ℕ} {x c : List ℕ} → Held p x n c → length x ≡ maxWords
+held-length {p} {n} {x} {c} h = ap length (h .slice) ∙ length-padded maxWords c (h .listed .short)
+
+-- its words as a part of the slice
+pub held-inside : {p n : ℕ} {x c : List ℕ} → Held p x n c → n ≤ length x
+held-inside h = omega (arith, held-length h, h .words, h .listed .short)
+
+pub held-count : {p n : ℕ} {x c : List ℕ} → Held p x n c → n ≡ length (take n x)
+held-count h = h .words ∙ ap length (sym (held-take h))
+
+pub held-again : {p n : ℕ} {x c : List ℕ} → Held p x n c → Held p x n (take n x)
+held-again h = rw (held-take h) h
+
+-- a list in a slice is no longer than the slice
+pub padded-inside : (n : ℕ) (c : List ℕ) → length c ≤ length (padded n c)
+unfolding padded
+padded-inside n c = omega (arith, length-append c (replicate (n - length c) 0))
+
+-- the slice is out before the call of `read` and out′ afterwards, and n is its answer: the last two facts are its contract
+pub read-held : (p : ℕ) (s : List ℕ) (i : ℕ) (out : List ℕ) {out′ : List ℕ} {n : ℕ} → Passed p s → i < count s
+    → length out ≡ maxWords → length out′ ≡ length out
+    → n ≡ length (written (lowest (readRefusals p s i out)) (listAt s i) [])
+    → out′ ≡ written (lowest (readRefusals p s i out)) (padded maxWords (listAt s i)) out
+    → Held p out′ n (listAt s i)
+read-held p s i out {out′} {n} e l q k a w =
+    record {
+      listed = passed-listed p s e i l (omega (arith, padded-inside maxWords (listAt s i), ap length slice));
+      words = a ∙ ap (λ o. length (written o (listAt s i) [])) done;
+      slice = slice;
+    }
+  where
+    done : lowest (readRefusals p s i out) ≡ Done
+    done = read-done p s i out (passed-call p s e i l) q
+
+    slice : out′ ≡ padded maxWords (listAt s i)
+    slice = w ∙ ap (λ o. written o (padded maxWords (listAt s i)) out) done

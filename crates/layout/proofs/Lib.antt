@@ -1,0 +1,3 @@
+pub mod Judged
+pub mod Loose
+pub mod Passed

@@ -1,0 +1,16 @@
+-- `layout::check` meets its contract.
+-- Assumes nothing.
+use mathlib.Core.Path.{ap}
+use Rattle.refusal.specs.Refusal.{outcomeReply}
+use borrow.Author.Needs.{needs}
+use Rattle.layout.proofs.check.Statement.{statement}
+use Rattle.layout.proofs.check.Tie as tie
+
+judge-call-requires : tie.Need-judge-call-requires
+judge-call-requires c κs = search needs
+
+returns : tie.Need-returns
+returns c = ap outcomeReply (c .judge-call .ensures)
+
+pub check-spec : {M : Type 1} → statement M
+check-spec = tie.close (tie.spec judge-call-requires returns)

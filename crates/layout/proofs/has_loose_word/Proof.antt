@@ -1,0 +1,70 @@
+-- `layout::has_loose_word` meets its contract: the words that are left answer for all lists.
+-- Assumes nothing.
+use Prim.Native.Nat.{_-_}
+use native.Mathlib.Omega.{arith}
+use lib.ListN.{length}
+use Rattle.layout.proofs.Loose.{Left, left-start, left-here, left-on, left-end}
+use borrow.Author.Needs.{needs}
+use Rattle.layout.proofs.has_loose_word.Statement.{statement}
+use Rattle.layout.proofs.has_loose_word.Tie as tie
+
+abbrev Inv-loop : tie.InvT-loop
+Inv-loop album at₀ at = Left 65521 album at
+
+abbrev μ-loop : tie.MeasureT-loop
+μ-loop album at₀ at = length album - at
+
+shared-slice-read-wide : tie.Need-shared-slice-read-wide Inv-loop μ-loop
+shared-slice-read-wide c = omega (arith, c .before .before .pre .some)
+
+wide-requires : tie.Need-wide-requires Inv-loop μ-loop
+wide-requires c κs = search needs
+
+mul-at : tie.Need-mul-at Inv-loop μ-loop
+mul-at c = search needs
+
+add-at : tie.Need-add-at Inv-loop μ-loop
+add-at c = search needs
+
+loop-holds : tie.Need-loop-holds Inv-loop μ-loop
+loop-holds c = left-start 65521 _ (c .before .before .before .pre) (omega arith)
+
+add-loop : tie.Need-add-loop Inv-loop μ-loop
+add-loop c = search needs
+
+word-requires : tie.Need-word-requires Inv-loop μ-loop
+word-requires c κs = search needs
+
+returns : tie.Need-returns Inv-loop μ-loop
+returns c = left-here 65521 _ (c .before .before .before .loop .inv) (omega arith) (omega arith)
+
+add-at-2 : tie.Need-add-at-2 Inv-loop μ-loop
+add-at-2 c = search needs
+
+loop-less : tie.Need-loop-less Inv-loop μ-loop
+loop-less c = search needs
+
+loop-again : tie.Need-loop-again Inv-loop μ-loop
+loop-again c = left-on 65521 _ (c .before .before .before .loop .inv) (omega arith) (omega arith)
+
+returns-2 : tie.Need-returns-2 Inv-loop μ-loop
+returns-2 c = left-end 65521 _ (c .before .loop .inv) (omega arith)
+
+pub has-loose-word-spec : {M : Type 1} → statement M
+has-loose-word-spec =
+    tie.close
+    (tie.spec
+    Inv-loop
+    μ-loop
+    shared-slice-read-wide
+    wide-requires
+    mul-at
+    add-at
+    loop-holds
+    add-loop
+    word-requires
+    returns
+    add-at-2
+    loop-less
+    loop-again
+    returns-2)

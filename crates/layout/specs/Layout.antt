@@ -1,0 +1,63 @@
+-- The layout of an album, byte by byte, and the lists that its bytes say.
+--     count             byte 0: the number N of lists
+--     entryAt           where entry k stands: three bytes each, after the count
+--     degreeAt          the naive degree that entry k names
+--     wordAt            16 bits at a place, low byte first
+--     wordsAt           n words that stand one after the other from a place on
+--     offsetAt          the offset that entry k names
+--     startAt           where body k has to start: after the contents and the bodies before it
+--     offsetsAgree      the first k entries name those places
+--     wrongCount        the album is empty, or its first byte is 0 or above the limit
+--     brokenLayout      the album breaks another rule: an entry names another place, or the album does not end with its last body
+--     listAt            the words of list k
+--     listsFrom         n lists, from number k on
+--     listsOf           the lists of the album, in order
+-- Assumes nothing.
+use mathlib.Core.Bool.{Bool, true, _&&_, _||_, not}
+use mathlib.Core.List.{List, [], _∷_}
+use Prim.Native.Nat.{ℕ, zero, suc, _+_, _*_}
+use lib.Dec.{eqb, ltb}
+use lib.ListN.{length, getD}
+use Rattle.lists.specs.Tabulate.{tabulate}
+
+abbrev pub count : List ℕ → ℕ
+count s = getD s 0 0
+
+abbrev pub entryAt : ℕ → ℕ
+entryAt k = 1 + 3 * k
+
+abbrev pub degreeAt : List ℕ → ℕ → ℕ
+degreeAt s k = getD s (entryAt k) 0
+
+abbrev pub wordAt : List ℕ → ℕ → ℕ
+wordAt s at = getD s at 0 + 256 * getD s (at + 1) 0
+
+unfoldable pub wordsAt : List ℕ → (at n : ℕ) → List ℕ
+wordsAt s at n = tabulate n (λ j. wordAt s (at + 2 * j))
+
+abbrev pub offsetAt : List ℕ → ℕ → ℕ
+offsetAt s k = wordAt s (entryAt k + 1)
+
+unfoldable pub startAt : List ℕ → ℕ → ℕ
+startAt s zero = entryAt (count s)
+startAt s (suc k) = startAt s k + 2 * (degreeAt s k + 1)
+
+unfoldable pub offsetsAgree : List ℕ → ℕ → Bool
+offsetsAgree s zero = true
+offsetsAgree s (suc k) = eqb (offsetAt s k) (startAt s k) && offsetsAgree s k
+
+unfoldable pub wrongCount : ℕ → List ℕ → Bool
+wrongCount most s = eqb (length s) 0 || (eqb (count s) 0 || ltb most (count s))
+
+unfoldable pub brokenLayout : List ℕ → Bool
+brokenLayout s = not (eqb (length s) (startAt s (count s)) && offsetsAgree s (count s))
+
+unfoldable pub listAt : List ℕ → ℕ → List ℕ
+listAt s k = wordsAt s (startAt s k) (degreeAt s k + 1)
+
+unfoldable pub listsFrom : List ℕ → (k n : ℕ) → List (List ℕ)
+listsFrom s k zero = []
+listsFrom s k (suc n) = listAt s k ∷ listsFrom s (suc k) n
+
+unfoldable pub listsOf : List ℕ → List (List ℕ)
+listsOf s = listsFrom s 0 (count s)

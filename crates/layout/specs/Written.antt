@@ -1,0 +1,267 @@
+-- The album that holds given lists, and what reading it gives back.
+--     bytesOf          the words of a list, low byte first
+--     entriesFrom      the entries of lists whose first body starts at a place
+--     bodiesOf         the bodies of lists
+--     albumOf          the album of lists: their count, their entries and their bodies
+--     Fits             a list that an album can hold: 1 to 256 words of 16 bits
+--     Writable         1 to 16 such lists
+-- Theorems on the album of such lists, for the reader of the format; the code needs none of them:
+--     album-read       its lists are the given ones, word for word
+--     album-obeys      it obeys the layout
+--     album-is-bytes   it consists of bytes
+--     album-injective  two different sequences of lists have different albums
+--     example          document 01's album of [0,1] and [0,0,1]
+-- Assumes nothing.
+use mathlib.Core.Path.{_≡_, refl, sym, ap, ap₂, _∙_}
+use mathlib.Core.Bool.{true, false}
+use mathlib.Core.List.{List, [], _∷_, _++_, append-assoc}
+use Prim.Native.Nat.{ℕ, zero, suc, _+_, _*_, _/_, _%_, _≤_, _<_}
+use native.Mathlib.Nat.{div-add-mod', mod-lt}
+use native.Mathlib.Omega.{arith}
+use lib.Dec.{lit<}
+use lib.ListN.{length, getD, length-append}
+use lib.Seq.{getD-append-add}
+use Rattle.refusal.specs.Limits.{maxLists, maxWords}
+use Rattle.lists.specs.Degrees.{naiveDegree}
+use Rattle.lists.specs.Tabulate.{tabulated}
+use Rattle.layout.specs.Layout.{count, entryAt, degreeAt, wordAt, wordsAt, offsetAt, startAt, offsetsAgree, wrongCount, brokenLayout, listAt, listsFrom, listsOf}
+use Rattle.layout.specs.Places.{start-next, agree-next, right-count, right-layout}
+
+unfoldable pub bytesOf : List ℕ → List ℕ
+bytesOf [] = []
+bytesOf (x ∷ c) = x % 256 ∷ x / 256 ∷ bytesOf c
+
+unfoldable pub entriesFrom : ℕ → List (List ℕ) → List ℕ
+entriesFrom at [] = []
+entriesFrom at (c ∷ lists) = naiveDegree c ∷ at % 256 ∷ at / 256 ∷ entriesFrom (at + 2 * length c) lists
+
+unfoldable pub bodiesOf : List (List ℕ) → List ℕ
+bodiesOf [] = []
+bodiesOf (c ∷ lists) = bytesOf c ++ bodiesOf lists
+
+unfoldable pub albumOf : List (List ℕ) → List ℕ
+albumOf lists = length lists ∷ entriesFrom (entryAt (length lists)) lists ++ bodiesOf lists
+
+pub record Fits (c : List ℕ) : Type 0 where
+  pub some : 1 ≤ length c
+  pub short : length c ≤ maxWords
+  pub words : (j : ℕ) → getD c j 0 < 65536
+
+abbrev AllFit : List (List ℕ) → Type 0
+AllFit lists = (k : ℕ) → k < length lists → Fits (getD lists k [])
+
+pub record Writable (lists : List (List ℕ)) : Type 0 where
+  pub some : 1 ≤ length lists
+  pub few : length lists ≤ maxLists
+  pub each : (k : ℕ) → k < length lists → Fits (getD lists k [])
+
+first-fits : (c : List ℕ) (lists : List (List ℕ)) → AllFit (c ∷ lists) → Fits c
+first-fits c lists w = w 0 (omega arith)
+
+rest-fit : (c : List ℕ) (lists : List (List ℕ)) → AllFit (c ∷ lists) → AllFit lists
+rest-fit c lists w k l = w (suc k) (omega arith)
+
+-- ---- lengths
+length-bytes : (c : List ℕ) → length (bytesOf c) ≡ 2 * length c
+unfolding bytesOf
+length-bytes [] = refl
+length-bytes (x ∷ c) = omega (arith, length-bytes c)
+
+length-entries : (at : ℕ) (lists : List (List ℕ)) → length (entriesFrom at lists) ≡ 3 * length lists
+unfolding entriesFrom
+length-entries at [] = refl
+length-entries at (c ∷ lists) = omega (arith, length-entries (at + 2 * length c) lists)
+
+-- ---- words as bytes
+low-high : (x : ℕ) → x % 256 + 256 * (x / 256) ≡ x
+low-high x = omega (arith, div-add-mod' x 256)
+
+-- what stands after the front part of an album
+after : (front rest : List ℕ) (j i : ℕ) → length front + j ≡ i → getD (front ++ rest) i 0 ≡ getD rest j 0
+after front rest j i e = ap (λ n. getD (front ++ rest) n 0) (sym e) ∙ getD-append-add front rest j 0
+
+word-after : (front rest : List ℕ) (j i : ℕ) → length front + j ≡ i → wordAt (front ++ rest) i ≡ wordAt rest j
+word-after front rest j i e = ap₂ (λ a b. a + 256 * b) (after front rest j i e) (after front rest (j + 1) (i + 1) (omega arith))
+
+bytes-word : (c rest : List ℕ) (j : ℕ) → j < length c → wordAt (bytesOf c ++ rest) (2 * j) ≡ getD c j 0
+unfolding bytesOf
+bytes-word [] rest j l = absurd (omega arith)
+bytes-word (x ∷ c) rest zero l = low-high x
+bytes-word (x ∷ c) rest (suc j) l =
+    ap (wordAt (x % 256 ∷ x / 256 ∷ bytesOf c ++ rest)) next ∙ word-after (x % 256 ∷ x / 256 ∷ []) (bytesOf c ++ rest) (2 * j) (2 + 2 * j) refl
+    ∙ bytes-word c rest j (omega arith)
+  where
+    next : 2 * suc j ≡ 2 + 2 * j
+    next = omega arith
+
+-- ---- what an album says from entry k on: the lists, and that their bodies follow each other from `at` to the end
+abbrev Says : List ℕ → (k at : ℕ) → List (List ℕ) → Type 0
+Says s k at [] = length s ≡ at
+Says s k at (c ∷ lists) =
+    (degreeAt s k + 1 ≡ length c) × (offsetAt s k ≡ at) × ((j : ℕ) → j < length c → wordAt s (at + 2 * j) ≡ getD c j 0)
+    × Says s (suc k) (at + 2 * length c) lists
+
+naive-degree : (c : List ℕ) → Fits c → naiveDegree c + 1 ≡ length c
+unfolding naiveDegree
+naive-degree c w = omega (arith, w .some)
+
+says : (lists : List (List ℕ)) → AllFit lists → (s front mid : List ℕ) (k at : ℕ) → s ≡ front ++ (entriesFrom at lists ++ (mid ++ bodiesOf lists))
+    → length front ≡ entryAt k → length front + 3 * length lists + length mid ≡ at → Says s k at lists
+unfolding entriesFrom bodiesOf
+says [] w s front mid k at e f m =
+    let q : length s ≡ length (front ++ (mid ++ [])) = ap length e in
+    let a = length-append front (mid ++ []) in
+    let b = length-append {A = ℕ} mid [] in
+    omega arith
+says (c ∷ lists) w s front mid k at e f m = (
+  degree,
+  place,
+  words,
+  says lists (rest-fit c lists w) s (front ++ entry) (mid ++ bytesOf c) (suc k) (at + 2 * length c) (e ∙ simp append-assoc) front-length next,
+)
+  where
+    entry : List ℕ
+    entry = naiveDegree c ∷ at % 256 ∷ at / 256 ∷ []
+
+    entries : List ℕ
+    entries = entry ++ entriesFrom (at + 2 * length c) lists
+
+    rest : List ℕ
+    rest = entries ++ (mid ++ (bytesOf c ++ bodiesOf lists))
+
+    degree : degreeAt s k + 1 ≡ length c
+    degree = ap (λ l. degreeAt l k + 1) e ∙ ap (λ n. n + 1) (after front rest 0 (entryAt k) (omega arith)) ∙ naive-degree c (first-fits c lists w)
+
+    place : offsetAt s k ≡ at
+    place = ap (λ l. offsetAt l k) e ∙ word-after front rest 1 (entryAt k + 1) (omega arith) ∙ low-high at
+
+    front-mid : length (front ++ (entries ++ mid)) ≡ at
+    front-mid =
+        omega (arith, length-append front (entries ++ mid), length-append entries mid, length-entries (at + 2 * length c) lists)
+
+    whole : s ≡ (front ++ (entries ++ mid)) ++ (bytesOf c ++ bodiesOf lists)
+    whole = e ∙ simp append-assoc
+
+    words : (j : ℕ) → j < length c → wordAt s (at + 2 * j) ≡ getD c j 0
+    words j l =
+        ap (λ l. wordAt l (at + 2 * j)) whole
+        ∙ word-after (front ++ (entries ++ mid)) (bytesOf c ++ bodiesOf lists) (2 * j) (at + 2 * j) (omega (arith, front-mid))
+        ∙ bytes-word c (bodiesOf lists) j l
+
+    front-length : length (front ++ entry) ≡ entryAt (suc k)
+    front-length = omega (arith, length-append front entry)
+
+    next : length (front ++ entry) + 3 * length lists + length (mid ++ bytesOf c) ≡ at + 2 * length c
+    next = omega (arith, length-append front entry, length-append mid (bytesOf c), length-bytes c)
+
+-- ---- such an album obeys the layout, and its lists are these
+record Laid (s : List ℕ) (k : ℕ) (lists : List (List ℕ)) : Type 0 where
+  pub read : listsFrom s k (length lists) ≡ lists
+  pub ends : length s ≡ startAt s (k + length lists)
+  pub agree : offsetsAgree s (k + length lists) ≡ true
+
+list-is : (s c : List ℕ) (k : ℕ) → degreeAt s k + 1 ≡ length c
+    → ((j : ℕ) → j < length c → wordAt s (startAt s k + 2 * j) ≡ getD c j 0) → listAt s k ≡ c
+unfolding listAt wordsAt
+list-is s c k d w =
+    sym (tabulated c (degreeAt s k + 1) (λ j. wordAt s (startAt s k + 2 * j)) (sym d) (λ j l. sym (w j (omega arith))))
+
+said : (s : List ℕ) (lists : List (List ℕ)) (k at : ℕ) → at ≡ startAt s k → offsetsAgree s k ≡ true → Says s k at lists → Laid s k lists
+unfolding listsFrom
+said s [] k at e t h = record { read = refl; ends = h ∙ e ∙ ap (startAt s) none; agree = rw none at t }
+  where
+    none : k ≡ k + 0
+    none = omega arith
+said s (c ∷ lists) k at e t h =
+    let l = said s lists (suc k) (at + 2 * length c) (omega (arith, h .0, start-next s k)) (agree-next s k t (h .1 ∙ e)) (h .3) in
+    record {
+      read = ap₂ (λ a b. a ∷ b) (list-is s c k (h .0) (λ j l. ap (λ i. wordAt s (i + 2 * j)) (sym e) ∙ h .2 j l)) (l .read);
+      ends = l .ends ∙ ap (startAt s) next;
+      agree = ap (offsetsAgree s) (sym next) ∙ l .agree;
+    }
+  where
+    next : suc k + length lists ≡ k + suc (length lists)
+    next = omega arith
+
+-- ---- its bytes are bytes
+abbrev Bytes : List ℕ → Type 0
+Bytes l = (k : ℕ) → getD l k 0 < 256
+
+bytes-cons : (x : ℕ) (l : List ℕ) → x < 256 → Bytes l → Bytes (x ∷ l)
+bytes-cons x l h b zero = h
+bytes-cons x l h b (suc k) = b k
+
+bytes-append : (a b : List ℕ) → Bytes a → Bytes b → Bytes (a ++ b)
+bytes-append [] b ha hb k = hb k
+bytes-append (x ∷ a) b ha hb zero = ha 0
+bytes-append (x ∷ a) b ha hb (suc k) = bytes-append a b (λ j. ha (suc j)) hb k
+
+bytes-two : (x : ℕ) (l : List ℕ) → x < 65536 → Bytes l → Bytes (x % 256 ∷ x / 256 ∷ l)
+bytes-two x l h b =
+    bytes-cons (x % 256) (x / 256 ∷ l) (mod-lt x (lit< tt)) (bytes-cons (x / 256) l (omega (arith, low-high x)) b)
+
+bytes-words : (c : List ℕ) → ((j : ℕ) → getD c j 0 < 65536) → Bytes (bytesOf c)
+unfolding bytesOf
+bytes-words [] h k = omega arith
+bytes-words (x ∷ c) h k = bytes-two x (bytesOf c) (h 0) (bytes-words c (λ j. h (suc j))) k
+
+bytes-bodies : (lists : List (List ℕ)) → AllFit lists → Bytes (bodiesOf lists)
+unfolding bodiesOf
+bytes-bodies [] w k = omega arith
+bytes-bodies (c ∷ lists) w k =
+    bytes-append (bytesOf c) (bodiesOf lists) (bytes-words c (first-fits c lists w .words)) (bytes-bodies lists (rest-fit c lists w)) k
+
+bytes-entries : (lists : List (List ℕ)) (at : ℕ) → AllFit lists → at + 512 * length lists < 65536 → Bytes (entriesFrom at lists)
+unfolding entriesFrom
+bytes-entries [] at w h k = omega arith
+bytes-entries (c ∷ lists) at w h k =
+    let f = first-fits c lists w in
+    bytes-cons (naiveDegree c) (at % 256 ∷ at / 256 ∷ entriesFrom (at + 2 * length c) lists)
+    (omega (arith, naive-degree c f, f .short))
+    (bytes-two at (entriesFrom (at + 2 * length c) lists) (omega arith)
+    (bytes-entries lists (at + 2 * length c) (rest-fit c lists w) (omega (arith, f .short))))
+    k
+
+module _ (lists : List (List ℕ)) (w : Writable lists) where
+  album-says : Says (albumOf lists) 0 (entryAt (length lists)) lists
+  unfolding albumOf
+  album-says =
+      says lists (w .each) (albumOf lists) (length lists ∷ []) [] 0 (entryAt (length lists)) refl refl (omega arith)
+
+  album-count : count (albumOf lists) ≡ length lists
+  unfolding albumOf
+  album-count = refl
+
+  album-some : 0 < length (albumOf lists)
+  unfolding albumOf
+  album-some = omega arith
+
+  album-laid : Laid (albumOf lists) 0 lists
+  unfolding startAt offsetsAgree
+  album-laid = said (albumOf lists) lists 0 (entryAt (length lists)) (omega (arith, album-count)) refl album-says
+
+  pub album-read : listsOf (albumOf lists) ≡ lists
+  unfolding listsOf
+  album-read = ap (listsFrom (albumOf lists) 0) album-count ∙ album-laid .read
+
+  pub album-obeys : (wrongCount maxLists (albumOf lists) ≡ false) × (brokenLayout (albumOf lists) ≡ false)
+  album-obeys =
+      let n : 0 + length lists ≡ count (albumOf lists) = omega (arith, album-count) in (
+        right-count (albumOf lists) album-some (omega (arith, album-count, w .some)) (omega (arith, album-count, w .few)),
+        right-layout (albumOf lists) (album-laid .ends ∙ ap (startAt (albumOf lists)) n) (ap (offsetsAgree (albumOf lists)) (sym n) ∙ album-laid .agree),
+      )
+
+  pub album-is-bytes : (k : ℕ) → getD (albumOf lists) k 0 < 256
+  unfolding albumOf
+  album-is-bytes =
+      let n = entryAt (length lists) in
+      bytes-cons (length lists) (entriesFrom n lists ++ bodiesOf lists) (omega (arith, w .few))
+      (bytes-append (entriesFrom n lists) (bodiesOf lists) (bytes-entries lists n (w .each) (omega (arith, w .few)))
+      (bytes-bodies lists (w .each)))
+
+pub album-injective : (lists lists′ : List (List ℕ)) → Writable lists → Writable lists′ → albumOf lists ≡ albumOf lists′ → lists ≡ lists′
+album-injective lists lists′ w w′ e = sym (album-read lists w) ∙ ap listsOf e ∙ album-read lists′ w′
+
+pub example : albumOf ((0 ∷ 1 ∷ []) ∷ (0 ∷ 0 ∷ 1 ∷ []) ∷ []) ≡ 2 ∷ 1 ∷ 7 ∷ 0 ∷ 2 ∷ 11 ∷ 0 ∷ 0 ∷ 0 ∷ 1 ∷ 0 ∷ 0 ∷ 0 ∷ 0 ∷ 0 ∷ 1 ∷ 0 ∷ []
+unfolding albumOf entriesFrom bodiesOf bytesOf naiveDegree
+example = refl

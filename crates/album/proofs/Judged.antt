@@ -16,12 +16,12 @@ use Rattle.refusal.specs.declared.Refusal.the-variants.{Misfit}
 use Rattle.refusal.specs.declared.Outcome.{Outcome}
 use Rattle.refusal.specs.declared.Outcome.the-variants.{Done, Refused}
 use Rattle.refusal.proofs.First.{refuse, or-else, first-then}
+use Rattle.lists.specs.Bytes.{wordsOf}
 use Rattle.euclid.specs.Gcds.{padded}
 use Rattle.layout.specs.Layout.{degreeAt, listAt}
 use Rattle.layout.specs.Calls.{checkRefusals, bodyOf}
 use Rattle.layout.specs.Places.{length-list}
 use Rattle.album.specs.Calls.{readRefusals}
-use Rattle.album.specs.Workers.{wordsOf}
 use Rattle.album.proofs.Words.{length-words, body-words}
 
 -- `written o c []` is what a call finds: the words of c or, refused, none. It completes where it finds some,

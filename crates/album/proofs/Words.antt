@@ -3,7 +3,7 @@
 use mathlib.Core.Path.{_≡_, refl, sym, _∙_, ap, ap₂}
 use mathlib.Core.List.{List, []}
 use Prim.Native.Nat.{ℕ, _+_, _*_, _/_, _≤_, _<_}
-use native.Mathlib.Nat.{zero-add, mul-div-right}
+use native.Mathlib.Nat.{mul-div-right}
 use native.Mathlib.Omega.{arith}
 use lib.Dec.{lit<}
 use lib.ListN.{length, getD, take, drop, length-take, length-drop, List·getD-eq-default}
@@ -12,21 +12,21 @@ use Rattle.refusal.specs.Refusal.{written}
 use Rattle.refusal.specs.Lowest.{lowest}
 use Rattle.refusal.specs.declared.Outcome.{Outcome}
 use Rattle.refusal.specs.declared.Outcome.the-variants.{Done, Refused}
-use Rattle.lists.specs.Tabulate.{tabulate, length-tabulate, getD-tabulate, tabulate-ext}
-use Rattle.layout.specs.Layout.{degreeAt, wordAt, wordsAt, startAt, listAt}
+use Rattle.lists.specs.Tabulate.{tabulate, tabulate-ext}
+use Rattle.lists.specs.Bytes.{wordAt, wordsAt, wordsOf, wordCount, length-wordsOf, getD-wordsOf}
+use Rattle.layout.specs.Layout.{degreeAt, startAt, listAt}
 use Rattle.layout.specs.Calls.{checkRefusals, bodyOf}
 use Rattle.layout.specs.Places.{body-inside}
 use Rattle.layout.proofs.Judged.{call-fine}
-use Rattle.album.specs.Workers.{wordsOf}
 
 module _ (bytes : List ℕ) where
   pub length-words : length (wordsOf bytes) ≡ length bytes / 2
-  unfolding wordsOf wordsAt
-  length-words = length-tabulate (length bytes / 2) _
+  unfolding wordCount
+  length-words = length-wordsOf bytes
 
   pub word-inside : (k : ℕ) → k < length bytes / 2 → wordAt bytes (2 * k) ≡ getD (wordsOf bytes) k 0
-  unfolding wordsOf wordsAt
-  word-inside k l = sym (getD-tabulate (length bytes / 2) (λ j. wordAt bytes (0 + 2 * j)) k l ∙ ap (wordAt bytes) (zero-add (2 * k)))
+  unfolding wordCount
+  word-inside k l = sym (getD-wordsOf bytes k l)
 
   pub word-past : (k : ℕ) → length bytes / 2 ≤ k → 0 ≡ getD (wordsOf bytes) k 0
   word-past k l = sym (List·getD-eq-default (wordsOf bytes) 0 (omega (arith, length-words)))
@@ -48,11 +48,11 @@ module _ (s : List ℕ) (at n : ℕ) (fits : at + 2 * n ≤ length s) where
   word k l = ap₂ (λ a b. a + 256 * b) (byte (0 + 2 * k) (omega arith) ∙ ap (λ j. getD s j 0) (omega arith)) (byte (0 + 2 * k + 1) (omega arith) ∙ ap (λ j. getD s j 0) (omega arith))
 
   pub part-words : wordsOf (take (2 * n) (drop at s)) ≡ wordsAt s at n
-  unfolding wordsOf wordsAt
+  unfolding wordsOf wordsAt wordCount
   part-words = ap (λ m. tabulate m (λ j. wordAt part (0 + 2 * j))) count ∙ tabulate-ext n _ _ word
 
 none : wordsOf [] ≡ []
-unfolding wordsOf wordsAt tabulate
+unfolding wordsOf wordsAt wordCount tabulate
 none = refl
 
 pub body-words : (p : ℕ) (s : List ℕ) (i : ℕ) → wordsOf (bodyOf p s i) ≡ written (lowest (checkRefusals p s i)) (listAt s i) []

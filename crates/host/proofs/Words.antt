@@ -6,13 +6,8 @@ use Prim.Native.Nat.{ℕ, zero, suc, _+_, _*_, _/_, _%_, _≤_, _<_}
 use native.Mathlib.Nat.{le-of-suc-le-suc, not-suc-le-zero, div-add-mod}
 use native.Mathlib.Omega.{arith}
 use lib.ListN.{length, getD, set, length-set}
-use Rattle.lists.specs.Tabulate.{length-tabulate, getD-tabulate}
 use Rattle.lists.proofs.Filled.{Filled, fill-step}
-use Rattle.lists.specs.Bytes.{wordAt, wordCount, wordsOf, bytesOf}
-
-pub word-at : (s : List ℕ) (k : ℕ) → k < wordCount s → getD (wordsOf s) k 0 ≡ wordAt s (2 * k)
-unfolding wordsOf
-word-at s k l = getD-tabulate (wordCount s) _ k l
+use Rattle.lists.specs.Bytes.{wordCount, bytesOf}
 
 -- the bytes of the words are there
 pub words-in : (s : List ℕ) (n : ℕ) → n ≡ wordCount s → 2 * n ≤ length s

@@ -13,7 +13,8 @@ use lib.ListN.{length}
 use borrow.Author.Tests.{le-leb, lt-leb}
 use Rattle.lists.specs.Tabulate.{tabulate}
 use Rattle.lists.specs.Refused.{hasLoose, anyOf}
-use Rattle.layout.specs.Layout.{count, entryAt, degreeAt, wordAt, wordsAt, startAt, listAt, listsFrom, listsOf}
+use Rattle.lists.specs.Bytes.{wordAt, wordsAt}
+use Rattle.layout.specs.Layout.{count, entryAt, degreeAt, startAt, listAt, listsFrom, listsOf}
 use Rattle.layout.specs.Workers.{Obeys}
 use Rattle.layout.specs.Places.{start-next, words-next}
 

@@ -2,8 +2,6 @@
 --     count             byte 0: the number N of lists
 --     entryAt           where entry k stands: three bytes each, after the count
 --     degreeAt          the naive degree that entry k names
---     wordAt            16 bits at a place, low byte first
---     wordsAt           n words that stand one after the other from a place on
 --     offsetAt          the offset that entry k names
 --     startAt           where body k has to start: after the contents and the bodies before it
 --     offsetsAgree      the first k entries name those places
@@ -18,7 +16,7 @@ use mathlib.Core.List.{List, [], _∷_}
 use Prim.Native.Nat.{ℕ, zero, suc, _+_, _*_}
 use lib.Dec.{eqb, ltb}
 use lib.ListN.{length, getD}
-use Rattle.lists.specs.Tabulate.{tabulate}
+use Rattle.lists.specs.Bytes.{wordAt, wordsAt}
 
 abbrev pub count : List ℕ → ℕ
 count s = getD s 0 0
@@ -28,12 +26,6 @@ entryAt k = 1 + 3 * k
 
 abbrev pub degreeAt : List ℕ → ℕ → ℕ
 degreeAt s k = getD s (entryAt k) 0
-
-abbrev pub wordAt : List ℕ → ℕ → ℕ
-wordAt s at = getD s at 0 + 256 * getD s (at + 1) 0
-
-unfoldable pub wordsAt : List ℕ → (at n : ℕ) → List ℕ
-wordsAt s at n = tabulate n (λ j. wordAt s (at + 2 * j))
 
 abbrev pub offsetAt : List ℕ → ℕ → ℕ
 offsetAt s k = wordAt s (entryAt k + 1)

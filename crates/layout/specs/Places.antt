@@ -20,7 +20,8 @@ use borrow.Author.Tests.{eqb-true, eqb-false, ltb-false, not-false, eq-eqb, ne-e
 use Rattle.refusal.specs.Limits.{maxLists}
 use Rattle.refusal.proofs.First.{or-false}
 use Rattle.lists.specs.Tabulate.{tabulate, length-tabulate, tabulate-ext}
-use Rattle.layout.specs.Layout.{count, entryAt, degreeAt, wordAt, wordsAt, offsetAt, startAt, offsetsAgree, wrongCount, brokenLayout, listAt, listsFrom, listsOf}
+use Rattle.lists.specs.Bytes.{wordAt, wordsAt}
+use Rattle.layout.specs.Layout.{count, entryAt, degreeAt, offsetAt, startAt, offsetsAgree, wrongCount, brokenLayout, listAt, listsFrom, listsOf}
 use Rattle.layout.specs.Workers.{Obeys}
 
 and-true : (a b : Bool) → (a && b) ≡ true → (a ≡ true) × (b ≡ true)

@@ -14,10 +14,11 @@ use lib.Seq.{drop-cons, drop-length}
 use Rattle.refusal.specs.Limits.{maxLists}
 use Rattle.lists.specs.Degrees.{naiveDegree}
 use Rattle.lists.specs.Tabulate.{tabulate}
-use Rattle.layout.specs.Layout.{count, entryAt, degreeAt, wordAt, wordsAt, offsetAt, startAt, wrongCount, brokenLayout, listAt, listsFrom, listsOf}
+use Rattle.lists.specs.Bytes.{wordAt, wordsAt, bytesOf}
+use Rattle.layout.specs.Layout.{count, entryAt, degreeAt, offsetAt, startAt, wrongCount, brokenLayout, listAt, listsFrom, listsOf}
 use Rattle.layout.specs.Workers.{Obeys}
 use Rattle.layout.specs.Places.{start-next, start-up, words-next, length-list, length-lists, entry-inside, obeys}
-use Rattle.layout.specs.Written.{bytesOf, entriesFrom, bodiesOf, albumOf}
+use Rattle.layout.specs.Written.{entriesFrom, bodiesOf, albumOf}
 
 two-bytes : (a b : ℕ) → a < 256 → ((a + 256 * b) % 256 ≡ a) × ((a + 256 * b) / 256 ≡ b)
 two-bytes a b l =

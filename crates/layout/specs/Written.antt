@@ -1,5 +1,4 @@
 -- The album that holds given lists, and what reading it gives back.
---     bytesOf          the words of a list, low byte first
 --     entriesFrom      the entries of lists whose first body starts at a place
 --     bodiesOf         the bodies of lists
 --     albumOf          the album of lists: their count, their entries and their bodies
@@ -24,12 +23,9 @@ use lib.Seq.{getD-append-add}
 use Rattle.refusal.specs.Limits.{maxLists, maxWords}
 use Rattle.lists.specs.Degrees.{naiveDegree}
 use Rattle.lists.specs.Tabulate.{tabulated}
-use Rattle.layout.specs.Layout.{count, entryAt, degreeAt, wordAt, wordsAt, offsetAt, startAt, offsetsAgree, wrongCount, brokenLayout, listAt, listsFrom, listsOf}
+use Rattle.lists.specs.Bytes.{wordAt, wordsAt, bytesOf, length-bytesOf}
+use Rattle.layout.specs.Layout.{count, entryAt, degreeAt, offsetAt, startAt, offsetsAgree, wrongCount, brokenLayout, listAt, listsFrom, listsOf}
 use Rattle.layout.specs.Places.{start-next, agree-next, right-count, right-layout}
-
-unfoldable pub bytesOf : List ℕ → List ℕ
-bytesOf [] = []
-bytesOf (x ∷ c) = x % 256 ∷ x / 256 ∷ bytesOf c
 
 unfoldable pub entriesFrom : ℕ → List (List ℕ) → List ℕ
 entriesFrom at [] = []
@@ -62,11 +58,6 @@ rest-fit : (c : List ℕ) (lists : List (List ℕ)) → AllFit (c ∷ lists) →
 rest-fit c lists w k l = w (suc k) (omega arith)
 
 -- ---- lengths
-length-bytes : (c : List ℕ) → length (bytesOf c) ≡ 2 * length c
-unfolding bytesOf
-length-bytes [] = refl
-length-bytes (x ∷ c) = omega (arith, length-bytes c)
-
 length-entries : (at : ℕ) (lists : List (List ℕ)) → length (entriesFrom at lists) ≡ 3 * length lists
 unfolding entriesFrom
 length-entries at [] = refl
@@ -152,7 +143,7 @@ says (c ∷ lists) w s front mid k at e f m = (
     front-length = omega (arith, length-append front entry)
 
     next : length (front ++ entry) + 3 * length lists + length (mid ++ bytesOf c) ≡ at + 2 * length c
-    next = omega (arith, length-append front entry, length-append mid (bytesOf c), length-bytes c)
+    next = omega (arith, length-append front entry, length-append mid (bytesOf c), length-bytesOf c)
 
 -- ---- such an album obeys the layout, and its lists are these
 record Laid (s : List ℕ) (k : ℕ) (lists : List (List ℕ)) : Type 0 where

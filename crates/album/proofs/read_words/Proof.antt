@@ -6,8 +6,8 @@ use native.Mathlib.Omega.{arith}
 use lib.ListN.{length, length-set}
 use borrow.Author.Needs.{needs}
 use Rattle.lists.proofs.Filled.{Filled, fill-start, fill-step}
+use Rattle.lists.specs.Bytes.{wordsOf}
 use Rattle.euclid.specs.Loops.{padded-is}
-use Rattle.album.specs.Workers.{wordsOf}
 use Rattle.album.proofs.Words.{length-words}
 use Rattle.album.proofs.read_words.Statement.{statement}
 use Rattle.album.proofs.read_words.Tie as tie

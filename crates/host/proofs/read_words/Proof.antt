@@ -7,7 +7,8 @@ use lib.ListN.{length, length-set}
 use borrow.Author.Needs.{needs}
 use Rattle.lists.proofs.Filled.{Filled, fill-start, fill-step, fill-end}
 use Rattle.lists.specs.Bytes.{wordsOf, length-wordsOf}
-use Rattle.host.proofs.Words.{word-at, words-in}
+use Rattle.host.proofs.Words.{words-in}
+use Rattle.lists.specs.Bytes.{getD-wordsOf}
 use Rattle.host.proofs.read_words.Statement.{statement}
 use Rattle.host.proofs.read_words.Tie as tie
 
@@ -55,7 +56,7 @@ loop-again c = (
   simp length-set (omega arith),
   simp length-set (omega arith),
   omega arith,
-  fill-step _ (c .before .before .before .before .loop .inv .3) (omega arith) (c .word .ensures ∙ sym (word-at _ _ (omega arith))),
+  fill-step _ (c .before .before .before .before .loop .inv .3) (omega arith) (c .word .ensures ∙ sym (getD-wordsOf _ _ (omega arith))),
 )
 
 same-length : tie.Need-same-length Inv-loop μ-loop

@@ -3,7 +3,7 @@
 --     IsGreatestOf      D divides the meaning of each list, and every polynomial that divides them all divides D
 -- List i past the last one is the list of no words, which means 0, and which every polynomial divides.
 -- Assumes nothing.
-use mathlib.Core.Path.{_≡_, refl, sym, _∙_, ap, subst}
+use mathlib.Core.Path.{_≡_, refl, sym, _∙_, subst}
 use mathlib.Core.Logic.{_⊎_, inl, inr}
 use mathlib.Core.List.{List, [], _∷_}
 use Prim.Native.Nat.{ℕ, zero, suc, _+_, _≤_, _<_, zero-le}
@@ -190,9 +190,6 @@ module _ (F : PrimeField) where
 
     pub album-head : Head F (albumGcd F lists .list)
     album-head = album-whole .head
-
-    pub album-coefficients : Coefficients F (albumGcd F lists .list)
-    album-coefficients = album-head .coefficients
 
     -- of naive degree w
     pub album-length : length (albumGcd F lists .list) ≡ suc (naiveDegree (albumGcd F lists .list))

@@ -1,7 +1,6 @@
 // Two calls on lists of words for the bench (`bench/`), which is the only one to use them: the value at a point, and the cofactors. No part
 // of what the engine offers to a C host (`crates/host`).
 ghost use mathlib.Core.Path.{_≡_};
-ghost use mathlib.Core.List.{[], _∷_};
 ghost use Rattle.algebra.specs.PrimeField.{F65521};
 ghost use Rattle.refusal.specs.Limits.{maxWords};
 ghost use Rattle.refusal.specs.Refusal.{outcomeNumber, written};

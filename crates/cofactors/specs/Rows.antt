@@ -26,7 +26,7 @@ use Rattle.lists.specs.Extents.{significant-le}
 use Rattle.lists.specs.Lists.{scaled}
 use Rattle.lists.specs.Words.{scaledWords}
 use Rattle.kernels.specs.Kernels.{scaleFits}
-use Rattle.reduction.specs.Rows.{lessProduct, lessProductFits}
+use Rattle.reduction.specs.Reduction.{lessProduct, lessProductFits}
 use Rattle.reduction.specs.Steps.{Low, less-product-low, length-lessProduct}
 use Rattle.rounds.specs.Round.{roundSteps, roundFits, remaining, quotientWords}
 use Rattle.rounds.specs.Turns.{end-euclid, round-fits, round-euclid, round-quotient, length-remaining, length-quotientWords, roundSteps-le}
@@ -112,11 +112,10 @@ module _ (n : ℕ) (x s t : List ℕ) (lx : length x ≡ n) (ls : length s ≡ n
   joined-length lt = length-append x (s ++ t) ∙ ap₂ _+_ lx (length-append s t ∙ ap₂ _+_ ls lt)
 
 module _ (F : PrimeField) (n : ℕ) where
-  open CommRing (F .series .ring) using (Carrier as S, zero as 0ˢ, one as 1ˢ, neg as -ˢ_, add as _+ˢ_, mul as _*ˢ_)
+  open CommRing (F .series .ring) using (Carrier as S, zero as 0ˢ, one as 1ˢ, add as _+ˢ_, mul as _*ˢ_)
 
   infixl 65 _+ˢ_
   infixl 70 _*ˢ_
-  infix 80 -ˢ_
   -- what is left of the words s of u, t being those of v
   unfoldable pub lessQuotient : (x y s t : List ℕ) → List ℕ
   lessQuotient x y s t = lessProduct (F .p) s (quotientWords F x y) t

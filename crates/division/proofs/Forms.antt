@@ -1,47 +1,33 @@
 -- Division by scaled forms: what the kernels and the reduction leave in the slices is the quotient and the remainder of the lists.
 -- Assumes nothing.
 use mathlib.Core.Path.{_≡_, sym, _∙_, ap, ap₂, subst}
-use mathlib.Core.Bool.{cond, true}
+use mathlib.Core.Bool.{cond}
 use mathlib.Core.List.{List}
 use Prim.Native.Nat.{ℕ, suc, _+_, _-_, _≤_, _<_}
 use native.Mathlib.Nat.{pos-of-ne-zero}
-use native.Mathlib.Decide.{decLt}
 use native.Mathlib.Omega.{arith}
-use lib.ListN.{length, getD, List·getD-eq-default}
-use borrow.Author.Tests.{eq-eqb, le-leb}
-use Rattle.algebra.specs.Ring.{CommRing}
-use Rattle.algebra.specs.Series.{ext}
-use Rattle.algebra.specs.PrimeField.{PrimeField, scalarField, positive, residue, inverse, value-lt}
+use lib.ListN.{length, getD}
+use Rattle.algebra.specs.PrimeField.{PrimeField, scalarField, residue, inverse}
 use Rattle.algebra.specs.Division.{quotient, remainder}
 use Rattle.field.specs.Field.{inverseOf, inverseOrZero}
 use Rattle.field.specs.Theorems.{residue-inverse}
-use Rattle.field.proofs.OrZero.{inverse-some}
+use Rattle.inverses.proofs.OrZero.{inverse-some}
 use Rattle.lists.specs.Degrees.{naiveDegree}
 use Rattle.lists.specs.Lists.{word, scaled, unscaled}
 use Rattle.lists.specs.Scaled.{length-naive, coefficient-last, coeff-scaled}
-use Rattle.lists.specs.Words.{seriesOf, coeff-seriesOf, scaledWords, length-scaledWords, getD-scaledWords, seriesOf-scaledWords, Carries, carries-seriesOf}
+use Rattle.lists.specs.Words.{seriesOf, scaledWords, length-scaledWords, below-scaledWords, seriesOf-scaledWords, Carries, carries-seriesOf, seriesOf-carries}
 use Rattle.kernels.specs.Kernels.{scaleFits, unscaleFits}
 use Rattle.kernels.proofs.Fits.{scale-is, unscale-is}
-use Rattle.reduction.specs.Rows.{reduced, digits, reduceFits}
+use Rattle.reduction.specs.Reduction.{reduced, digits, reduceFits}
 use Rattle.reduction.specs.Steps.{reduced-remainder, digits-quotient, length-reduced, length-digits}
+use Rattle.reduction.proofs.Loops.{reduce-fits}
 use Rattle.euclid.specs.Quotients.{steps, quotientOf, remainderOf}
 use Rattle.division.specs.Workers.{DivideFits}
 
 module _ (F : PrimeField) where
-  open CommRing (F .series .ring) using (Carrier as S)
-
   carries-scaled : (c : List ℕ) → Carries F (scaledWords F c) (scaled F c)
   carries-scaled c =
-      subst (λ s. Carries F (scaledWords F c) s) (seriesOf-scaledWords F c) (carries-seriesOf F (λ k. small k (decLt k (length c))))
-    where
-      small : (k : ℕ) → Dec (k < length c) → getD (scaledWords F c) k 0 < F .p
-      small k (yes l) = rw (getD-scaledWords F c k l) (value-lt F _)
-      small k (no l) =
-          let e = length-scaledWords F c in
-          rw (List·getD-eq-default (scaledWords F c) 0 {n = k} (omega arith)) (positive F)
-
-  series-of-carries : {buf : List ℕ} {s : S} → Carries F buf s → seriesOf F buf ≡ s
-  series-of-carries {buf} {s} c = ext (F .series) _ _ λ k. coeff-seriesOf F buf k ∙ c .at k
+      subst (λ s. Carries F (scaledWords F c) s) (seriesOf-scaledWords F c) (carries-seriesOf F (below-scaledWords F c))
 
   -- the inverse of the divisor's last word is that of its scaled form's last coefficient
   top-inverse : (f : List ℕ) {inv : ℕ} → inv ≡ inverseOf F (getD f (naiveDegree f) 0)
@@ -60,10 +46,6 @@ module _ (F : PrimeField) where
       inverse-some F (getD f (length f - 1) 0) (pos-of-ne-zero (fits .divisible .end)) (fits .divisible .divisor .below (length f - 1))
 
   module _ (most : ℕ) where
-    reduce-fits : (x y k : List ℕ) → 0 < length y → length x + 1 ≡ length y + length k → reduceFits x y k ≡ true
-    unfolding reduceFits
-    reduce-fits x y k s e = rw (le-leb 1 (length y) s, eq-eqb (length x + 1) (length y + length k) e)
-
     -- the scaled forms of g and f in x and y, their quotient in k and their remainder in x, and back into q and r
     module _ {p : ℕ} (is : F .p ≡ p) (g f x y k q r : List ℕ) (fits : DivideFits F most g f q r)
         (lx : length x ≡ length g) (ly : length y ≡ length f) (lk : length k ≡ length q)
@@ -125,7 +107,7 @@ module _ (F : PrimeField) where
             let w = fits .quotient-words in
             let t = fits .short in
             unscale-is F most k′ q (omega (arith, nk)) (omega arith) qq
-            ∙ ap₂ (unscaled F) (sym lk) (series-of-carries ck)
+            ∙ ap₂ (unscaled F) (sym lk) (seriesOf-carries F ck)
             ∙ ap (λ n. unscaled F n (quotient (F .series) (scalarField F) n (naiveDegree f) (scaled F g) (scaled F f))) count
 
       module _ {x″ : List ℕ} (qx″ : x″ ≡ cond (reduceFits x′ y′ k) (reduced p inv y′ (length k) x′) x′) where
@@ -149,5 +131,5 @@ module _ (F : PrimeField) where
             let w = fits .remainder-words in
             let t = fits .short in
             unscale-is F most x″ r (omega (arith, nl, nx)) (omega arith) qr
-            ∙ ap₂ (unscaled F) words (series-of-carries cl)
+            ∙ ap₂ (unscaled F) words (seriesOf-carries F cl)
             ∙ ap (λ n. unscaled F (naiveDegree f) (remainder (F .series) (scalarField F) n (naiveDegree f) (scaled F g) (scaled F f))) count

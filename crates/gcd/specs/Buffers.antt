@@ -18,11 +18,11 @@ use Rattle.algebra.specs.Series.{ext}
 use Rattle.algebra.specs.Degree.{size}
 use Rattle.algebra.specs.Euclid.{Euclid, euclid}
 use Rattle.algebra.specs.Monic.{monic}
-use Rattle.algebra.specs.PrimeField.{PrimeField, scalarField, positive, residue, value-lt}
+use Rattle.algebra.specs.PrimeField.{PrimeField, scalarField, residue}
 use Rattle.lists.specs.Lists.{scaled, unscaled}
-use Rattle.lists.specs.Words.{seriesOf, coeff-seriesOf, scaledWords, length-scaledWords, getD-scaledWords, seriesOf-scaledWords}
+use Rattle.lists.specs.Words.{seriesOf, coeff-seriesOf, scaledWords, length-scaledWords, below-scaledWords, seriesOf-scaledWords}
+use Rattle.lists.proofs.Parts.{getD-then-zeros}
 use Rattle.kernels.specs.Kernels.{scaleFits}
-use Rattle.gcd.specs.Parts.{getD-then-zeros}
 
 -- an array of zeros
 pub getD-zeros : (n k : ℕ) → getD {A = ℕ} (replicate n 0) k 0 ≡ 0
@@ -54,16 +54,6 @@ module _ (F : PrimeField) where
   seriesOf-ext x y h =
       ext (F .series) _ _ (λ k. coeff-seriesOf F x k ∙ ap (residue F) (h k) ∙ sym (coeff-seriesOf F y k))
 
-  below-scaledWords : (c : List ℕ) (k : ℕ) → getD (scaledWords F c) k 0 < F .p
-  below-scaledWords c k = go (decLt k (length c))
-    where
-      go : Dec (k < length c) → getD (scaledWords F c) k 0 < F .p
-      go (yes l) = rw (getD-scaledWords F c k l) (value-lt F _)
-      go (no l) =
-          let e = length-scaledWords F c in
-          let q : getD (scaledWords F c) k 0 ≡ 0 = List·getD-eq-default (scaledWords F c) 0 (omega arith) in
-          rw q (positive F)
-
   -- the words of a scaled form, written to the front of a buffer of zeros
   pub holds-scaled : (n : ℕ) (c z : List ℕ) {out : List ℕ} → length c ≤ n → length z ≡ n → ((k : ℕ) → getD z k 0 ≡ 0)
       → out ≡ cond (scaleFits n c (take (length c) z)) (scaledWords F c) (take (length c) z)
@@ -72,7 +62,7 @@ module _ (F : PrimeField) where
       record {
         buffer = record {
           size = simp (length-append, length-drop, is, length-scaledWords F c) (omega arith);
-          below = λ k. rw (same k) (below-scaledWords c k);
+          below = λ k. rw (same k) (below-scaledWords F c k);
         };
         series = seriesOf-ext _ (scaledWords F c) same ∙ seriesOf-scaledWords F c;
       }

@@ -1,3 +1,4 @@
 pub mod Search
 pub mod Judged
 pub mod Filled
+pub mod Parts

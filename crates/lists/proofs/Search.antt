@@ -6,12 +6,12 @@ use mathlib.Core.List.{List, [], _∷_}
 use Prim.Native.Nat.{ℕ, zero, suc, _+_, _-_, _≤_, _<_}
 use native.Mathlib.Numerals.{add-one}
 use native.Mathlib.Omega.{arith}
-use lib.Dec.{eqb, leb}
+use lib.Dec.{leb}
 use lib.ListN.{length, getD, drop}
 use lib.Seq.{drop-cons, drop-length}
 use borrow.Author.Tests.{leb-false, le-leb, lt-leb, eq-eqb, ne-eqb}
 use Rattle.refusal.proofs.First.{or-false}
-use Rattle.lists.specs.Degrees.{significantIn, significant}
+use Rattle.lists.specs.Degrees.{significantIn}
 use Rattle.lists.specs.Refused.{hasLoose}
 
 module _ (p : ℕ) where
@@ -33,6 +33,11 @@ module _ (p : ℕ) where
   none-loose [] pos e k = pos
   none-loose (x ∷ c) pos e zero = leb-false p x (or-false (leb p x) (hasLoose p c) e .0)
   none-loose (x ∷ c) pos e (suc k) = none-loose c pos (or-false (leb p x) (hasLoose p c) e .1) k
+
+  pub tight : (c : List ℕ) → ((k : ℕ) → getD c k 0 < p) → hasLoose p c ≡ false
+  unfolding hasLoose
+  tight [] h = refl
+  tight (x ∷ c) h = rw (lt-leb p x (h 0)) (tight c (λ k. h (suc k)))
 
 less : (n : ℕ) → suc n - 1 ≡ n
 less n = omega arith

@@ -64,16 +64,20 @@ pub significant-extent : (c : List ℕ) → 0 < significant c → significant c 
 unfolding extent
 significant-extent c l = omega arith
 
+-- every word past the significant ones is 0
+pub after-significant : (c : List ℕ) (k : ℕ) → significant c ≤ k → getD c k 0 ≡ 0
+after-significant c k l = go (decLt k (length c))
+  where
+    go : Dec (k < length c) → getD c k 0 ≡ 0
+    go (yes h) = significantIn-last (length c) c .after k (unfold significant in l) h
+    go (no h) = List·getD-eq-default c 0 (omega arith)
+
 -- the extent is the largest k whose word is not 0
 pub extent-largest : (c : List ℕ) → 0 < significant c → (¬ (getD c (extent c) 0 ≡ 0)) × ((k : ℕ) → extent c < k → getD c k 0 ≡ 0)
-extent-largest c l = (unfold extent significant in significantIn-last (length c) c .last l, λ k j. after k j (decLt k (length c)))
-  where
-    after : (k : ℕ) → extent c < k → Dec (k < length c) → getD c k 0 ≡ 0
-    after k j (yes i) =
-        let e = significant-extent c l in
-        let h : significant c ≤ k = omega arith in
-        unfold significant in significantIn-last (length c) c .after k h i
-    after k j (no i) = List·getD-eq-default c 0 (omega arith)
+extent-largest c l = (
+  unfold extent significant in significantIn-last (length c) c .last l,
+  λ k j. after-significant c k (let e = significant-extent c l in omega arith),
+)
 
 module _ (F : PrimeField) where
   open CommRing (F .series .ring) using (zero as 0ˢ)

@@ -11,7 +11,7 @@ use mathlib.Core.Bool.{cond}
 use mathlib.Core.List.{List, [], _∷_}
 use Prim.Native.Nat.{ℕ, suc, _+_, _-_, max}
 use lib.Dec.{eqb}
-use lib.ListN.{getD, length}
+use lib.ListN.{length}
 use Rattle.algebra.specs.Ring.{CommRing, pow}
 use Rattle.algebra.specs.Sum.{total}
 use Rattle.algebra.specs.PrimeField.{PrimeField, scalars, residue, value, inverse}

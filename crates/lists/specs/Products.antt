@@ -13,7 +13,7 @@ use Rattle.algebra.specs.Series.{t, ext, coeff-add, coeff-1-zero, coeff-1-suc, 
 use Rattle.algebra.specs.Polynomial.{Below, below-mono, below-C, below-mul}
 use Rattle.algebra.specs.Homogenise.{hom, hom-zero, hom-mul}
 use Rattle.algebra.specs.Substitute.{⟨1+u⟩, elevate}
-use Rattle.algebra.specs.Sum.{total, total-ext, total-mul, coeff-product}
+use Rattle.algebra.specs.Sum.{total-ext, total-mul, coeff-product}
 use Rattle.algebra.specs.Choose.{choose-zero, choose-0-suc, pascal}
 use Rattle.algebra.specs.PrimeField.{PrimeField, scalars, residue, value, inverse, value-lt, residue-0, residue-1, residue-add}
 use Rattle.lists.specs.Tabulate.{tabulate, length-tabulate, getD-tabulate, tabulate-ext}
@@ -47,9 +47,6 @@ module _ (F : PrimeField) where
   pub length-product : (f g : List ℕ) → length (product F f g) ≡ suc (naiveDegree f + naiveDegree g)
   unfolding product
   length-product f g = length-tabulate _ _
-
-  pub naive-product : (f g : List ℕ) → naiveDegree (product F f g) ≡ naiveDegree f + naiveDegree g
-  naive-product f g = naive-length (product F f g) _ (length-product f g)
 
   regroup : (a b c x y : K) → a ⊗ b ⊗ c ⊗ x ⊗ y ≡ x ⊗ a ⊗ (y ⊗ b) ⊗ c
   regroup a b c x y = simp AC

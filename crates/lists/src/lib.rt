@@ -1,6 +1,5 @@
 // Lists of words: their two counters, and what every call refuses in a list.
 ghost use mathlib.Core.Path.{_≡_};
-ghost use mathlib.Core.Bool.{Bool};
 ghost use mathlib.Core.List.{[], _∷_};
 ghost use Prim.Native.Nat.{max, min};
 ghost use Rattle.refusal.specs.Limits.{maxWords};

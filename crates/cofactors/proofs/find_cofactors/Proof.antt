@@ -13,7 +13,8 @@ use Rattle.field.specs.Field.{p}
 use Rattle.euclid.specs.Gcds.{cofactorA, cofactorB}
 use Rattle.gcd.specs.Ready.{Ready}
 use Rattle.gcd.specs.Finish.{refused}
-use Rattle.cofactors.specs.Results.{Slices, cofactors-ready, cofactors-answered, kept}
+use Rattle.refusal.proofs.Answers.{kept}
+use Rattle.cofactors.specs.Results.{Slices, cofactors-ready, cofactors-answered}
 use Rattle.cofactors.specs.Calls.{cofactorRefusals}
 use Rattle.cofactors.proofs.find_cofactors.Statement.{statement}
 use Rattle.cofactors.proofs.find_cofactors.Tie as tie

@@ -1,7 +1,7 @@
 -- `lists::significant_words` meets its contract: the words that are left answer for the whole.
 -- Assumes nothing.
 use mathlib.Core.Path.{_≡_, refl, sym, _∙_}
-use Prim.Native.Nat.{_-_, _≤_}
+use Prim.Native.Nat.{_≤_}
 use lib.ListN.{length}
 use Rattle.lists.specs.Degrees.{significantIn, significant}
 use Rattle.lists.proofs.Search.{significant-here, significant-on, significant-none}

@@ -2,7 +2,6 @@
 -- Assumes nothing.
 use Rattle.lists.specs.Refused.{wrongLength}
 use borrow.Author.Tests.{eq-eqb, ne-eqb}
-use borrow.Author.Needs.{needs}
 use Rattle.lists.proofs.wrong_length.Statement.{statement}
 use Rattle.lists.proofs.wrong_length.Tie as tie
 

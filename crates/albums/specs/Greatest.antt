@@ -190,9 +190,6 @@ module _ (F : PrimeField) where
     pub album-head : Head F (albumGcd F lists .list)
     album-head = album-whole .head
 
-    pub album-coefficients : Coefficients F (albumGcd F lists .list)
-    album-coefficients = album-head .coefficients
-
     -- of naive degree w
     pub album-length : length (albumGcd F lists .list) ≡ suc (naiveDegree (albumGcd F lists .list))
     album-length = album-head .words

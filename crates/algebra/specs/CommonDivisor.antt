@@ -14,7 +14,7 @@ use Rattle.algebra.specs.Ring.{CommRing, IsField, RING}
 use Rattle.algebra.specs.Series.{SeriesRing, coeff-0}
 use Rattle.algebra.specs.Polynomial.{Polynomial, polynomial-add, polynomial-mul, Divides, divides-trans, divides-mul}
 use Rattle.algebra.specs.OneMinusT.{⟨1-t⟩^, polynomial-⟨1-t⟩^, divides-⟨1-t⟩^, Split, split-le, split-nonzero, split-off, divides-without-⟨1-t⟩}
-use Rattle.algebra.specs.Homogenise.{hom, hom-mul, hom-strip, valueAt1-hom, polynomial-hom}
+use Rattle.algebra.specs.Homogenise.{hom, hom-mul, hom-strip, polynomial-hom}
 use Rattle.algebra.specs.Degree.{Degree, degree-unique, degree-of, degree-mul}
 
 module _ {Rg : CommRing} (X : SeriesRing Rg) where
@@ -56,22 +56,6 @@ module _ {Rg : CommRing} (X : SeriesRing Rg) where
   pub divisor-nonzero : {K L : S} → Split X L → Divides X K L → K ≡ 0ˢ → ⊥
   divisor-nonzero r d e =
       split-nonzero X r (d .equation ∙ ap (λ x. x *ˢ d .cofactor) e ∙ R.zero-mul (X .ring) (d .cofactor))
-
-  -- the homogenisation at degree n of a polynomial of degree m has n - m factors 1-t
-  pub split-hom : (n m : ℕ) {s : S} → Degree X m s → m ≤ n → Split X (hom X n s)
-  split-hom n m {s} x l =
-      record {
-        k = n - m;
-        core = hom X m s;
-        value = X .coeff s m;
-        at = valueAt1-hom X m s;
-        nonzero = x .top;
-        equation = hom-strip X n m (x .below) l;
-      }
-
-  pub power-le : {K s : S} (n m : ℕ) (q : Split X K) → Degree X m s → m ≤ n → Divides X K (hom X n s) → q .k ≤ n - m
-  unfolding split-hom
-  power-le n m q x l d = split-le X q (split-hom n m x l) d
 
 module _ {Rg : CommRing} (X : SeriesRing Rg) (F : IsField Rg) where
   open CommRing (X .ring) using (Carrier as S, zero as 0ˢ, add as _+ˢ_, mul as _*ˢ_)

@@ -39,7 +39,7 @@ module _ {Rg : CommRing} (X : SeriesRing Rg) where
       ap (λ s. X .coeff s (suc j)) (R.mul-assoc (X .ring) (t X) (monomial X c k) y) ∙ coeff-t-mul-suc X _ j
       ∙ coeff-monomial-mul-low c k y j (N.le-of-suc-le-suc l)
 
-  coeff-monomial-low : (c : Carrier) (k j : ℕ) → j < k → X .coeff (monomial X c k) j ≡ 𝟘
+  pub coeff-monomial-low : (c : Carrier) (k j : ℕ) → j < k → X .coeff (monomial X c k) j ≡ 𝟘
   coeff-monomial-low c k j l = ap (λ s. X .coeff s j) (sym (R.mul-one (X .ring) (monomial X c k))) ∙ coeff-monomial-mul-low c k 1ˢ j l
 
 module _ {Rg : CommRing} (X : SeriesRing Rg) (K : IsField Rg) where
@@ -166,20 +166,6 @@ module _ {Rg : CommRing} (X : SeriesRing Rg) (K : IsField Rg) where
           R.eq-of-sub (X .ring) q q′
           (mul-below _ d (polynomial-add X pq (polynomial-neg X pq′) .below) (e .below) (e .top)
           (subst (λ a. Below X d a) (sym small) (below-add X hr′ (below-neg X hr))))
-
-  -- one step, by coefficients
-  pub coeff-step : (k d : ℕ) (x y : S) (i : ℕ) → X .coeff (step k d x y) (k + i) ≡ X .coeff x (k + i) ⊕ ⊖ (digit k d x y ⊗ X .coeff y i)
-  unfolding step
-  coeff-step k d x y i =
-      coeff-add X x _ (k + i)
-      ∙ ap (λ z. X .coeff x (k + i) ⊕ z) (coeff-neg X _ (k + i) ∙ ap (λ z. ⊖ z) (coeff-monomial-mul X (digit k d x y) k y i))
-
-  pub coeff-step-low : (k d : ℕ) (x y : S) (j : ℕ) → j < k → X .coeff (step k d x y) j ≡ X .coeff x j
-  unfolding step
-  coeff-step-low k d x y j l =
-      coeff-add X x _ j
-      ∙ ap (λ z. X .coeff x j ⊕ z) (coeff-neg X _ j ∙ ap (λ z. ⊖ z) (coeff-monomial-mul-low X (digit k d x y) k y j l))
-      ∙ simp RING
 
   -- the quotient, from its last coefficient down
   pub coeff-quotient-top : (k d : ℕ) (x y : S) → X .coeff (quotient (suc k) d x y) k ≡ digit k d x y

@@ -35,9 +35,6 @@ module _ {Rg : CommRing} (X : SeriesRing Rg) (K : IsField Rg) where
   unfolding monic
   monic-is n s = refl
 
-  pub coeff-monic : (n : ℕ) (s : S) (k : ℕ) → X .coeff (monic n s) k ≡ topInverse n s ⊗ X .coeff s k
-  coeff-monic n s k = ap (λ z. X .coeff z k) (monic-is n s) ∙ coeff-C-mul X _ s k
-
   C-inv : (c : Carrier) → ¬ (c ≡ 𝟘) → C X c *ˢ C X (K .inv c) ≡ 1ˢ
   C-inv c nz = sym (C-mul X c (K .inv c)) ∙ ap (C X) (K .mul-inv c nz) ∙ C-one X
 

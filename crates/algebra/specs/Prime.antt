@@ -6,13 +6,14 @@
 --
 -- Assumes nothing.
 use mathlib.Core.Path.{_≡_, refl, sym, _∙_, ap, subst}
-use mathlib.Core.Bool.{Bool, true, false, _&&_}
+use mathlib.Core.Bool.{Bool, true, _&&_}
 use mathlib.Core.Logic.{_⊎_, inl, inr}
 use Prim.Native.Nat.{ℕ, zero, suc, _+_, _*_, _%_, _/_, _<_, _≤_, _∣_}
 use native.Mathlib.Nat as N
 use native.Mathlib.Decide.{ℕ-discrete, decLt}
 use native.Mathlib.Omega.{arith}
 use lib.Dec.{T, ltb, ltb→lt}
+use mir.Facts.{and-yes}
 
 pub record Prime (p : ℕ) : Type 0 where
   pub big : 1 < p
@@ -25,24 +26,16 @@ noDivisor p (suc n) = ltb 0 (p % (n + 2)) && noDivisor p n
 abbrev pub primeTest : ℕ → ℕ → Bool
 primeTest p b = ltb 1 p && (ltb p ((b + 2) * (b + 2)) && noDivisor p b)
 
-and-left : (a b : Bool) → T (a && b) → T a
-and-left true b t = tt
-and-left false b t = absurd t
-
-and-right : (a b : Bool) → T (a && b) → T b
-and-right true b t = t
-and-right false b t = absurd t
-
 noDivisor-sound : (p n d : ℕ) → T (noDivisor p n) → 2 ≤ d → d < n + 2 → ¬ (p % d ≡ 0)
 noDivisor-sound p zero d t h l e = omega arith
 noDivisor-sound p (suc n) d t h l e =
     go
-    (λ l′. noDivisor-sound p n d (and-right (ltb 0 (p % (n + 2))) (noDivisor p n) t) h l′ e)
+    (λ l′. noDivisor-sound p n d (and-yes (ltb 0 (p % (n + 2))) (noDivisor p n) t .1) h l′ e)
     (ℕ-discrete d (n + 2))
   where
     go : (d < n + 2 → ⊥) → Dec (d ≡ n + 2) → ⊥
     go ih (yes q) =
-        let t′ : 0 < p % (n + 2) = ltb→lt 0 (p % (n + 2)) (and-left (ltb 0 (p % (n + 2))) (noDivisor p n) t) in
+        let t′ : 0 < p % (n + 2) = ltb→lt 0 (p % (n + 2)) (and-yes (ltb 0 (p % (n + 2))) (noDivisor p n) t .0) in
         N.ne-of-gt t′ (ap (λ x. p % x) (sym q) ∙ e)
     go ih (no q) = ih (omega arith)
 
@@ -51,16 +44,16 @@ pub prime-of-test : (p b : ℕ) → T (primeTest p b) → Prime p
 prime-of-test p b t = record { big = above; only = λ d h. divisor d h (decLt d (b + 2)) }
   where
     above : 1 < p
-    above = ltb→lt 1 p (and-left (ltb 1 p) (ltb p ((b + 2) * (b + 2)) && noDivisor p b) t)
+    above = ltb→lt 1 p (and-yes (ltb 1 p) (ltb p ((b + 2) * (b + 2)) && noDivisor p b) t .0)
 
     rest : T (ltb p ((b + 2) * (b + 2)) && noDivisor p b)
-    rest = and-right (ltb 1 p) (ltb p ((b + 2) * (b + 2)) && noDivisor p b) t
+    rest = and-yes (ltb 1 p) (ltb p ((b + 2) * (b + 2)) && noDivisor p b) t .1
 
     square : p < (b + 2) * (b + 2)
-    square = ltb→lt p ((b + 2) * (b + 2)) (and-left (ltb p ((b + 2) * (b + 2))) (noDivisor p b) rest)
+    square = ltb→lt p ((b + 2) * (b + 2)) (and-yes (ltb p ((b + 2) * (b + 2))) (noDivisor p b) rest .0)
 
     none : T (noDivisor p b)
-    none = and-right (ltb p ((b + 2) * (b + 2))) (noDivisor p b) rest
+    none = and-yes (ltb p ((b + 2) * (b + 2))) (noDivisor p b) rest .1
 
     low : (d : ℕ) → d ∣ p → d < b + 2 → d ≡ 1
     low zero h l = let e : p ≡ 0 = N.eq-zero-of-zero-dvd h in omega (arith, above)

@@ -107,17 +107,12 @@ module _ (F : PrimeField) where
   unfolding residue
   residue-injective a b h = Z.residueMod-injective (F .p) (positive F) a b h
 
-  -- sum, product and difference, reduced
+  -- sum and product, reduced
   pub residue-add-mod : (a b : ℕ) → residue F ((a + b) % F .p) ≡ residue F a ⊕ residue F b
   residue-add-mod a b = residue-mod (a + b) ∙ residue-add a b
 
   pub residue-mul-mod : (a b : ℕ) → residue F ((a * b) % F .p) ≡ residue F a ⊗ residue F b
   residue-mul-mod a b = residue-mod (a * b) ∙ residue-mul a b
-
-  pub residue-sub-mod : (a b : ℕ) → b < F .p → residue F ((a + (F .p - b)) % F .p) ≡ residue F a ⊕ ⊖ residue F b
-  residue-sub-mod a b l =
-      residue-add-mod a (F .p - b)
-      ∙ ap (λ x. residue F a ⊕ x) (ap (λ x. residue F (F .p - x)) (sym (N.mod-eq-of-lt l)) ∙ residue-neg b)
 
   pub residue-nonzero : (n : ℕ) → n < F .p → ¬ (n ≡ 0) → ¬ (residue F n ≡ 𝟘)
   residue-nonzero n l h e = h (sym (value-residue n l) ∙ ap (value F) (e ∙ sym residue-0) ∙ value-residue 0 (positive F))

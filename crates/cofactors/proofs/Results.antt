@@ -23,9 +23,9 @@ use Rattle.algebra.specs.Monic.{topInverse}
 use Rattle.refusal.specs.Limits.{maxWords}
 use Rattle.refusal.specs.Refusal.{reply, written}
 use Rattle.refusal.specs.Lowest.{lowest}
-use Rattle.refusal.specs.declared.Refusal.{Refusal}
 use Rattle.refusal.specs.declared.Outcome.{Outcome}
-use Rattle.refusal.specs.declared.Outcome.the-variants.{Done, Refused}
+use Rattle.refusal.specs.declared.Outcome.the-variants.{Done}
+use Rattle.refusal.proofs.Answers.{result}
 use Rattle.lists.specs.declared.NaiveDegree.{NaiveDegree}
 use Rattle.lists.specs.Tabulate.{tabulate-ext}
 use Rattle.lists.specs.Scaled.{length-unscaled}
@@ -186,8 +186,8 @@ module _ (F : PrimeField) where
       let z = answered F f g h e y (o .answer) (o .gcd) in (
         z .0,
         z .1,
-        o .left ∙ sym (ap (λ k. written k (cofactorA F f g) a) e),
-        o .right ∙ sym (ap (λ k. written k (cofactorB F f g) b) e),
+        result (cofactorA F f g) a e (o .left),
+        result (cofactorB F f g) b e (o .right),
         z .2,
         rw (o .answer, o .left, o .right) so,
       )
@@ -198,7 +198,3 @@ module _ (F : PrimeField) where
             meet = cofactors-are F f g (y .coefficients-f) (y .coefficients-g) (y .some);
             only = cofactors-only F f g (y .coefficients-f) (y .coefficients-g) (y .some);
           }
-
--- what a refused call leaves in a slice
-pub kept : {found : Outcome} {why : Refusal} (new old : List ℕ) → found ≡ Refused why → old ≡ written found new old
-kept new old e = sym (ap (λ o. written o new old) e)

@@ -11,7 +11,7 @@ use Rattle.algebra.specs.Ring.{CommRing}
 use Rattle.algebra.specs.PrimeField.{PrimeField}
 use Rattle.lists.specs.Degrees.{significant}
 use Rattle.lists.specs.Extents.{significant-le}
-use Rattle.reduction.specs.Rows.{lessProduct}
+use Rattle.reduction.specs.Reduction.{lessProduct}
 use Rattle.rounds.specs.Round.{roundSteps, roundFits, remaining, quotientWords}
 use Rattle.rounds.proofs.Turns.{round-fits, length-remaining, length-quotientWords, roundSteps-le}
 use Rattle.gcd.proofs.Parts.{significant-put, steps-part, fits-part, quotient-part, left-part}

@@ -28,7 +28,7 @@ use Rattle.algebra.specs.PrimeField.{PrimeField, scalarField, scalars, inverse}
 use Rattle.lists.specs.Degrees.{significant, naiveDegree}
 use Rattle.lists.specs.Lists.{unscaled}
 use Rattle.lists.specs.Words.{seriesOf}
-use Rattle.reduction.specs.Rows.{lessProduct}
+use Rattle.reduction.specs.Reduction.{lessProduct}
 use Rattle.reduction.specs.Steps.{Low}
 use Rattle.rounds.specs.Round.{remaining, quotientWords}
 use Rattle.gcd.specs.Workers.{Buffer, Holds, euclidOn, monicList}

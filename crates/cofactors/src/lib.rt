@@ -11,7 +11,7 @@ ghost use Rattle.refusal.specs.Lowest.{lowest};
 ghost use Rattle.field.specs.Field.{p};
 ghost use Rattle.lists.specs.Degrees.{naiveDegree, significant};
 ghost use Rattle.lists.specs.Lists.{scaled};
-ghost use Rattle.reduction.specs.Rows.{lessProduct};
+ghost use Rattle.reduction.specs.Reduction.{lessProduct};
 ghost use Rattle.euclid.specs.Gcds.{gcdOf, identityDegree, cofactorA, cofactorB, padded};
 ghost use Rattle.gcd.specs.Calls.{gcdReply, gcdValues, Greatest};
 ghost use Rattle.gcd.specs.Workers.{Buffer};
@@ -192,7 +192,7 @@ fn write_row(row: &mut [u16], h: &mut [u16], a: &mut [u16], b: &mut [u16]) -> Na
     ensures { λ r. ⌜ Wrote F65521 maxWords (now (row .entry)) (length (now (a .entry))) (length (now (b .entry))) (r .0) (now (h .exit)) (now (a .exit)) (now (b .exit)) ⌝ }
 {
     let n = lists::significant_words(&row[..256]);
-    let inv = field::inverse_or_zero(row[n - 1]);
+    let inv = inverses::inverse_or_zero(row[n - 1]);
     write_pair(&mut row[256..], inv, a, b);
     rounds::write_list(&mut row[..256], inv, n, h);
     NaiveDegree(n - 1)

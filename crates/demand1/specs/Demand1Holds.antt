@@ -14,6 +14,7 @@ use Rattle.refusal.specs.Refusal.{outcomeNumber, Reply, reply, outcomeReply, wr
 use Rattle.refusal.specs.Lowest.{Condition, IsLowest, lowest, lowest-is}
 use Rattle.refusal.specs.declared.Outcome.{Outcome}
 use Rattle.refusal.specs.declared.Outcome.the-variants.{Done, Refused}
+use Rattle.refusal.proofs.Answers.{number-is}
 use Rattle.field.specs.Field.{p}
 use Rattle.contents.specs.Calls.{contentsRefusals, recordsFrom, filled}
 use Rattle.contents.specs.declared.Entry.{Entry}
@@ -30,13 +31,9 @@ pub demand1 : (rows : List Condition) (answer : ℕ) (slices : List Slice) → a
     → Demand1 rows answer slices
 demand1 rows answer slices e l = by-outcome rows (lowest rows) (lowest-is rows) answer slices e l
 
-reply-number : (o : Outcome) (values : List ℕ) → reply o values .number ≡ outcomeNumber o
-reply-number Done values = refl
-reply-number (Refused why) values = refl
-
 pub replies : {rows : List Condition} (values : List ℕ) {r : Reply} {slices : List Slice} → r ≡ reply (lowest rows) values
     → Left (lowest rows) slices → Demand1 rows (r .number) slices
-replies {rows} values {r} {slices} e l = demand1 rows (r .number) slices (ap (λ a. a .number) e ∙ reply-number (lowest rows) values) l
+replies {rows} values {r} {slices} e l = demand1 rows (r .number) slices (number-is (lowest rows) values e) l
 
 pub no-slice : {o : Outcome} → Left o []
 no-slice = record { unchanged = λ why r. tt }

@@ -4,7 +4,8 @@
 ghost use mathlib.Core.List.{[], _∷_};
 ghost use Rattle.refusal.specs.Refusal.{outcomeReply};
 ghost use Rattle.field.specs.Field.{p, wordReply, operandRefusals, inverseRefusals};
-ghost use Rattle.arithmetic.specs.Calls.{productRefusals, raiseRefusals, sumRefusals};
+ghost use Rattle.products.specs.Calls.{productRefusals, raiseRefusals};
+ghost use Rattle.sums.specs.Calls.{sumRefusals};
 ghost use Rattle.extents.specs.Calls.{extentReply, extentRefusals, trimRefusals};
 ghost use Rattle.derivatives.specs.Calls.{derivativeRefusals};
 ghost use Rattle.evaluation.specs.Calls.{evaluateRefusals};
@@ -43,34 +44,34 @@ fn field_product(a: u16, b: u16) -> Word
     field::product(a, b)
 }
 
-fn field_inverse(a: u16) -> Word
+fn inverses_inverse(a: u16) -> Word
     ensures { λ r. ⌜ Demand1 (inverseRefusals p a) (wordReply r .number) [] ⌝ }
 {
-    field::inverse(a)
+    inverses::inverse(a)
 }
 
-fn arithmetic_product(f: &[u16], g: &[u16], out: &mut [u16]) -> Outcome
+fn products_product(f: &[u16], g: &[u16], out: &mut [u16]) -> Outcome
     ensures { λ r. ⌜ Demand1 (productRefusals p (now (f .entry)) (now (g .entry)) (now (out .entry))) (outcomeReply r .number) (slice (now (out .entry)) (now (out .exit)) ∷ []) ⌝ }
 {
-    arithmetic::product(f, g, out)
+    products::product(f, g, out)
 }
 
-fn arithmetic_raise(f: &[u16], to: NaiveDegree, out: &mut [u16]) -> Outcome
+fn products_raise(f: &[u16], to: NaiveDegree, out: &mut [u16]) -> Outcome
     ensures { λ r. ⌜ Demand1 (raiseRefusals p (now (f .entry)) (to .0) (now (out .entry))) (outcomeReply r .number) (slice (now (out .entry)) (now (out .exit)) ∷ []) ⌝ }
 {
-    arithmetic::raise(f, to, out)
+    products::raise(f, to, out)
 }
 
-fn arithmetic_sum(f: &[u16], g: &[u16], out: &mut [u16]) -> Outcome
+fn sums_sum(f: &[u16], g: &[u16], out: &mut [u16]) -> Outcome
     ensures { λ r. ⌜ Demand1 (sumRefusals p (now (f .entry)) (now (g .entry)) (now (out .entry))) (outcomeReply r .number) (slice (now (out .entry)) (now (out .exit)) ∷ []) ⌝ }
 {
-    arithmetic::sum(f, g, out)
+    sums::sum(f, g, out)
 }
 
-fn arithmetic_difference(f: &[u16], g: &[u16], out: &mut [u16]) -> Outcome
+fn sums_difference(f: &[u16], g: &[u16], out: &mut [u16]) -> Outcome
     ensures { λ r. ⌜ Demand1 (sumRefusals p (now (f .entry)) (now (g .entry)) (now (out .entry))) (outcomeReply r .number) (slice (now (out .entry)) (now (out .exit)) ∷ []) ⌝ }
 {
-    arithmetic::difference(f, g, out)
+    sums::difference(f, g, out)
 }
 
 fn extents_find_extent(f: &[u16]) -> Found

@@ -37,8 +37,10 @@ use Rattle.lists.specs.Trims.{length-trim, trim-scaled}
 use Rattle.lists.specs.Calculus.{length-derivative, coefficients-derivative, derivative-meaning, evaluate-lt, evaluate-meaning}
 use Rattle.lists.proofs.Judged.{one-listed}
 use Rattle.euclid.specs.Quotients.{quotientOf, remainderOf}
-use Rattle.arithmetic.specs.Calls.{productRefusals, raiseRefusals, sumRefusals}
-use Rattle.arithmetic.proofs.Judged.{product-fits, raise-fits, sum-fits}
+use Rattle.products.specs.Calls.{productRefusals, raiseRefusals}
+use Rattle.products.proofs.Judged.{product-fits, raise-fits}
+use Rattle.sums.specs.Calls.{sumRefusals}
+use Rattle.sums.proofs.Judged.{sum-fits}
 use Rattle.extents.specs.Calls.{trimRefusals}
 use Rattle.derivatives.specs.Calls.{derivativeWords, derivativeRefusals}
 use Rattle.division.specs.Calls.{divideRefusals, DividesSo}

@@ -9,6 +9,7 @@ use Rattle.refusal.specs.Refusal.{reply, outcomeReply, written}
 use Rattle.refusal.specs.declared.Refusal.{Refusal}
 use Rattle.refusal.specs.declared.Outcome.{Outcome}
 use Rattle.refusal.specs.declared.Outcome.the-variants.{Done, Refused}
+use Rattle.refusal.proofs.Answers.{result, kept}
 use Rattle.euclid.specs.Quotients.{quotientOf, remainderOf}
 use Rattle.euclid.specs.Divided.{Divisible, length-quotient, length-remainder, division-identity, division-only}
 use Rattle.division.specs.Calls.{Equation, DividesSo}
@@ -38,8 +39,8 @@ module _ (F : PrimeField) {answer found : Outcome} (e : answer ≡ found) (g f q
   done d h eq er =
       record {
         reported = ap outcomeReply e;
-        quotient = eq ∙ sym (ap (λ o. written o (quotientOf F g f) q) (sym e ∙ d));
-        remainder = er ∙ sym (ap (λ o. written o (remainderOf F g f) r) (sym e ∙ d));
+        quotient = result (quotientOf F g f) q (sym e ∙ d) eq;
+        remainder = result (remainderOf F g f) r (sym e ∙ d) er;
         promised = λ _. rw (eq, er) (divides-so F g f h);
       }
 
@@ -47,7 +48,7 @@ module _ (F : PrimeField) {answer found : Outcome} (e : answer ≡ found) (g f q
   refused d =
       record {
         reported = ap outcomeReply e;
-        quotient = sym (ap (λ o. written o (quotientOf F g f) q) (sym e ∙ d));
-        remainder = sym (ap (λ o. written o (remainderOf F g f) r) (sym e ∙ d));
+        quotient = kept (quotientOf F g f) q (sym e ∙ d);
+        remainder = kept (remainderOf F g f) r (sym e ∙ d);
         promised = λ s. let z : _≡_ {A = ℕ} 0 1 = cc in absurd (omega arith);
       }

@@ -7,31 +7,25 @@ use Prim.Native.Nat.{ℕ, suc, _+_, _-_, _≤_, _<_}
 use native.Mathlib.Nat.{pos-of-ne-zero}
 use native.Mathlib.Omega.{arith}
 use lib.ListN.{length, getD}
-use Rattle.algebra.specs.Ring.{CommRing}
-use Rattle.algebra.specs.Series.{ext}
 use Rattle.algebra.specs.PrimeField.{PrimeField, scalarField, residue, inverse}
 use Rattle.algebra.specs.Division.{quotient, remainder}
 use Rattle.field.specs.Field.{inverseOf, inverseOrZero}
 use Rattle.field.specs.Theorems.{residue-inverse}
-use Rattle.field.proofs.OrZero.{inverse-some}
+use Rattle.inverses.proofs.OrZero.{inverse-some}
 use Rattle.lists.specs.Degrees.{naiveDegree}
 use Rattle.lists.specs.Lists.{word, scaled, unscaled}
 use Rattle.lists.specs.Scaled.{length-naive, coefficient-last, coeff-scaled}
-use Rattle.lists.specs.Words.{seriesOf, coeff-seriesOf, scaledWords, length-scaledWords, Carries, carries-scaled}
+use Rattle.lists.specs.Words.{seriesOf, scaledWords, length-scaledWords, Carries, carries-scaled, seriesOf-carries}
 use Rattle.kernels.specs.Kernels.{scaleFits, unscaleFits}
 use Rattle.kernels.proofs.Fits.{scale-is, unscale-is}
-use Rattle.reduction.specs.Rows.{reduced, digits, reduceFits}
+use Rattle.reduction.specs.Reduction.{reduced, digits, reduceFits}
 use Rattle.reduction.specs.Steps.{reduced-remainder, digits-quotient, length-reduced, length-digits}
+use Rattle.reduction.proofs.Loops.{reduce-fits}
 use Rattle.euclid.specs.Quotients.{steps, quotientOf, remainderOf}
 use Rattle.reduction.proofs.Loops.{reduce-fits}
 use Rattle.division.specs.Workers.{DivideFits}
 
 module _ (F : PrimeField) where
-  open CommRing (F .series .ring) using (Carrier as S)
-
-  series-of-carries : {buf : List ℕ} {s : S} → Carries F buf s → seriesOf F buf ≡ s
-  series-of-carries {buf} {s} c = ext (F .series) _ _ λ k. coeff-seriesOf F buf k ∙ c .at k
-
   -- the inverse of the divisor's last word is that of its scaled form's last coefficient
   top-inverse : (f : List ℕ) {inv : ℕ} → inv ≡ inverseOf F (getD f (naiveDegree f) 0)
       → residue F inv ≡ scalarField F .inv (F .series .coeff (scaled F f) (naiveDegree f))
@@ -110,7 +104,7 @@ module _ (F : PrimeField) where
             let w = fits .quotient-words in
             let t = fits .short in
             unscale-is F most k′ q (omega (arith, nk)) (omega arith) qq
-            ∙ ap₂ (unscaled F) (sym lk) (series-of-carries ck)
+            ∙ ap₂ (unscaled F) (sym lk) (seriesOf-carries F ck)
             ∙ ap (λ n. unscaled F n (quotient (F .series) (scalarField F) n (naiveDegree f) (scaled F g) (scaled F f))) count
 
       module _ {x″ : List ℕ} (qx″ : x″ ≡ cond (reduceFits x′ y′ k) (reduced p inv y′ (length k) x′) x′) where
@@ -134,5 +128,5 @@ module _ (F : PrimeField) where
             let w = fits .remainder-words in
             let t = fits .short in
             unscale-is F most x″ r (omega (arith, nl, nx)) (omega arith) qr
-            ∙ ap₂ (unscaled F) words (series-of-carries cl)
+            ∙ ap₂ (unscaled F) words (seriesOf-carries F cl)
             ∙ ap (λ n. unscaled F (naiveDegree f) (remainder (F .series) (scalarField F) n (naiveDegree f) (scaled F g) (scaled F f))) count

@@ -68,7 +68,7 @@ fn divide_in(
     ensures quotient { λ _. ⌜ now (q .exit) ≡ quotientOf F65521 (now (g .entry)) (now (f .entry)) ⌝ }
     ensures remainder { λ _. ⌜ now (r .exit) ≡ remainderOf F65521 (now (g .entry)) (now (f .entry)) ⌝ }
 {
-    let inv = field::inverse_or_zero(f[f.len() - 1]);
+    let inv = inverses::inverse_or_zero(f[f.len() - 1]);
     kernels::scale(g, x);
     kernels::scale(f, y);
     reduction::reduce(x, y, inv, k);

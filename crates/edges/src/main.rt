@@ -14,16 +14,16 @@ fn show(name: &[u8], outcome: Outcome) {
 fn words() {
     let zero = [0u16; 1];
     let mut out = [0u16; 1];
-    show(b"word 65520", arithmetic::sum(&[65520u16], &zero, &mut out));
-    show(b"word 65521", arithmetic::sum(&[65521u16], &zero, &mut out));
+    show(b"word 65520", sums::sum(&[65520u16], &zero, &mut out));
+    show(b"word 65521", sums::sum(&[65521u16], &zero, &mut out));
 }
 
 fn lengths() {
     let longest = [1u16; 256];
     let longer = [1u16; 257];
     let mut out = [0u16; 256];
-    show(b"256 words", arithmetic::sum(&longest, &longest, &mut out));
-    show(b"257 words", arithmetic::sum(&longest, &longer, &mut out));
+    show(b"256 words", sums::sum(&longest, &longest, &mut out));
+    show(b"257 words", sums::sum(&longest, &longer, &mut out));
 }
 
 fn degrees() {
@@ -31,23 +31,17 @@ fn degrees() {
     let g = [1u16; 128];
     let mut out = [0u16; 256];
     let mut longer = [0u16; 257];
-    show(
-        b"degrees 128 and 127",
-        arithmetic::product(&f, &g, &mut out),
-    );
+    show(b"degrees 128 and 127", products::product(&f, &g, &mut out));
     show(
         b"degrees 128 and 128",
-        arithmetic::product(&f, &f, &mut longer),
+        products::product(&f, &f, &mut longer),
     );
 }
 
 fn others() {
     let t = [0u16, 1];
     let mut one = [0u16; 1];
-    show(
-        b"raise to 0",
-        arithmetic::raise(&t, NaiveDegree(0), &mut one),
-    );
+    show(b"raise to 0", products::raise(&t, NaiveDegree(0), &mut one));
     let zeros = [0u16; 2];
     show(b"trim of zeros", extents::trim(&zeros, &mut one));
 }
@@ -62,10 +56,10 @@ fn slices() {
     let f = [0u16, 1];
     let g = [1u16, 0];
     let mut short = [7u16; 2];
-    show(b"one word short", arithmetic::product(&f, &g, &mut short));
+    show(b"one word short", products::product(&f, &g, &mut short));
     print_word(short[1]);
     let mut long = [7u16; 4];
-    show(b"one word long", arithmetic::product(&f, &g, &mut long));
+    show(b"one word long", products::product(&f, &g, &mut long));
     print_word(long[3]);
 }
 

@@ -2,12 +2,12 @@
 -- both lists, ends with what the definitions name. A list followed by zeros, word by word.
 -- Assumes nothing.
 use mathlib.Core.Path.{_≡_, sym, _∙_, ap, ap₂}
-use mathlib.Core.List.{List, _++_}
-use Prim.Native.Nat.{ℕ, suc, _+_, _-_, _≤_, _<_}
+use mathlib.Core.List.{List}
+use Prim.Native.Nat.{ℕ, _-_, _≤_, _<_}
 use native.Mathlib.Decide.{decLt}
 use native.Mathlib.Omega.{arith}
-use lib.ListN.{getD, length, replicate, length-append, length-replicate, getD-replicate, List·getD-append, List·getD-eq-default}
-use lib.Seq.{ext-getD, getD-append-add}
+use lib.ListN.{getD, length, replicate, length-append, length-replicate, getD-replicate, List·getD-eq-default}
+use lib.Seq.{ext-getD}
 use Rattle.algebra.specs.Ring.{CommRing}
 use Rattle.algebra.specs.Series.{C}
 use Rattle.algebra.specs.Polynomial.{below-mono}
@@ -15,10 +15,10 @@ use Rattle.algebra.specs.Degree.{size, size-le, size-least, size-same}
 use Rattle.algebra.specs.Euclid.{Euclid, euclid, euclid-fuel, euclid-room}
 use Rattle.algebra.specs.Monic.{topInverse, monic, monic-is}
 use Rattle.algebra.specs.PrimeField.{PrimeField, scalarField}
-use Rattle.lists.specs.Degrees.{naiveDegree}
 use Rattle.lists.specs.Lists.{scaled, unscaled}
 use Rattle.lists.specs.Scaled.{below-scaled}
-use Rattle.euclid.specs.Gcds.{room, roundsOf, gcdOf, countOf, identityDegree, cofactorA, cofactorB, padded}
+use Rattle.lists.proofs.Parts.{getD-then-zeros}
+use Rattle.euclid.specs.Gcds.{room, roundsOf, gcdOf, countOf, padded}
 use Rattle.euclid.specs.Gcd.{fits-left, fits-right, rounds-ok}
 
 -- the zeros after c
@@ -35,20 +35,11 @@ length-padded n c l = let e = length-zeros n c in length-append c (zeros n c) �
 -- c's words, then zeros
 pub getD-padded : (n : ℕ) (c : List ℕ) (k : ℕ) → getD (padded n c) k 0 ≡ getD c k 0
 unfolding padded
-getD-padded n c k = go (decLt k (length c))
+getD-padded n c k = getD-then-zeros c (zeros n c) (λ i. zero-at i (decLt _ _)) k
   where
     zero-at : (i : ℕ) → Dec (i < n - length c) → getD (zeros n c) i 0 ≡ 0
     zero-at i (yes l) = getD-replicate (n - length c) i 0 0 l
     zero-at i (no l) = let e = length-zeros n c in List·getD-eq-default (zeros n c) 0 (omega arith)
-
-    go : Dec (k < length c) → getD (c ++ zeros n c) k 0 ≡ getD c k 0
-    go (yes l) = List·getD-append c (zeros n c) 0 k l
-    go (no l) =
-        ap (λ i. getD (c ++ zeros n c) i 0) at ∙ getD-append-add c (zeros n c) (k - length c) 0
-        ∙ zero-at (k - length c) (decLt _ _) ∙ sym (List·getD-eq-default c 0 (omega arith))
-      where
-        at : k ≡ length c + (k - length c)
-        at = omega arith
 
 -- n words that agree with c are c followed by zeros
 pub padded-is : (n : ℕ) (c l : List ℕ) → length c ≤ n → length l ≡ n → ((k : ℕ) → k < n → getD l k 0 ≡ getD c k 0) → l ≡ padded n c
@@ -109,22 +100,8 @@ module _ (F : PrimeField) where
         monic-is (F .series) (scalarField F) (room f g) _
         ∙ ap₂ (λ a z. C (F .series) a *ˢ z .last) topInverse-room rounds-room ∙ sym (monic-is (F .series) (scalarField F) n _)
 
-    -- h, a and b from a loop in a room of n words
+    -- h from a loop in a room of n words
     pub gcd-room : gcdOf F f g
         ≡ unscaled F (size (F .series) (scalarField F) n (answer .last)) (monic (F .series) (scalarField F) n (answer .last))
     unfolding gcdOf
     gcd-room = ap₂ (unscaled F) size-room monic-room
-
-    pub cofactorA-room : cofactorA F f g
-        ≡ unscaled F (suc (identityDegree f g - naiveDegree f))
-        (C (F .series) (topInverse (F .series) (scalarField F) n (answer .last)) *ˢ answer .byY)
-    unfolding cofactorA
-    cofactorA-room =
-        ap₂ (λ a z. unscaled F (suc (identityDegree f g - naiveDegree f)) (C (F .series) a *ˢ z .byY)) topInverse-room rounds-room
-
-    pub cofactorB-room : cofactorB F f g
-        ≡ unscaled F (suc (identityDegree f g - naiveDegree g))
-        (C (F .series) (topInverse (F .series) (scalarField F) n (answer .last)) *ˢ answer .byX)
-    unfolding cofactorB
-    cofactorB-room =
-        ap₂ (λ a z. unscaled F (suc (identityDegree f g - naiveDegree g)) (C (F .series) a *ˢ z .byX)) topInverse-room rounds-room

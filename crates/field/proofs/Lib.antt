@@ -1,5 +1,2 @@
 pub mod Words
 pub mod Answers
-pub mod Table
-pub mod Euclid
-pub mod OrZero

@@ -6,14 +6,11 @@
 --     IsInverse p a b     b is the inverse of a: from 1 to p - 1, a · b leaves 1 modulo p, and no other such word does
 --     inverseOf           the inverse of a coefficient, as the field Z/p has it
 --     inverseOrZero       the inverse of a coefficient that is not 0; else 0
---     inverseTable n F    the table of inverses: 0, then the inverses of 1, …, n
 --     hasInverse          some word below p is an inverse of a
 --     operandRefusals, inverseRefusals    the rows of document 01's table for a call on two operands, and for the inverse
---     Inverts             what the inverse's answer is to its operand; no case gives 11
 -- Assumes nothing.
 use mathlib.Core.Path.{_≡_}
 use mathlib.Core.Bool.{Bool, false, cond, not, _&&_, _||_}
-use mathlib.Core.Logic.{_⊎_}
 use mathlib.Core.List.{List, [], _∷_}
 use Prim.Native.Nat.{ℕ, zero, suc, _+_, _-_, _*_, _%_, _≤_, _<_}
 use lib.Dec.{leb, ltb, eqb}
@@ -58,14 +55,6 @@ inverseOf F a = value F (inverse F (residue F a))
 unfoldable pub inverseOrZero : PrimeField → ℕ → ℕ
 inverseOrZero F a = cond (ltb 0 a && ltb a (F .p)) (inverseOf F a) 0
 
--- the inverses of the n numbers k, k + 1, …
-unfoldable pub inversesFrom : ℕ → ℕ → PrimeField → List ℕ
-inversesFrom k zero F = []
-inversesFrom k (suc n) F = inverseOf F k ∷ inversesFrom (suc k) n F
-
-unfoldable pub inverseTable : ℕ → PrimeField → List ℕ
-inverseTable n F = 0 ∷ inversesFrom 1 n F
-
 -- some word below n is an inverse of a
 unfoldable pub hasInverseBelow : ℕ → ℕ → ℕ → Bool
 hasInverseBelow p a zero = false
@@ -80,7 +69,3 @@ inverseRefusals p a =
     AllZero given-when eqb a 0 ∷
     NoInverse given-when (not (eqb a 0) && not (hasInverse p a)) ∷
     []
-
-abbrev pub Inverts : ℕ → ℕ → Word → Type 0
-Inverts p a (Done b) = IsInverse p a b
-Inverts p a (Refused why) = (number why ≡ 5) ⊎ (number why ≡ 9)

@@ -4,23 +4,21 @@
 --     inverse-is        every coefficient but 0 has its inverse, and inverseOf is it
 --     inverse-only      a word below p whose product with a leaves 1 is inverseOf
 --     has-inverse       no coefficient but 0 is without an inverse
---     table-length, table-entry, table-rule     the table of inverses has n + 1 entries, entry k the inverse of k, and k times it leaves 1
 -- Assumes nothing.
 use mathlib.Core.Path.{_≡_, refl, sym, _∙_, ap, ap₂}
 use mathlib.Core.Bool.{Bool, true, false, _||_}
 use Prim.Native.Nat.{ℕ, zero, suc, _+_, _-_, _*_, _%_, _≤_, _<_}
-use native.Mathlib.Nat.{mod-lt, mod-eq-of-lt, mod-self, zero-mod, mul-zero, le-of-suc-le-suc, pos-of-ne-zero, ne-of-gt}
+use native.Mathlib.Nat.{mod-lt, mod-eq-of-lt, mod-self, zero-mod, mul-zero, pos-of-ne-zero, ne-of-gt}
 use native.Mathlib.Decide.{ℕ-discrete}
 use native.Mathlib.Omega.{arith}
 use lib.Dec.{eqb}
-use lib.ListN.{length, getD}
 use borrow.Author.Tests.{eq-eqb}
 use Rattle.algebra.specs.Ring as R
 use Rattle.algebra.specs.Ring.{CommRing}
 use Rattle.algebra.specs.PrimeField.{PrimeField, scalars, positive, residue, value, inverse}
 use Rattle.algebra.specs.PrimeField.{residue-value, value-residue, value-lt, residue-0, residue-1, residue-nonzero, residue-add}
 use Rattle.algebra.specs.PrimeField.{residue-mul, residue-mod, residue-eq, residue-injective, residue-add-mod, residue-mul-mod, inverse-cancel′}
-use Rattle.field.specs.Field.{sumOf, differenceOf, productOf, IsInverse, inverseOf, hasInverse, hasInverseBelow, inversesFrom, inverseTable}
+use Rattle.field.specs.Field.{sumOf, differenceOf, productOf, IsInverse, inverseOf, hasInverse, hasInverseBelow}
 
 or-right : (a b : Bool) → b ≡ true → (a || b) ≡ true
 or-right true b e = refl
@@ -122,26 +120,3 @@ module _ (F : PrimeField) where
 
     pub has-inverse : hasInverse (F .p) a ≡ true
     has-inverse = found-below (F .p) inverse-high
-
-  length-from : (k n : ℕ) → length (inversesFrom k n F) ≡ n
-  unfolding inversesFrom
-  length-from k zero = refl
-  length-from k (suc n) = ap suc (length-from (suc k) n)
-
-  entry-from : (k n i : ℕ) → i < n → getD (inversesFrom k n F) i 0 ≡ inverseOf F (k + i)
-  unfolding inversesFrom
-  entry-from k zero i l = absurd (omega arith)
-  entry-from k (suc n) zero l = ap (inverseOf F) (omega arith)
-  entry-from k (suc n) (suc i) l = entry-from (suc k) n i (le-of-suc-le-suc l) ∙ ap (inverseOf F) (omega arith)
-
-  pub table-length : (n : ℕ) → length (inverseTable n F) ≡ n + 1
-  unfolding inverseTable
-  table-length n = ap suc (length-from 1 n) ∙ omega arith
-
-  pub table-entry : (n k : ℕ) → 1 ≤ k → k ≤ n → getD (inverseTable n F) k 0 ≡ inverseOf F k
-  unfolding inverseTable
-  table-entry n zero s l = absurd (omega arith)
-  table-entry n (suc k) s l = entry-from 1 n k l ∙ ap (inverseOf F) (omega arith)
-
-  pub table-rule : (n k : ℕ) → n < F .p → 1 ≤ k → k ≤ n → (k * getD (inverseTable n F) k 0) % F .p ≡ 1
-  table-rule n k h s l = ap (λ x. (k * x) % F .p) (table-entry n k s l) ∙ times-inverse k s (omega arith)

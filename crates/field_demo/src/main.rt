@@ -17,7 +17,7 @@ fn show(answer: Word) {
 
 fn main() {
     io::write_all(STDOUT_FILENO, b"inverse 2: ");
-    show(field::inverse(2));
+    show(inverses::inverse(2));
     io::write_all(STDOUT_FILENO, b"product 65520 65520: ");
     show(field::product(65520, 65520));
     io::write_all(STDOUT_FILENO, b"sum 65520 0: ");
@@ -25,5 +25,5 @@ fn main() {
     io::write_all(STDOUT_FILENO, b"sum 65521 0: ");
     show(field::sum(65521, 0));
     io::write_all(STDOUT_FILENO, b"inverse 0: ");
-    show(field::inverse(0));
+    show(inverses::inverse(0));
 }

@@ -17,7 +17,7 @@ use Rattle.lists.specs.Lists.{scaled}
 use Rattle.lists.specs.Words.{seriesOf, coeff-seriesOf, scaledWords, length-scaledWords, seriesOf-scaledWords, carries-scaled}
 use Rattle.kernels.specs.Kernels.{scaleFits}
 use Rattle.gcd.specs.Workers.{Holds}
-use Rattle.gcd.proofs.Parts.{getD-then-zeros}
+use Rattle.lists.proofs.Parts.{getD-then-zeros}
 
 -- an array of zeros
 pub getD-zeros : (n k : ℕ) → getD {A = ℕ} (replicate n 0) k 0 ≡ 0

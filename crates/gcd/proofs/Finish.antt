@@ -18,9 +18,10 @@ use Rattle.refusal.specs.Refusal.{reply, written}
 use Rattle.refusal.specs.declared.Refusal.{Refusal}
 use Rattle.refusal.specs.declared.Outcome.{Outcome}
 use Rattle.refusal.specs.declared.Outcome.the-variants.{Done, Refused}
+use Rattle.refusal.proofs.Answers.{result, kept}
 use Rattle.field.specs.Field.{inverseOf, inverseOrZero}
 use Rattle.field.specs.Theorems.{residue-inverse}
-use Rattle.field.proofs.OrZero.{inverse-some}
+use Rattle.inverses.proofs.OrZero.{inverse-some}
 use Rattle.lists.specs.declared.NaiveDegree.{NaiveDegree}
 use Rattle.lists.specs.Degrees.{naiveDegree, significant, extent}
 use Rattle.lists.specs.Extents.{significant-le, extent-largest}
@@ -147,7 +148,7 @@ pub refused : (F : PrimeField) (f g h : List ℕ) {found : Outcome} {why : Refus
     → (gcdReply (G.Refused why) ≡ reply found (gcdValues F f g)) × (h ≡ written found (padded maxWords (gcdOf F f g)) h)
 refused F f g h e = (
   sym (ap (λ o. reply o (gcdValues F f g)) e),
-  sym (ap (λ o. written o (padded maxWords (gcdOf F f g)) h) e),
+  kept (padded maxWords (gcdOf F f g)) h e,
 )
 
 pub answered : (F : PrimeField) (f g h : List ℕ) {found : Outcome} {r : Gcd} {h′ : List ℕ} → found ≡ Done → Ready F maxWords f g
@@ -156,6 +157,6 @@ pub answered : (F : PrimeField) (f g h : List ℕ) {found : Outcome} {r : Gcd} {
 unfolding gcdDone gcdValues
 answered F f g h e ready er eh = (
   ap gcdReply er ∙ sym (ap (λ o. reply o (gcdValues F f g)) e),
-  eh ∙ sym (ap (λ o. written o (padded maxWords (gcdOf F f g)) h) e),
+  result (padded maxWords (gcdOf F f g)) h e eh,
   rw (er, eh) (ready-greatest F maxWords f g ready),
 )

@@ -8,25 +8,13 @@ use mathlib.Core.List.{List, _++_, append-assoc}
 use Prim.Native.Nat.{ℕ, _+_, _-_, _≤_, _<_}
 use native.Mathlib.Decide.{decLe, decLt}
 use native.Mathlib.Omega.{arith}
-use lib.ListN.{length, getD, take, drop, length-take, take-append-drop, List·getD-append, List·getD-eq-default}
-use lib.Seq.{take-take, take-at, drop-append-le, getD-take, getD-drop, getD-append-add}
+use lib.ListN.{length, getD, take, drop, length-take, take-append-drop, List·getD-eq-default}
+use lib.Seq.{take-take, take-at, drop-append-le, getD-take, getD-drop}
 use Rattle.algebra.specs.PrimeField.{PrimeField}
 use Rattle.lists.specs.Degrees.{significant, extent}
 use Rattle.lists.specs.Extents.{significant-le, after-significant, extent-largest}
+use Rattle.lists.proofs.Parts.{getD-then-zeros}
 use Rattle.rounds.specs.Round.{lastWord, roundSteps, roundFits, remaining, quotientWords}
-
--- words, then zeros
-pub getD-then-zeros : (x z : List ℕ) → ((k : ℕ) → getD z k 0 ≡ 0) → (k : ℕ) → getD (x ++ z) k 0 ≡ getD x k 0
-getD-then-zeros x z h k = go (decLt k (length x))
-  where
-    go : Dec (k < length x) → getD (x ++ z) k 0 ≡ getD x k 0
-    go (yes l) = List·getD-append x z 0 k l
-    go (no l) =
-        ap (λ i. getD (x ++ z) i 0) at ∙ getD-append-add x z (k - length x) 0
-        ∙ h (k - length x) ∙ sym (List·getD-eq-default x 0 (omega arith))
-      where
-        at : k ≡ length x + (k - length x)
-        at = omega arith
 
 significant-most : (a b : List ℕ) → ((k : ℕ) → getD a k 0 ≡ getD b k 0) → significant a ≤ significant b
 significant-most a b h = go (decLe (significant a) (significant b))

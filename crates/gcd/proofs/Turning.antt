@@ -64,9 +64,6 @@ module _ (F : PrimeField) (n : ℕ) where
             count = let e = t .count in omega (arith, step-rounds);
           }
 
-      turning-smaller : significant (remaining F x y) < significant y
-      turning-smaller = round-smaller F n x y (t .left .below) (t .right .below) (t .left .size) (t .right .size) some
-
       -- so the number of rounds is small
       turning-few : Buffer F n x₀ → Buffer F n y₀ → rounds < n
       turning-few bx by =
@@ -98,7 +95,7 @@ module _ (F : PrimeField) (n : ℕ) where
   turn x₀ y₀ x y q rounds {x′} bx by t some r e =
       record {
         next = subst (λ l. Turning F n x₀ y₀ y l (rounds + 1)) (sym left) (turning-round x₀ y₀ x y rounds t some);
-        smaller = rw left (turning-smaller x₀ y₀ x y rounds t some);
+        smaller = rw left (round-smaller F n x y (t .left .below) (t .right .below) (t .left .size) (t .right .size) some);
         few = turning-few x₀ y₀ x y rounds t some bx by;
       }
     where

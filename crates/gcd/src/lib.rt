@@ -133,7 +133,7 @@ fn write_gcd(last: &mut [u16], h: &mut [u16]) -> NaiveDegree
     ensures { λ _. ⌜ now (h .exit) ≡ padded maxWords (monicList F65521 maxWords (seriesOf F65521 (now (last .entry)))) ⌝ }
 {
     let n = lists::significant_words(last);
-    let inv = field::inverse_or_zero(last[n - 1]);
+    let inv = inverses::inverse_or_zero(last[n - 1]);
     rounds::write_list(last, inv, n, h);
     NaiveDegree(n - 1)
 }

@@ -15,6 +15,7 @@ use Rattle.refusal.specs.declared.Refusal.{Refusal}
 use Rattle.refusal.specs.declared.Refusal.the-variants.{Count, Contents, Index, Length, LooseWord, Over, Backwards, Vanishes, AllZero, Misfit, NoInverse}
 use Rattle.refusal.specs.declared.Outcome.{Outcome}
 use Rattle.refusal.specs.declared.Outcome.the-variants.{Done, Refused}
+use Rattle.refusal.proofs.Answers.{kept}
 use Rattle.lists.specs.Degrees.{naiveDegree, significant, power}
 use Rattle.lists.specs.Extents.{significant-le}
 use Rattle.euclid.specs.Gcds.{commonPower}
@@ -60,7 +61,7 @@ good e t = sym e ∙ t
 
 pub bad-answer : {found : Outcome} {n : ℕ} → found ≡ Refused Length → n ≡ number Length → (new old : List ℕ)
     → (n ≡ outcomeNumber found) × (old ≡ written found new old)
-bad-answer e q new old = (q ∙ sym (ap outcomeNumber e), sym (ap (λ o. written o new old) e))
+bad-answer e q new old = (q ∙ sym (ap outcomeNumber e), kept new old e)
 
 pub bad-answers : {found : Outcome} {n : ℕ} → found ≡ Refused Length → n ≡ number Length → (new₁ old₁ new₂ old₂ : List ℕ)
     → (n ≡ outcomeNumber found) × ((old₁ ≡ written found new₁ old₁) × (old₂ ≡ written found new₂ old₂))

@@ -19,7 +19,7 @@ use Rattle.lists.specs.Degrees.{significant}
 use Rattle.lists.specs.Operations.{product}
 use Rattle.euclid.specs.Quotients.{quotientOf, remainderOf}
 use Rattle.euclid.specs.Gcds.{gcdOf, padded}
-use Rattle.arithmetic.specs.Calls.{productRefusals}
+use Rattle.products.specs.Calls.{productRefusals}
 use Rattle.division.specs.Calls.{divideRefusals}
 use Rattle.gcd.specs.declared.Gcd.{Gcd}
 use Rattle.gcd.specs.declared.Gcd.the-variants as G

@@ -17,7 +17,7 @@ use Rattle.refusal.proofs.First.{refuse, first-is, refuse-done, or-false}
 use Rattle.lists.specs.Degrees.{naiveDegree, significant}
 use Rattle.lists.specs.Refused.{wrongLength, hasLoose, listRefusals}
 use Rattle.euclid.specs.Quotients.{steps}
-use Rattle.arithmetic.specs.Calls.{productRefusals}
+use Rattle.products.specs.Calls.{productRefusals}
 use Rattle.division.specs.Calls.{divideRefusals}
 use Rattle.gcd.specs.Calls.{gcdRefusals}
 use Rattle.lists.specs.Bytes.{oddBytes, wordsOf}

@@ -165,7 +165,7 @@ fn product_in(f: &[u8], g: &[u8], a: &mut [u16], b: &mut [u16], c: &mut [u16], o
 {
     read_words(f, a);
     read_words(g, b);
-    let answer = arithmetic::product(a, b, c);
+    let answer = products::product(a, b, c);
     match answer {
         Outcome::Done => {
             write_words(c, out);

@@ -1,13 +1,14 @@
 -- The tables of factorials and of their inverses: one test over each, computed, makes its entries those of the definition.
 -- Assumes nothing.
 use mathlib.Core.Path.{_≡_, sym, ap, ap₂, _∙_, subst}
-use mathlib.Core.Bool.{Bool, true, false, _&&_}
+use mathlib.Core.Bool.{Bool, true, _&&_}
 use mathlib.Core.List.{List, [], _∷_}
 use Prim.Native.Nat.{ℕ, zero, suc, _+_, _*_, _%_, _≤_, _<_}
 use native.Mathlib.Nat.{le-of-suc-le-suc, zero-add, add-zero}
 use native.Mathlib.Omega.{arith}
 use lib.Dec.{T, eqb, eqb→eq}
 use lib.ListN.{length, getD}
+use mir.Facts.{and-yes}
 use Rattle.algebra.specs.Ring as R
 use Rattle.algebra.specs.Ring.{CommRing, AC}
 use Rattle.algebra.specs.PrimeField.{PrimeField, scalars, residue, inverse, residue-1, residue-mul-mod, inverse-cancel′}
@@ -27,22 +28,14 @@ rightFactorials p l = eqb (getD l 0 0) 1 && steps (λ k x y. eqb y ((x * suc k) 
 abbrev pub rightInverses : ℕ → List ℕ → Bool
 rightInverses p l = eqb (getD l 0 0) 1 && steps (λ k x y. eqb x ((y * suc k) % p)) 0 l
 
-and-left : (a b : Bool) → T (a && b) → T a
-and-left true b t = tt
-and-left false b t = t
-
-and-right : (a b : Bool) → T (a && b) → T b
-and-right true b t = t
-and-right false b t = absurd t
-
 step-at : (rule : ℕ → ℕ → ℕ → Bool) (k : ℕ) (l : List ℕ) → T (steps rule k l) → (i : ℕ) → suc i < length l
     → T (rule (k + i) (getD l i 0) (getD l (suc i) 0))
 step-at rule k [] t i l = absurd (omega arith)
 step-at rule k (x ∷ []) t i l = absurd (omega arith)
-step-at rule k (x ∷ (y ∷ ys)) t zero l = subst (λ n. T (rule n x y)) (sym (add-zero k)) (and-left (rule k x y) _ t)
+step-at rule k (x ∷ (y ∷ ys)) t zero l = subst (λ n. T (rule n x y)) (sym (add-zero k)) (and-yes (rule k x y) _ t .0)
 step-at rule k (x ∷ (y ∷ ys)) t (suc i) l =
     let e : suc k + i ≡ k + suc i = omega arith in
-    subst (λ n. T (rule n (getD (y ∷ ys) i 0) (getD ys i 0))) e (step-at rule (suc k) (y ∷ ys) (and-right (rule k x y) _ t) i (le-of-suc-le-suc l))
+    subst (λ n. T (rule n (getD (y ∷ ys) i 0) (getD ys i 0))) e (step-at rule (suc k) (y ∷ ys) (and-yes (rule k x y) _ t .1) i (le-of-suc-le-suc l))
 
 module _ (F : PrimeField) (l : List ℕ) where
   open CommRing (scalars F) using (Carrier as K, one as 𝟙, mul as _⊗_)
@@ -74,13 +67,13 @@ module _ (F : PrimeField) {m : ℕ} (e : F .p ≡ m) (n : ℕ) (l : List ℕ) (s
 
   infixl 70 _⊗_
   start : (b : Bool) → T (eqb (getD l 0 0) 1 && b) → getD l 0 0 ≡ 1
-  start b t = eqb→eq (getD l 0 0) 1 (and-left (eqb (getD l 0 0) 1) b t)
+  start b t = eqb→eq (getD l 0 0) 1 (and-yes (eqb (getD l 0 0) 1) b t .0)
 
   -- the rule at each entry
   next : (rule : ℕ → ℕ → ℕ → Bool) → T (eqb (getD l 0 0) 1 && steps rule 0 l) → (k : ℕ) → suc k < length l → T (rule k (getD l k 0) (getD l (suc k) 0))
   next rule t k h =
       subst (λ i. T (rule i (getD l k 0) (getD l (suc k) 0))) (zero-add k)
-      (step-at rule 0 l (and-right (eqb (getD l 0 0) 1) (steps rule 0 l) t) k h)
+      (step-at rule 0 l (and-yes (eqb (getD l 0 0) 1) (steps rule 0 l) t .1) k h)
 
   pub factorials-hold : T (rightFactorials m l) → Holds F n (factorialIn F) l
   factorials-hold t = record { at = λ k h. factorial-at F l (start _ t) rises k (omega arith) }

@@ -4,17 +4,12 @@ use mathlib.Core.Path.{_≡_, _∙_}
 use mathlib.Core.Bool.{cond}
 use mathlib.Core.List.{List}
 use Prim.Native.Nat.{ℕ, _≤_}
-use native.Mathlib.Omega.{arith}
-use lib.ListN.{length, take, length-take}
+use lib.ListN.{length}
 use borrow.Author.Tests.{eq-eqb, le-leb}
 use Rattle.algebra.specs.PrimeField.{PrimeField}
 use Rattle.lists.specs.Lists.{unscaled}
 use Rattle.lists.specs.Words.{seriesOf, scaledWords}
 use Rattle.kernels.specs.Kernels.{scaleFits, unscaleFits}
-
--- a part of an array
-pub prefix-length : (k n : ℕ) (l : List ℕ) → length l ≡ n → k ≤ n → length (take k l) ≡ k
-prefix-length k n l e h = simp length-take (omega arith)
 
 module _ (F : PrimeField) (most : ℕ) where
   pub scale-is : (f a : List ℕ) {a′ : List ℕ} → length a ≡ length f → length f ≤ most

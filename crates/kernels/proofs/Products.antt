@@ -1,9 +1,8 @@
 -- Montgomery's products as products in the field.
 -- Assumes nothing.
 use mathlib.Core.Path.{_≡_, refl, sym, ap, _∙_, subst}
-use Prim.Native.Nat.{ℕ, _*_, _%_, _<_}
+use Prim.Native.Nat.{ℕ, _*_, _%_}
 use native.Mathlib.Nat.{mod-eq-of-lt}
-use native.Mathlib.Omega.{arith}
 use Rattle.algebra.specs.Ring as R
 use Rattle.algebra.specs.Ring.{CommRing, AC}
 use Rattle.algebra.specs.PrimeField.{PrimeField, scalars, positive, residue, residue-1, residue-mul, residue-eq, residue-injective}

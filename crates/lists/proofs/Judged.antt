@@ -7,13 +7,13 @@ use Prim.Native.Nat.{ℕ, _<_}
 use native.Mathlib.Omega.{arith}
 use lib.Dec.{eqb, ltb}
 use lib.ListN.{length}
-use borrow.Author.Tests.{eqb-false, ltb-false}
+use borrow.Author.Tests.{eqb-false, ltb-false, ne-eqb, le-ltb}
 use Rattle.refusal.specs.Lowest.{lowest}
 use Rattle.refusal.specs.declared.Refusal.the-variants.{Length, LooseWord}
 use Rattle.refusal.specs.declared.Outcome.the-variants.{Done}
 use Rattle.refusal.proofs.First.{refuse, first-is, refuse-done, or-false}
 use Rattle.lists.specs.Refused.{wrongLength, hasLoose, anyOf, listRefusals, Listed}
-use Rattle.lists.proofs.Search.{none-loose}
+use Rattle.lists.proofs.Search.{none-loose, tight}
 
 pub judged : (p most : ℕ) (lists : List (List ℕ)) → lowest (listRefusals p most lists) ≡ refuse (anyOf (wrongLength most) lists) Length (refuse (anyOf (hasLoose p) lists) LooseWord Done)
 unfolding listRefusals
@@ -40,3 +40,14 @@ module _ (p most : ℕ) (big : 0 < p) where
       let hf = or-false (wrongLength most f) (anyOf (wrongLength most) (g ∷ [])) (h .0) in
       let lf = or-false (hasLoose p f) (anyOf (hasLoose p) (g ∷ [])) (l .0) in
       (listed f (hf .0) (lf .0), listed g (or-false (wrongLength most g) false (hf .1) .0) (or-false (hasLoose p g) false (lf .1) .0))
+
+-- a list that no call refuses passes
+module _ (p most : ℕ) (c : List ℕ) (l : Listed p most c) where
+  pub right-length : wrongLength most c ≡ false
+  unfolding wrongLength
+  right-length =
+      let some = l .some in
+      simp (ne-eqb (length c) 0 (λ e. omega arith), le-ltb most (length c) (l .short))
+
+  pub one-passes : lowest (listRefusals p most (c ∷ [])) ≡ Done
+  one-passes = judged p most (c ∷ []) ∙ simp (right-length, tight p c (l .words))

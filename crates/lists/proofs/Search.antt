@@ -7,7 +7,7 @@ use Prim.Native.Nat.{ℕ, zero, suc, _-_, _<_}
 use native.Mathlib.Omega.{arith}
 use lib.Dec.{leb}
 use lib.ListN.{getD}
-use borrow.Author.Tests.{leb-false}
+use borrow.Author.Tests.{leb-false, lt-leb}
 use Rattle.refusal.proofs.First.{or-false}
 use Rattle.lists.specs.Degrees.{significantIn}
 use Rattle.lists.specs.Extents.{significantIn-none, significantIn-zero, significantIn-nonzero}
@@ -20,6 +20,11 @@ module _ (p : ℕ) where
   none-loose [] pos e k = pos
   none-loose (x ∷ c) pos e zero = leb-false p x (or-false (leb p x) (hasLoose p c) e .0)
   none-loose (x ∷ c) pos e (suc k) = none-loose c pos (or-false (leb p x) (hasLoose p c) e .1) k
+
+  pub tight : (c : List ℕ) → ((k : ℕ) → getD c k 0 < p) → hasLoose p c ≡ false
+  unfolding hasLoose
+  tight [] h = refl
+  tight (x ∷ c) h = rw (lt-leb p x (h 0)) (tight c (λ k. h (suc k)))
 
 less : (n : ℕ) → suc n - 1 ≡ n
 less n = omega arith

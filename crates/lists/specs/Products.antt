@@ -50,9 +50,6 @@ module _ (F : PrimeField) where
   unfolding product
   length-product f g = length-tabulate _ _
 
-  pub naive-product : (f g : List ℕ) → naiveDegree (product F f g) ≡ naiveDegree f + naiveDegree g
-  naive-product f g = naive-length (product F f g) _ (length-product f g)
-
   regroup : (a b c x y : K) → a ⊗ b ⊗ c ⊗ x ⊗ y ≡ x ⊗ a ⊗ (y ⊗ b) ⊗ c
   regroup a b c x y = simp AC
 

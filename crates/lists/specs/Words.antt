@@ -18,10 +18,9 @@ use Rattle.lists.specs.Lists.{coefficient, scaled}
 use Rattle.lists.specs.Scaled.{coeff-scaled, below-scaled}
 
 module _ (F : PrimeField) where
-  open CommRing (scalars F) using (Carrier as K, zero as 𝟘, mul as _⊗_)
+  open CommRing (scalars F) using (Carrier as K, zero as 𝟘)
   open CommRing (F .series .ring) using (Carrier as S)
 
-  infixl 70 _⊗_
   -- the word that stands for an element
   pub value-is : (w : ℕ) (a : K) → w < F .p → residue F w ≡ a → w ≡ value F a
   value-is w a l e = sym (value-residue F w l) ∙ ap (value F) e
@@ -44,6 +43,15 @@ module _ (F : PrimeField) where
   unfolding scaledWords
   getD-scaledWords c k l = getD-tabulate (length c) _ k l
 
+  pub below-scaledWords : (c : List ℕ) (k : ℕ) → getD (scaledWords c) k 0 < F .p
+  below-scaledWords c k = go (decLt k (length c))
+    where
+      go : Dec (k < length c) → getD (scaledWords c) k 0 < F .p
+      go (yes l) = rw (getD-scaledWords c k l) (value-lt F _)
+      go (no l) =
+          let e = length-scaledWords c in
+          rw (List·getD-eq-default (scaledWords c) 0 {n = k} (omega arith)) (positive F)
+
   pub seriesOf-scaledWords : (c : List ℕ) → seriesOf (scaledWords c) ≡ scaled F c
   seriesOf-scaledWords c = ext (F .series) _ _ λ k. coeff-seriesOf (scaledWords c) k ∙ go k (decLt k (length c))
     where
@@ -61,8 +69,9 @@ module _ (F : PrimeField) where
   pub carries-seriesOf : {buf : List ℕ} → ((k : ℕ) → getD buf k 0 < F .p) → Carries buf (seriesOf buf)
   carries-seriesOf {buf} h = record { below = h; at = λ k. sym (coeff-seriesOf buf k) }
 
-  pub carries-word : {buf : List ℕ} {s : S} → Carries buf s → (k : ℕ) → getD buf k 0 ≡ value F (F .series .coeff s k)
-  carries-word {buf} {s} c k = value-is (getD buf k 0) (F .series .coeff s k) (c .below k) (c .at k)
+  -- words that stand for a series are that series
+  pub seriesOf-carries : {buf : List ℕ} {s : S} → Carries buf s → seriesOf buf ≡ s
+  seriesOf-carries {buf} c = ext (F .series) _ _ λ k. coeff-seriesOf buf k ∙ c .at k
 
   pub carries-below : {buf : List ℕ} {s : S} → Carries buf s → Below (F .series) (length buf) s
   carries-below {buf} {s} c =

@@ -1,5 +1,4 @@
 -- Words of 16 bits modulo p.
---     product-bound          the product of two words
 --     remainder              what is below p and differs by multiples of p is the remainder
 --     high-below             the high half of a product with a number below p is below p
 --     sub-less, sub-more     a difference modulo p, where it goes below 0 and where it does not
@@ -10,9 +9,6 @@ use Prim.Native.Nat.{ℕ, _+_, _-_, _*_, _/_, _%_, _<_, _≤_}
 use native.Mathlib.Nat.{mod-eq-of-lt, mul-le-mul, lt-trans}
 use native.Mathlib.Omega.{arith}
 use Rattle.montgomery.specs.Montgomery.{same}
-
-pub product-bound : {a b : ℕ} → a < 65536 → b < 65536 → a * b ≤ 4294836225
-product-bound h g = mul-le-mul {n₂ = 65535} {m₂ = 65535} (omega arith) (omega arith)
 
 pub high-below : {p g : ℕ} (y : ℕ) → y < 65536 → g ≤ p → 0 < p → y * g / 65536 < p
 high-below {p} {g} y ly lg pos = omega (arith, mul-le-mul {n₁ = y} {m₁ = g} {n₂ = 65535} {m₂ = p} (omega arith) lg)

@@ -1,4 +1,2 @@
-pub mod Rows
-pub mod RowWords
+pub mod Reduction
 pub mod Steps
-pub mod Montgomery

@@ -22,11 +22,12 @@ use Rattle.algebra.specs.Polynomial.{Below, below-mono, below-0, below-add, mon
 use Rattle.algebra.specs.Homogenise.{C-neg}
 use Rattle.algebra.specs.Sum.{sum, sum-zero, sum-suc}
 use Rattle.algebra.specs.Division as D
-use Rattle.algebra.specs.Division.{coeff-monomial-mul, coeff-monomial-mul-low, step, remainder, quotient, remainder-zero, remainder-suc, quotient-zero, quotient-below, coeff-quotient-top, coeff-quotient-low}
+use Rattle.algebra.specs.Division.{coeff-monomial-mul, coeff-monomial-mul-low, coeff-monomial-low, step, remainder, quotient, remainder-zero, remainder-suc, quotient-zero, quotient-below, coeff-quotient-top, coeff-quotient-low}
 use Rattle.algebra.specs.PrimeField.{PrimeField, scalars, scalarField, positive, residue, residue-0, residue-add, residue-mul, residue-neg, residue-mod, residue-mul-mod}
 use Rattle.lists.specs.Words.{Carries, carries-zero, carries-below}
-use Rattle.reduction.specs.Rows.{rowFrom, negated, digit, reduced, digits, lessProductTo, lessProduct}
-use Rattle.reduction.specs.RowWords.{length-rowFrom, rowFrom-low, rowFrom-at, rowFrom-above, rowFrom-below}
+use Rattle.rows.specs.Rows.{rowFrom}
+use Rattle.reduction.specs.Reduction.{negated, digit, reduced, digits, lessProductTo, lessProduct}
+use Rattle.rows.specs.RowWords.{length-rowFrom, rowFrom-low, rowFrom-at, rowFrom-above, rowFrom-below}
 
 pub length-reduced : (p inv : ℕ) (y : List ℕ) (k : ℕ) (x : List ℕ) → length (reduced p inv y k x) ≡ length x
 unfolding reduced
@@ -66,20 +67,6 @@ module _ (F : PrimeField) where
   pub record Low (n : ℕ) (buf : List ℕ) (s : S) : Type 0 where
     pub below : (j : ℕ) → getD buf j 0 < F .p
     pub at : (j : ℕ) → j < n → residue F (getD buf j 0) ≡ F .series .coeff s j
-
-  pub low-of-carries : (n : ℕ) {buf : List ℕ} {s : S} → Carries F buf s → Low n buf s
-  low-of-carries n c = record { below = c .below; at = λ j l. c .at j }
-
-  pub carries-of-low : (n : ℕ) {buf : List ℕ} {s : S} → Low n buf s → length buf ≤ n → Below (F .series) n s → Carries F buf s
-  carries-of-low n {buf} {s} c l h = record { below = c .below; at = λ j. go j (decLt j n) }
-    where
-      go : (j : ℕ) → Dec (j < n) → residue F (getD buf j 0) ≡ F .series .coeff s j
-      go j (yes i) = c .at j i
-      go j (no i) = ap (residue F) (List·getD-eq-default buf 0 (omega arith)) ∙ residue-0 F ∙ sym (h .at j (omega arith))
-
-  pub negated-below : (a : ℕ) → negated (F .p) a < F .p
-  unfolding negated
-  negated-below a = N.mod-lt (F .p - a % F .p) (positive F)
 
   pub negated-residue : (a : ℕ) → residue F (negated (F .p) a) ≡ ⊖ residue F a
   unfolding negated
@@ -235,11 +222,6 @@ module _ (F : PrimeField) where
   terms : ℕ → S → S
   terms n c = sum (F .series) n (λ k. monomial (F .series) (F .series .coeff c k) k)
 
-  coeff-monomial-low : (a : K) (k j : ℕ) → j < k → F .series .coeff (monomial (F .series) a k) j ≡ 𝟘
-  coeff-monomial-low a k j l =
-      ap (λ s. F .series .coeff s j) (sym (R.mul-one (F .series .ring) (monomial (F .series) a k)))
-      ∙ coeff-monomial-mul-low (F .series) a k _ j l
-
   below-terms : (n : ℕ) (c : S) → Below (F .series) n (terms n c)
   unfolding terms
   below-terms zero c = rw (sum-zero (F .series)) (below-0 (F .series) 0)
@@ -260,7 +242,7 @@ module _ (F : PrimeField) where
           rw e
           (ap₂ (λ a b. a ⊕ b) (below-terms n c .at n (N.le-refl n)) (coeff-monomial (F .series) _ n) ∙ R.zero-add (scalars F) _)
       go (no e) ih =
-          ap₂ (λ a b. a ⊕ b) (ih (omega arith)) (coeff-monomial-low (F .series .coeff c n) n j (omega arith)) ∙ R.add-zero (scalars F) _
+          ap₂ (λ a b. a ⊕ b) (ih (omega arith)) (coeff-monomial-low (F .series) (F .series .coeff c n) n j (omega arith)) ∙ R.add-zero (scalars F) _
 
   terms-all : (n : ℕ) {c : S} → Below (F .series) n c → terms n c ≡ c
   terms-all n {c} h = ext (F .series) _ _ λ j. go j (decLt j n)

@@ -1,18 +1,33 @@
 -- What a call answers and writes that does as its judge found.
---     done, refused    where the judge found Done and where it found a refusal, of a call that hands back no value
+--     number-is        the number of a reply is that of its outcome
+--     result, kept     what a slice holds afterwards, where the judge found Done and where it found a refusal
+--     done, refused    the same with the answer, of a call that hands back no value
 -- Assumes nothing.
-use mathlib.Core.Path.{_≡_, sym, _∙_, ap}
+use mathlib.Core.Path.{_≡_, refl, sym, _∙_, ap}
 use mathlib.Core.List.{List, []}
 use Prim.Native.Nat.{ℕ}
-use Rattle.refusal.specs.Refusal.{reply, outcomeReply, written}
+use Rattle.refusal.specs.Refusal.{outcomeNumber, Reply, reply, outcomeReply, written}
 use Rattle.refusal.specs.declared.Refusal.{Refusal}
 use Rattle.refusal.specs.declared.Outcome.{Outcome}
 use Rattle.refusal.specs.declared.Outcome.the-variants.{Done, Refused}
 
+reply-number : (o : Outcome) (values : List ℕ) → reply o values .number ≡ outcomeNumber o
+reply-number Done values = refl
+reply-number (Refused why) values = refl
+
+pub number-is : (o : Outcome) (values : List ℕ) {r : Reply} → r ≡ reply o values → r .number ≡ outcomeNumber o
+number-is o values e = ap (λ r. r .number) e ∙ reply-number o values
+
+pub result : {found : Outcome} (new old : List ℕ) {left : List ℕ} → found ≡ Done → left ≡ new → left ≡ written found new old
+result new old d q = q ∙ sym (ap (λ o. written o new old) d)
+
+pub kept : {found : Outcome} {why : Refusal} (new old : List ℕ) → found ≡ Refused why → old ≡ written found new old
+kept new old d = sym (ap (λ o. written o new old) d)
+
 pub done : {answer found : Outcome} → answer ≡ found → answer ≡ Done → (new old : List ℕ) {left : List ℕ} → left ≡ new
     → (outcomeReply answer ≡ reply found []) × (left ≡ written found new old)
-done e d new old q = (ap outcomeReply e, q ∙ sym (ap (λ o. written o new old) (sym e ∙ d)))
+done e d new old q = (ap outcomeReply e, result new old (sym e ∙ d) q)
 
 pub refused : {answer found : Outcome} {why : Refusal} → answer ≡ found → answer ≡ Refused why → (new old : List ℕ)
     → (outcomeReply answer ≡ reply found []) × (old ≡ written found new old)
-refused e d new old = (ap outcomeReply e, sym (ap (λ o. written o new old) (sym e ∙ d)))
+refused e d new old = (ap outcomeReply e, kept new old (sym e ∙ d))

@@ -12,6 +12,7 @@ use Prim.Native.Nat.{ℕ, _≤_}
 use native.Mathlib.Nat.{le-trans}
 use lib.Dec.{T, leb, leb→le}
 use borrow.Author.Tests.{le-ltb}
+use mir.Facts.{and-yes, yes-and}
 use Rattle.refusal.specs.Refusal.{number}
 use Rattle.refusal.specs.Lowest.{Condition, lower, lowest}
 use Rattle.refusal.specs.declared.Refusal.{Refusal}
@@ -36,24 +37,16 @@ abbrev AtLeast : ℕ → Outcome → Type 0
 AtLeast n Done = Unit {0}
 AtLeast n (Refused why) = n ≤ number why
 
-and-left : (a b : Bool) → T (a && b) → T a
-and-left true b t = tt
-and-left false b t = t
-
-and-right : (a b : Bool) → T (a && b) → T b
-and-right true b t = t
-and-right false b t = absurd t
-
 weaken : {m n : ℕ} (o : Outcome) → m ≤ n → AtLeast n o → AtLeast m o
 weaken Done l h = tt
 weaken (Refused why) l h = le-trans l h
 
 later : (c : Condition) (rows : List Condition) → T (ascending (c ∷ rows)) → AtLeast (number (c .why)) (first rows)
 later c [] t = tt
-later c (d ∷ rows) t = pick (d .applies) (later d rows (and-right (leb (number (c .why)) (number (d .why))) (ascending (d ∷ rows)) t))
+later c (d ∷ rows) t = pick (d .applies) (later d rows (and-yes (leb (number (c .why)) (number (d .why))) (ascending (d ∷ rows)) t .1))
   where
     order : number (c .why) ≤ number (d .why)
-    order = leb→le _ _ (and-left (leb (number (c .why)) (number (d .why))) (ascending (d ∷ rows)) t)
+    order = leb→le _ _ (and-yes (leb (number (c .why)) (number (d .why))) (ascending (d ∷ rows)) t .0)
 
     pick : (b : Bool) → AtLeast (number (d .why)) (first rows) → AtLeast (number (c .why)) (refuse b (d .why) (first rows))
     pick true h = order
@@ -61,7 +54,7 @@ later c (d ∷ rows) t = pick (d .applies) (later d rows (and-right (leb (number
 
 rest : (c : Condition) (rows : List Condition) → T (ascending (c ∷ rows)) → T (ascending rows)
 rest c [] t = tt
-rest c (d ∷ rows) t = and-right (leb (number (c .why)) (number (d .why))) (ascending (d ∷ rows)) t
+rest c (d ∷ rows) t = and-yes (leb (number (c .why)) (number (d .why))) (ascending (d ∷ rows)) t .1
 
 lower-first : (why : Refusal) (o : Outcome) → AtLeast (number why) o → lower why o ≡ Refused why
 unfolding lower
@@ -95,15 +88,9 @@ left-ascending : (rows more : List Condition) → T (ascending (rows ++ more)) �
 left-ascending [] more t = tt
 left-ascending (c ∷ []) more t = tt
 left-ascending (c ∷ d ∷ rows) more t =
-    and-both order (ascending (d ∷ rows)) (and-left order (ascending (d ∷ rows ++ more)) t)
-    (left-ascending (d ∷ rows) more (and-right order (ascending (d ∷ rows ++ more)) t))
-  where
-    order : Bool
-    order = leb (number (c .why)) (number (d .why))
-
-    and-both : (a b : Bool) → T a → T b → T (a && b)
-    and-both true b s t = t
-    and-both false b s t = s
+    let order = leb (number (c .why)) (number (d .why)) in
+    let both = and-yes order (ascending (d ∷ rows ++ more)) t in
+    yes-and order (ascending (d ∷ rows)) (both .0) (left-ascending (d ∷ rows) more (both .1))
 
 -- rows that one test answers, and the rows after them
 pub first-then : (rows more : List Condition) → T (ascending (rows ++ more)) → lowest (rows ++ more) ≡ or-else (lowest rows) (first more)

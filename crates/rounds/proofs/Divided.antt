@@ -14,10 +14,10 @@ use lib.Seq.{length-take-le}
 use borrow.Author.Tests.{le-leb, lt-leb, lt-ltb, le-ltb}
 use Rattle.algebra.specs.PrimeField.{PrimeField}
 use Rattle.field.specs.Field.{inverseOf, inverseOrZero}
-use Rattle.field.proofs.OrZero.{inverse-some}
+use Rattle.inverses.proofs.OrZero.{inverse-some}
 use Rattle.lists.specs.Degrees.{significant, extent}
 use Rattle.lists.specs.Extents.{significant-le, extent-largest}
-use Rattle.reduction.specs.Rows.{reduced, digits, reduceFits}
+use Rattle.reduction.specs.Reduction.{reduced, digits, reduceFits}
 use Rattle.reduction.proofs.Loops.{reduce-fits}
 use Rattle.rounds.specs.Round.{lastWord, roundSteps, roundFits, remaining, quotientWords}
 use Rattle.rounds.proofs.Turns.{round-ready}

@@ -4,36 +4,33 @@
 --     round-euclid, round-smaller             a round goes on with (y, remainder), and y falls
 --     end-euclid, rounds-few                  where y is zero, no round is left; at most n rounds in buffers of n words
 --     round-fits, write-fits                  what the two guards ask
---     written-low                             a result depends on the first coefficients only
 -- Assumes nothing.
 use mathlib.Core.Path.{_≡_, refl, sym, _∙_, ap, subst}
 use mathlib.Core.Bool.{true}
-use mathlib.Core.List.{List, _++_}
+use mathlib.Core.List.{List}
 use Prim.Native.Nat.{ℕ, suc, _+_, _-_, _≤_, _<_}
 use native.Mathlib.Nat as N
 use native.Mathlib.Decide.{decLe, decLt}
 use native.Mathlib.Omega.{arith}
-use lib.ListN.{length, getD, take, drop, length-append, length-take, length-drop, List·getD-append, List·getD-eq-default}
-use lib.Seq.{getD-take, getD-drop, getD-append-add, length-take-le}
+use lib.ListN.{length, getD, take, drop, length-append, length-take, length-drop, List·getD-eq-default}
+use lib.Seq.{getD-take, getD-drop, length-take-le}
 use borrow.Author.Tests.{le-leb, lt-ltb}
 use Rattle.algebra.specs.Ring.{CommRing}
-use Rattle.algebra.specs.Series.{C, ext, coeff-0, coeff-C-mul}
+use Rattle.algebra.specs.Series.{coeff-0}
 use Rattle.algebra.specs.Polynomial.{Below}
 use Rattle.algebra.specs.Degree.{size, size-le, size-least}
 use Rattle.algebra.specs.Division.{remainder, quotient, remainder-zero, quotient-zero}
 use Rattle.algebra.specs.Euclid.{quotientBy, remainderBy, done, next, euclid, euclid-end, euclid-ok, round-law, remainder-small}
-use Rattle.algebra.specs.PrimeField.{PrimeField, scalars, scalarField, positive, residue, value, inverse, residue-0}
+use Rattle.algebra.specs.PrimeField.{PrimeField, scalarField, positive, residue, inverse, residue-0}
 use Rattle.field.specs.Field.{inverseOf}
 use Rattle.field.specs.Theorems.{residue-inverse}
-use Rattle.lists.specs.Tabulate.{tabulate-ext}
 use Rattle.lists.specs.Degrees.{significant}
 use Rattle.lists.specs.Extents.{significant-le, after-significant, significantIn-size}
-use Rattle.lists.specs.Lists.{binomial, unscaled}
-use Rattle.lists.specs.Words.{seriesOf, coeff-seriesOf, Carries, carries-seriesOf, carries-zero, carries-nonzero}
-use Rattle.euclid.specs.Gcds.{padded}
-use Rattle.reduction.specs.Rows.{reduced, digits}
+use Rattle.lists.specs.Words.{seriesOf, coeff-seriesOf, Carries, carries-seriesOf, carries-zero, carries-nonzero, seriesOf-carries}
+use Rattle.lists.proofs.Parts.{getD-then-zeros}
+use Rattle.reduction.specs.Reduction.{reduced, digits}
 use Rattle.reduction.specs.Steps.{length-reduced, length-digits, reduced-remainder, digits-quotient}
-use Rattle.rounds.specs.Round.{lastWord, roundSteps, roundFits, remaining, quotientWords, writeFits, writtenList}
+use Rattle.rounds.specs.Round.{lastWord, roundSteps, roundFits, remaining, quotientWords, writeFits}
 
 -- the significant words are all that a list says
 getD-significant : (c : List ℕ) (k : ℕ) → getD (take (significant c) c) k 0 ≡ getD c k 0
@@ -46,19 +43,6 @@ getD-significant c k = go (decLt k (significant c))
 
 length-significant : (c : List ℕ) → length (take (significant c) c) ≡ significant c
 length-significant c = length-take-le (significant c) c (significant-le c)
-
--- zeros after a list change no word
-getD-zeros : (a b : List ℕ) → ((k : ℕ) → getD b k 0 ≡ 0) → (k : ℕ) → getD (a ++ b) k 0 ≡ getD a k 0
-getD-zeros a b h k = go (decLt k (length a))
-  where
-    go : Dec (k < length a) → getD (a ++ b) k 0 ≡ getD a k 0
-    go (yes l) = List·getD-append a b 0 k l
-    go (no l) =
-        ap (λ i. getD (a ++ b) i 0) at ∙ getD-append-add a b (k - length a) 0 ∙ h (k - length a)
-        ∙ sym (List·getD-eq-default a 0 (omega arith))
-      where
-        at : k ≡ length a + (k - length a)
-        at = omega arith
 
 pub roundSteps-le : (x y : List ℕ) → roundSteps x y ≤ length x
 unfolding roundSteps
@@ -76,14 +60,7 @@ write-fits most words form out lf lo lm =
     rw (le-leb words (length form) lf, le-leb words (length out) lo, le-leb words most lm)
 
 module _ (F : PrimeField) where
-  open CommRing (scalars F) using (mul as _⊗_)
-  open CommRing (F .series .ring) using (Carrier as S, mul as _*ˢ_)
-
-  infixl 70 _⊗_
-  infixl 70 _*ˢ_
-  -- words that stand for a series are that series
-  pub seriesOf-carries : {x : List ℕ} {s : S} → Carries F x s → seriesOf F x ≡ s
-  seriesOf-carries {x} {s} c = ext (F .series) _ _ λ k. coeff-seriesOf F x k ∙ c .at k
+  open CommRing (F .series .ring) using (Carrier as S)
 
   below-seriesOf : (x : List ℕ) → Below (F .series) (length x) (seriesOf F x)
   below-seriesOf x =
@@ -97,17 +74,6 @@ module _ (F : PrimeField) where
   pub significant-series : (x : List ℕ) → ((k : ℕ) → getD x k 0 < F .p)
       → significant x ≡ size (F .series) (scalarField F) (length x) (seriesOf F x)
   significant-series x lx = significant-size (length x) (carries-seriesOf F lx) refl
-
-  -- a result of so many words depends on so many coefficients
-  pub written-low : (words m : ℕ) (form out : List ℕ) (s : S)
-      → ((k : ℕ) → k < words → F .series .coeff (seriesOf F form) k ≡ F .series .coeff s k)
-      → writtenList F words m form out ≡ padded (length out) (unscaled F words (C (F .series) (residue F m) *ˢ s))
-  unfolding writtenList unscaled
-  written-low words m form out s h =
-      ap (padded (length out))
-      (tabulate-ext words _ _ λ k l. ap (λ a. value F (a ⊗ inverse F (binomial F (words - 1) k)))
-      (coeff-C-mul (F .series) (residue F m) (seriesOf F form) k ∙ ap (λ a. residue F m ⊗ a) (h k l)
-      ∙ sym (coeff-C-mul (F .series) (residue F m) s k)))
 
   module _ (n : ℕ) (x y : List ℕ) (lx : (k : ℕ) → getD x k 0 < F .p) (ly : (k : ℕ) → getD y k 0 < F .p) (ex : length x ≡ n) (ey : length y ≡ n) where
     size-x : significant x ≡ size (F .series) (scalarField F) n (seriesOf F x)
@@ -202,8 +168,8 @@ module _ (F : PrimeField) where
       unfolding remaining left
       round-remainder =
           record {
-            below = λ k. rw (getD-zeros left (drop (significant x) x) rest k) (divided .below k);
-            at = λ k. ap (residue F) (getD-zeros left (drop (significant x) x) rest k) ∙ divided .at k
+            below = λ k. rw (getD-then-zeros left (drop (significant x) x) rest k) (divided .below k);
+            at = λ k. ap (residue F) (getD-then-zeros left (drop (significant x) x) rest k) ∙ divided .at k
                 ∙ ap (λ i. F .series .coeff (remainder (F .series) (scalarField F) i (significant y - 1) (seriesOf F x) (seriesOf F y)) k) steps-is;
           }
 
@@ -227,9 +193,6 @@ module _ (F : PrimeField) where
       pub remaining-low : (k : ℕ) → getD (remaining F x y) k 0 < F .p
       remaining-low = round-remainder .below
 
-      pub quotient-low : (k : ℕ) → getD (quotientWords F x y) k 0 < F .p
-      quotient-low = round-quotient .below
-
       size-suc : size (F .series) (scalarField F) n (seriesOf F y) ≡ suc (significant y - 1)
       size-suc = sym size-y ∙ omega arith
 
@@ -239,7 +202,7 @@ module _ (F : PrimeField) where
       round-euclid =
           round-law (F .series) (scalarField F) n (significant y - 1) below-x below-y size-suc
           ∙ ap (λ s. next (F .series) (scalarField F) (quotientBy (F .series) (scalarField F) n (significant y - 1) (seriesOf F x) (seriesOf F y))
-          (euclid (F .series) (scalarField F) n n (seriesOf F y) s)) (sym (seriesOf-carries round-remainder))
+          (euclid (F .series) (scalarField F) n n (seriesOf F y) s)) (sym (seriesOf-carries F round-remainder))
 
       pub round-smaller : significant (remaining F x y) < significant y
       round-smaller =

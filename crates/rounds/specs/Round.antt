@@ -22,7 +22,7 @@ use Rattle.lists.specs.Degrees.{significant}
 use Rattle.lists.specs.Lists.{unscaled}
 use Rattle.lists.specs.Words.{seriesOf}
 use Rattle.euclid.specs.Gcds.{padded}
-use Rattle.reduction.specs.Rows.{reduced, digits}
+use Rattle.reduction.specs.Reduction.{reduced, digits}
 
 unfoldable pub lastWord : List ℕ → ℕ
 lastWord y = getD y (significant y - 1) 0

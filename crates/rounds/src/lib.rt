@@ -31,7 +31,7 @@ pub fn round(x: &mut [u16], y: &[u16], q: &mut [u16]) -> usize
     if q.len() < k {
         return 0;
     }
-    let inv = field::inverse_or_zero(last);
+    let inv = inverses::inverse_or_zero(last);
     reduction::reduce(&mut x[..nx], &y[..ny], inv, &mut q[..k]);
     k
 }

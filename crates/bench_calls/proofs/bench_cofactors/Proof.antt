@@ -7,7 +7,7 @@ use Rattle.refusal.specs.Lowest.{lowest}
 use Rattle.field.specs.Field.{p}
 use Rattle.gcd.specs.Calls.{gcdReply, gcdValues}
 use Rattle.cofactors.specs.Calls.{cofactorRefusals}
-use Rattle.bench_calls.proofs.Answers.{number-is}
+use Rattle.refusal.proofs.Answers.{number-is}
 use Rattle.bench_calls.proofs.bench_cofactors.Statement.{statement}
 use Rattle.bench_calls.proofs.bench_cofactors.Tie as tie
 

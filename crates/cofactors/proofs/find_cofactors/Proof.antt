@@ -14,7 +14,8 @@ use Rattle.euclid.specs.Gcds.{cofactorA, cofactorB}
 use Rattle.gcd.specs.Workers.{Ready}
 use Rattle.gcd.proofs.Finish.{refused}
 use Rattle.cofactors.specs.Workers.{Slices}
-use Rattle.cofactors.proofs.Results.{cofactors-ready, cofactors-answered, kept}
+use Rattle.cofactors.proofs.Results.{cofactors-ready, cofactors-answered}
+use Rattle.refusal.proofs.Answers.{kept}
 use Rattle.cofactors.specs.Calls.{cofactorRefusals}
 use Rattle.cofactors.proofs.find_cofactors.Statement.{statement}
 use Rattle.cofactors.proofs.find_cofactors.Tie as tie

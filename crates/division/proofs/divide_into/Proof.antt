@@ -2,7 +2,7 @@
 -- Assumes nothing.
 use mathlib.Core.Path.{refl, sym}
 use native.Mathlib.Omega.{arith}
-use Rattle.kernels.proofs.Fits.{prefix-length}
+use Rattle.lists.proofs.Parts.{prefix-length}
 use borrow.Author.Needs.{needs}
 use Rattle.division.proofs.divide_into.Statement.{statement}
 use Rattle.division.proofs.divide_into.Tie as tie

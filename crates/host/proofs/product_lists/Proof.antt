@@ -4,7 +4,7 @@ use mathlib.Core.Path.{refl, sym, _∙_}
 use native.Mathlib.Omega.{arith}
 use lib.Dec.{leb→le}
 use borrow.Author.Needs.{needs}
-use Rattle.kernels.proofs.Fits.{prefix-length}
+use Rattle.lists.proofs.Parts.{prefix-length}
 use Rattle.lists.specs.Bytes.{wordCount}
 use Rattle.host.proofs.Fits.{good-half, room-short}
 use Rattle.host.proofs.product_lists.Statement.{statement}

@@ -2,12 +2,12 @@
 -- Assumes nothing.
 use Prim.Native.Nat.{_*_, _≤_}
 use native.Mathlib.Omega.{arith}
-use Rattle.montgomery.proofs.Words.{product-bound}
+use Rattle.field.proofs.Words.{product-le}
 use Rattle.montgomery.proofs.high_half.Statement.{statement}
 use Rattle.montgomery.proofs.high_half.Tie as tie
 
 product : (c : tie.Start) → c .args .a * c .args .b ≤ 4294836225
-product c = product-bound (c .fits .a .fits) (c .fits .b .fits)
+product c = product-le (c .fits .a .fits) (c .fits .b .fits)
 
 mul-result : tie.Need-mul-result
 mul-result c = omega (arith, product c)

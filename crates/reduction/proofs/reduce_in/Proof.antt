@@ -6,8 +6,9 @@ use mathlib.Core.List.{_++_}
 use Prim.Native.Nat.{_≤_}
 use native.Mathlib.Omega.{arith}
 use lib.ListN.{length, drop}
-use Rattle.reduction.specs.Rows.{reduced, digits}
-use Rattle.reduction.proofs.Loops.{reduced-turn, digits-turn, reduced-end, digits-end, digits-start, part-row}
+use Rattle.reduction.specs.Reduction.{reduced, digits}
+use Rattle.rows.proofs.Loops.{part-row}
+use Rattle.reduction.proofs.Loops.{reduced-turn, digits-turn, reduced-end, digits-end, digits-start}
 use borrow.Author.Needs.{needs}
 use Rattle.reduction.proofs.reduce_in.Statement.{statement}
 use Rattle.reduction.proofs.reduce_in.Tie as tie

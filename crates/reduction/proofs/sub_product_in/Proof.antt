@@ -3,8 +3,9 @@
 use mathlib.Core.Path.{_≡_, refl}
 use Prim.Native.Nat.{_≤_, _-_}
 use lib.ListN.{length}
-use Rattle.reduction.specs.Rows.{lessProductTo}
-use Rattle.reduction.proofs.Loops.{part-row, less-turn, less-end}
+use Rattle.reduction.specs.Reduction.{lessProductTo}
+use Rattle.rows.proofs.Loops.{part-row}
+use Rattle.reduction.proofs.Loops.{less-turn, less-end}
 use borrow.Author.Needs.{needs}
 use Rattle.reduction.proofs.sub_product_in.Statement.{statement}
 use Rattle.reduction.proofs.sub_product_in.Tie as tie

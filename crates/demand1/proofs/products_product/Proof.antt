@@ -1,0 +1,18 @@
+-- `demand1::products_product` meets its contract.
+-- Assumes nothing.
+use borrow.Author.Needs.{needs}
+use Rattle.demand1.specs.Demand1Holds.{replies, no-slice, and-slice}
+use Rattle.demand1.proofs.products_product.Statement.{statement}
+use Rattle.demand1.proofs.products_product.Tie as tie
+
+product-requires : tie.Need-product-requires
+product-requires c κs = search needs
+
+same-length : tie.Need-same-length
+same-length c = search needs
+
+returns : tie.Need-returns
+returns c = let e = c .before .before .product .ensures in replies _ (e .0) (and-slice _ (e .1) no-slice)
+
+pub products-product-spec : {M : Type 1} → statement M
+products-product-spec = tie.close (tie.spec product-requires same-length returns)

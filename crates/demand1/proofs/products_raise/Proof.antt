@@ -1,0 +1,18 @@
+-- `demand1::products_raise` meets its contract.
+-- Assumes nothing.
+use borrow.Author.Needs.{needs}
+use Rattle.demand1.specs.Demand1Holds.{replies, no-slice, and-slice}
+use Rattle.demand1.proofs.products_raise.Statement.{statement}
+use Rattle.demand1.proofs.products_raise.Tie as tie
+
+raise-requires : tie.Need-raise-requires
+raise-requires c κs = search needs
+
+same-length : tie.Need-same-length
+same-length c = search needs
+
+returns : tie.Need-returns
+returns c = let e = c .before .before .raise .ensures in replies _ (e .0) (and-slice _ (e .1) no-slice)
+
+pub products-raise-spec : {M : Type 1} → statement M
+products-raise-spec = tie.close (tie.spec raise-requires same-length returns)

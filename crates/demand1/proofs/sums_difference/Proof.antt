@@ -1,0 +1,18 @@
+-- `demand1::sums_difference` meets its contract.
+-- Assumes nothing.
+use borrow.Author.Needs.{needs}
+use Rattle.demand1.specs.Demand1Holds.{replies, no-slice, and-slice}
+use Rattle.demand1.proofs.sums_difference.Statement.{statement}
+use Rattle.demand1.proofs.sums_difference.Tie as tie
+
+difference-requires : tie.Need-difference-requires
+difference-requires c κs = search needs
+
+same-length : tie.Need-same-length
+same-length c = search needs
+
+returns : tie.Need-returns
+returns c = let e = c .before .before .difference .ensures in replies _ (e .0) (and-slice _ (e .1) no-slice)
+
+pub sums-difference-spec : {M : Type 1} → statement M
+sums-difference-spec = tie.close (tie.spec difference-requires same-length returns)

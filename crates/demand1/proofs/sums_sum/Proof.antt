@@ -1,0 +1,18 @@
+-- `demand1::sums_sum` meets its contract.
+-- Assumes nothing.
+use borrow.Author.Needs.{needs}
+use Rattle.demand1.specs.Demand1Holds.{replies, no-slice, and-slice}
+use Rattle.demand1.proofs.sums_sum.Statement.{statement}
+use Rattle.demand1.proofs.sums_sum.Tie as tie
+
+sum-requires : tie.Need-sum-requires
+sum-requires c κs = search needs
+
+same-length : tie.Need-same-length
+same-length c = search needs
+
+returns : tie.Need-returns
+returns c = let e = c .before .before .sum .ensures in replies _ (e .0) (and-slice _ (e .1) no-slice)
+
+pub sums-sum-spec : {M : Type 1} → statement M
+sums-sum-spec = tie.close (tie.spec sum-requires same-length returns)

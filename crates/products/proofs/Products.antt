@@ -1,0 +1,89 @@
+-- The product by scaled forms, and the raise by a list of ones.
+-- Assumes nothing.
+use mathlib.Core.Path.{_≡_, sym, _∙_, ap, ap₂}
+use mathlib.Core.Bool.{cond}
+use mathlib.Core.List.{List}
+use Prim.Native.Nat.{ℕ, suc, _+_, _-_, _≤_, _<_}
+use native.Mathlib.Omega.{arith}
+use lib.ListN.{length, take, replicate, length-take, length-replicate, getD-replicate}
+use lib.Seq.{getD-take}
+use Rattle.algebra.specs.Ring.{CommRing}
+use Rattle.algebra.specs.PrimeField.{PrimeField, scalars, residue, value, inverse, residue-value}
+use Rattle.lists.specs.Tabulate.{tabulated, tabulate-ext, getD-tabulate}
+use Rattle.lists.specs.Degrees.{naiveDegree}
+use Rattle.lists.specs.Lists.{binomial, scaled, unscaled}
+use Rattle.lists.specs.Operations.{product, raise}
+use Rattle.lists.specs.Words.{seriesOf, coeff-seriesOf, scaledWords, length-scaledWords, seriesOf-scaledWords}
+use Rattle.lists.specs.Products.{ones, product-unscaled, raise-product}
+use Rattle.kernels.specs.Kernels.{scaleFits, unscaleFits}
+use Rattle.kernels.proofs.Fits.{scale-is, unscale-is}
+use Rattle.convolution.specs.Convolution.{convolveFits, convolution}
+use Rattle.convolution.proofs.Convolution.{length-convolution, convolve-is}
+use Rattle.products.specs.Workers.{ProductFits, RaiseFits}
+
+-- a part of an array of ones
+ones-is : (n m : ℕ) → m < n → take (suc m) (replicate n 1) ≡ ones m
+unfolding ones
+ones-is n m l =
+    tabulated (take (suc m) (replicate n 1)) (suc m) (λ k. 1) (simp (length-take, length-replicate) (omega arith))
+    (λ k j. rw getD-take (getD-replicate n k 1 0 (omega arith)))
+
+module _ (F : PrimeField) (most : ℕ) where
+  open CommRing (scalars F) using (mul as _⊗_)
+  open CommRing (F .series .ring) using (mul as _*ˢ_)
+
+  infixl 70 _⊗_
+  infixl 70 _*ˢ_
+  coeff-convolution : (a b : List ℕ) (k : ℕ) → k < length a + length b - 1
+      → F .series .coeff (seriesOf F (convolution F a b)) k ≡ F .series .coeff (seriesOf F a *ˢ seriesOf F b) k
+  unfolding convolution
+  coeff-convolution a b k l = coeff-seriesOf F (convolution F a b) k ∙ ap (residue F) (getD-tabulate _ _ k l) ∙ residue-value F _
+
+  unscaled-convolution : (a b : List ℕ) (n : ℕ) → n ≤ length a + length b - 1
+      → unscaled F n (seriesOf F (convolution F a b)) ≡ unscaled F n (seriesOf F a *ˢ seriesOf F b)
+  unfolding unscaled
+  unscaled-convolution a b n l =
+      tabulate-ext n _ _ (λ k j. ap (λ x. value F (x ⊗ inverse F (binomial F (n - 1) k))) (coeff-convolution a b k (omega arith)))
+
+  -- the words of the product's scaled form, divided again
+  product-words : (f g : List ℕ) (n : ℕ) → 0 < length f → 0 < length g → n + 1 ≡ length f + length g
+      → unscaled F n (seriesOf F (convolution F (scaledWords F f) (scaledWords F g))) ≡ product F f g
+  unfolding naiveDegree
+  product-words f g n s t e =
+      let d = length-scaledWords F f in
+      let h = length-scaledWords F g in
+      unscaled-convolution (scaledWords F f) (scaledWords F g) n (omega arith)
+      ∙ ap₂ (λ x y. unscaled F n (x *ˢ y)) (seriesOf-scaledWords F f) (seriesOf-scaledWords F g)
+      ∙ ap (λ k. unscaled F k (scaled F f *ˢ scaled F g)) (omega arith)
+      ∙ sym (product-unscaled F f g)
+
+  -- the scaled forms of f and g in a and b, their product in s, and back into out
+  pub product-is : (f g a b s out : List ℕ) {a′ b′ s′ out′ : List ℕ} → ProductFits most f g out
+      → length a ≡ length f → length b ≡ length g → length s ≡ length out
+      → a′ ≡ cond (scaleFits most f a) (scaledWords F f) a → b′ ≡ cond (scaleFits most g b) (scaledWords F g) b
+      → s′ ≡ cond (convolveFits most a′ b′ s) (convolution F a′ b′) s
+      → out′ ≡ cond (unscaleFits most s′ out) (unscaled F (length out) (seriesOf F s′)) out
+      → out′ ≡ product F f g
+  product-is f g a b s out {a′} {b′} {s′} fits la lb ls qa qb qs qo =
+      let ea = scale-is F most f a la (omega arith) qa in
+      let eb = scale-is F most g b lb (omega arith) qb in
+      let na : length a′ ≡ length f = ap length ea ∙ length-scaledWords F f in
+      let nb : length b′ ≡ length g = ap length eb ∙ length-scaledWords F g in
+      let es = convolve-is F most a′ b′ s (omega arith) (omega arith) (omega arith) qs in
+      let ns : length s′ ≡ length a′ + length b′ - 1 = ap length es ∙ length-convolution F a′ b′ in
+      unscale-is F most s′ out (omega arith) (fits .short) qo
+      ∙ ap (λ x. unscaled F (length out) (seriesOf F x)) (es ∙ ap₂ (convolution F) ea eb)
+      ∙ product-words f g (length out) (fits .first) (fits .second) (fits .size)
+
+  -- f times the first m of an array of ones
+  pub raise-is : {p : ℕ} (f out : List ℕ) (m : ℕ) {out′ : List ℕ} → RaiseFits p most f out → m ≡ length out - length f + 1
+      → out′ ≡ product F f (take m (replicate most 1)) → out′ ≡ raise F (naiveDegree out) f
+  unfolding naiveDegree
+  raise-is f out m fits e q =
+      q
+      ∙ ap (λ k. product F f (take k (replicate most 1))) size
+      ∙ ap (product F f) (ones-is most (naiveDegree out - naiveDegree f) (omega arith))
+      ∙ sym (raise-product F (naiveDegree out) f (omega arith))
+    where
+      size : m ≡ suc (naiveDegree out - naiveDegree f)
+      size = let l = fits .list .some in let r = fits .room in omega arith

@@ -1,0 +1,62 @@
+-- `products::judge_product` meets its contract: the tests stand in the order of the numbers.
+-- Assumes nothing.
+use mathlib.Core.Path.{sym, _∙_}
+use native.Mathlib.Omega.{arith}
+use lib.Dec.{lit<}
+use borrow.Author.Needs.{needs}
+use Rattle.products.proofs.Judged.{product-refused, product-over, product-misfit, product-done}
+use Rattle.products.proofs.judge_product.Statement.{statement}
+use Rattle.products.proofs.judge_product.Tie as tie
+
+judge-lists-requires : tie.Need-judge-lists-requires
+judge-lists-requires c κs = search needs
+
+enum-known-why : tie.Need-enum-known-why
+enum-known-why c = search needs
+
+returns : tie.Need-returns
+returns c =
+    product-refused 65521 (lit< tt) _ _ _
+    (sym (c .before .before .before .judge-lists .ensures) ∙ c .before .why .given .1)
+
+enum-told : tie.Need-enum-told
+enum-told c = search needs
+
+add-if1 : tie.Need-add-if1
+add-if1 c = search needs
+
+returns-2 : tie.Need-returns-2
+returns-2 c =
+    product-over 65521 (lit< tt) _ _ _
+    (sym (c .before .before .before .judge-lists .ensures) ∙ c .before .enum-told .given .1) (omega arith)
+
+add-if2 : tie.Need-add-if2
+add-if2 c = search needs
+
+add-if2-2 : tie.Need-add-if2-2
+add-if2-2 c = search needs
+
+returns-3 : tie.Need-returns-3
+returns-3 c =
+    product-misfit 65521 (lit< tt) _ _ _
+    (sym (c .before .before .before .before .judge-lists .ensures) ∙ c .before .before .enum-told .given .1) (omega arith) (c .if2 .taken)
+
+returns-4 : tie.Need-returns-4
+returns-4 c =
+    product-done 65521 (lit< tt) _ _ _
+    (sym (c .before .before .before .before .judge-lists .ensures) ∙ c .before .before .enum-told .given .1) (omega arith) (omega arith)
+
+pub judge-product-spec : {M : Type 1} → statement M
+judge-product-spec =
+    tie.close
+    (tie.spec
+    judge-lists-requires
+    enum-known-why
+    returns
+    enum-told
+    add-if1
+    returns-2
+    add-if2
+    add-if2-2
+    returns-3
+    returns-4)

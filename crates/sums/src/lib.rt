@@ -1,0 +1,105 @@
+// Sum and difference of lists.
+ghost use mathlib.Core.Path.{_≡_};
+ghost use mathlib.Core.Bool.{cond};
+ghost use mathlib.Core.List.{[]};
+ghost use Prim.Native.Nat.{_+_, _-_, _%_};
+ghost use lib.ListN.{length};
+ghost use Rattle.algebra.specs.PrimeField.{F65521};
+ghost use Rattle.refusal.specs.Limits.{maxWords};
+ghost use Rattle.refusal.specs.Refusal.{reply, outcomeReply, written};
+ghost use Rattle.refusal.specs.Lowest.{lowest};
+ghost use Rattle.field.specs.Field.{p};
+ghost use Rattle.lists.specs.Operations as of;
+ghost use Rattle.sums.specs.Calls.{sumRefusals};
+ghost use Rattle.sums.specs.Workers.{SumFits, combinedWords, combined};
+use lists::NaiveDegree;
+use refusal::Outcome;
+use refusal::Refusal;
+
+// The sum of f and g, the shorter list raised first.
+pub fn sum(f: &[u16], g: &[u16], out: &mut [u16]) -> Outcome
+    ensures answer { λ r. ⌜ outcomeReply r ≡ reply (lowest (sumRefusals p (now (f .entry)) (now (g .entry)) (now (out .entry)))) [] ⌝ }
+    ensures writes { λ _. ⌜ now (out .exit) ≡ written (lowest (sumRefusals p (now (f .entry)) (now (g .entry)) (now (out .entry)))) (of.sumOf F65521 (now (f .entry)) (now (g .entry))) (now (out .entry)) ⌝ }
+{
+    let answer = judge_sum(f, g, out);
+    match answer {
+        Outcome::Done => {
+            combine_into(f, g, false, out);
+        }
+        Outcome::Refused(_) => {}
+    }
+    answer
+}
+
+// f less g, the shorter list raised first.
+pub fn difference(f: &[u16], g: &[u16], out: &mut [u16]) -> Outcome
+    ensures answer { λ r. ⌜ outcomeReply r ≡ reply (lowest (sumRefusals p (now (f .entry)) (now (g .entry)) (now (out .entry)))) [] ⌝ }
+    ensures writes { λ _. ⌜ now (out .exit) ≡ written (lowest (sumRefusals p (now (f .entry)) (now (g .entry)) (now (out .entry)))) (of.differenceOf F65521 (now (f .entry)) (now (g .entry))) (now (out .entry)) ⌝ }
+{
+    let answer = judge_sum(f, g, out);
+    match answer {
+        Outcome::Done => {
+            combine_into(f, g, true, out);
+        }
+        Outcome::Refused(_) => {}
+    }
+    answer
+}
+
+// What a sum and a difference refuse.
+fn judge_sum(f: &[u16], g: &[u16], out: &[u16]) -> Outcome
+    ensures { λ r. ⌜ r ≡ lowest (sumRefusals p (now (f .entry)) (now (g .entry)) (now (out .entry))) ⌝ }
+{
+    if let Outcome::Refused(of_lists) = lists::judge_lists(f, g) {
+        return Outcome::Refused(of_lists);
+    }
+    if out.len() != lists::larger(f.len(), g.len()) {
+        return Outcome::Refused(Refusal::Misfit);
+    }
+    Outcome::Done
+}
+
+// a plus b, or a less b.
+fn combine_word(a: u16, b: u16, minus: bool) -> u16
+    ensures { λ r. ⌜ r ≡ cond minus ((a + (p - b % p)) % p) ((a + b) % p) ⌝ }
+{
+    if minus {
+        field::sub(a, b)
+    } else {
+        field::add(a, b)
+    }
+}
+
+// The same word by word.
+fn combine_words(a: &[u16], b: &[u16], minus: bool, out: &mut [u16])
+    requires { ⌜ (length (now a) ≡ length (now out)) × (length (now b) ≡ length (now out)) ⌝ }
+    ensures { λ _. ⌜ now (out .exit) ≡ combinedWords F65521 minus (now (a .entry)) (now (b .entry)) ⌝ }
+{
+    let mut k = 0;
+    while k < out.len() {
+        out[k] = combine_word(a[k], b[k], minus);
+        k += 1;
+    }
+}
+
+// f and g raised into a and b, and their sum or difference.
+fn combine_in(f: &[u16], g: &[u16], minus: bool, a: &mut [u16], b: &mut [u16], out: &mut [u16])
+    requires { ⌜ SumFits p maxWords (now f) (now g) (now out) ⌝ }
+    requires { ⌜ (length (now a) ≡ length (now out)) × (length (now b) ≡ length (now out)) ⌝ }
+    ensures { λ _. ⌜ now (out .exit) ≡ combined F65521 minus (now (f .entry)) (now (g .entry)) ⌝ }
+{
+    let degree = out.len() - 1;
+    products::raise(f, NaiveDegree(degree), a);
+    products::raise(g, NaiveDegree(degree), b);
+    combine_words(a, b, minus, out);
+}
+
+fn combine_into(f: &[u16], g: &[u16], minus: bool, out: &mut [u16])
+    requires { ⌜ SumFits p maxWords (now f) (now g) (now out) ⌝ }
+    ensures { λ _. ⌜ now (out .exit) ≡ combined F65521 minus (now (f .entry)) (now (g .entry)) ⌝ }
+{
+    let n = out.len();
+    let mut a = [0u16; refusal::MAX_WORDS];
+    let mut b = [0u16; refusal::MAX_WORDS];
+    combine_in(f, g, minus, &mut a[..n], &mut b[..n], out);
+}

@@ -10,7 +10,7 @@ use lib.ListN.{length, take, drop, length-append, length-drop, drop-of-length-le
 use lib.Seq.{take-at, drop-at, take-all, length-take-le}
 use borrow.Author.Tests.{le-leb}
 use Rattle.reduction.specs.Reduction.{lessProduct, lessProductFits}
-use Rattle.reduction.specs.Steps.{length-lessProduct}
+use Rattle.reduction.proofs.Steps.{length-lessProduct}
 use Rattle.cofactors.specs.Workers.{partX, partS, partT}
 
 -- the lengths of the parts

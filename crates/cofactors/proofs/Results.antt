@@ -14,8 +14,7 @@ use Rattle.algebra.specs.PrimeField.{PrimeField, scalarField, residue, scalars,
 use Rattle.lists.specs.Degrees.{significant, naiveDegree}
 use Rattle.lists.specs.Extents.{significant-le}
 use Rattle.lists.specs.Lists.{scaled, binomial, unscaled}
-use Rattle.lists.specs.Words.{seriesOf, coeff-seriesOf}
-use Rattle.reduction.specs.Steps.{Low}
+use Rattle.lists.specs.Words.{seriesOf, coeff-seriesOf, Low}
 use Rattle.rounds.specs.Round.{writeFits, writtenList}
 use Rattle.rounds.proofs.Turns.{write-fits}
 use Rattle.gcd.specs.Workers.{euclidOn}

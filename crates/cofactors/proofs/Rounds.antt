@@ -11,7 +11,8 @@ use Rattle.algebra.specs.Ring.{CommRing}
 use Rattle.algebra.specs.Euclid.{next-acc, done-acc}
 use Rattle.algebra.specs.PrimeField.{PrimeField, scalarField}
 use Rattle.lists.specs.Degrees.{significant}
-use Rattle.reduction.specs.Steps.{Low, less-product-low, length-lessProduct}
+use Rattle.lists.specs.Words.{Low}
+use Rattle.reduction.proofs.Steps.{less-product-low, length-lessProduct}
 use Rattle.rounds.specs.Round.{remaining, quotientWords}
 use Rattle.rounds.proofs.Turns.{end-euclid, round-fits, round-euclid, round-quotient, length-remaining}
 use Rattle.gcd.specs.Workers.{Buffer, euclidOn}

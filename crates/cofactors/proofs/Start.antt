@@ -12,9 +12,8 @@ use Rattle.algebra.specs.Ring.{CommRing, RING}
 use Rattle.algebra.specs.Series.{coeff-0, coeff-1-zero, coeff-1-suc}
 use Rattle.algebra.specs.PrimeField.{PrimeField, positive, residue, residue-0, residue-1}
 use Rattle.lists.specs.Lists.{scaled}
-use Rattle.lists.specs.Words.{scaledWords}
+use Rattle.lists.specs.Words.{scaledWords, Low}
 use Rattle.kernels.specs.Kernels.{scaleFits}
-use Rattle.reduction.specs.Steps.{Low}
 use Rattle.gcd.specs.Workers.{Holds}
 use Rattle.gcd.proofs.Buffers.{holds-scaled}
 use Rattle.gcd.proofs.Turning.{turning-start}

@@ -27,9 +27,8 @@ use Rattle.algebra.specs.Euclid.{Euclid}
 use Rattle.algebra.specs.PrimeField.{PrimeField, scalarField, scalars, inverse}
 use Rattle.lists.specs.Degrees.{significant, naiveDegree}
 use Rattle.lists.specs.Lists.{unscaled}
-use Rattle.lists.specs.Words.{seriesOf}
+use Rattle.lists.specs.Words.{seriesOf, Low}
 use Rattle.reduction.specs.Reduction.{lessProduct}
-use Rattle.reduction.specs.Steps.{Low}
 use Rattle.rounds.specs.Round.{remaining, quotientWords}
 use Rattle.gcd.specs.Workers.{Buffer, Holds, euclidOn, monicList}
 use Rattle.gcd.specs.Workers.{Turning}

@@ -19,7 +19,7 @@ use Rattle.lists.specs.Words.{seriesOf, scaledWords, length-scaledWords, Carrie
 use Rattle.kernels.specs.Kernels.{scaleFits, unscaleFits}
 use Rattle.kernels.proofs.Fits.{scale-is, unscale-is}
 use Rattle.reduction.specs.Reduction.{reduced, digits, reduceFits}
-use Rattle.reduction.specs.Steps.{reduced-remainder, digits-quotient, length-reduced, length-digits}
+use Rattle.reduction.proofs.Steps.{reduced-remainder, digits-quotient, length-reduced, length-digits}
 use Rattle.reduction.proofs.Loops.{reduce-fits}
 use Rattle.euclid.specs.Quotients.{steps, quotientOf, remainderOf}
 use Rattle.reduction.proofs.Loops.{reduce-fits}

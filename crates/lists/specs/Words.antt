@@ -2,6 +2,7 @@
 --     seriesOf          the series whose coefficient k is word k
 --     scaledWords       the coefficients of a list's scaled form, as words
 --     Carries           the words are below p, and word k stands for coefficient k of the series
+--     Low n             the same as far as word n - 1
 -- Assumes nothing.
 use mathlib.Core.Path.{_≡_, sym, _∙_, ap}
 use mathlib.Core.List.{List}
@@ -65,6 +66,10 @@ module _ (F : PrimeField) where
   pub record Carries (buf : List ℕ) (s : S) : Type 0 where
     pub below : (k : ℕ) → getD buf k 0 < F .p
     pub at : (k : ℕ) → residue F (getD buf k 0) ≡ F .series .coeff s k
+
+  pub record Low (n : ℕ) (buf : List ℕ) (s : S) : Type 0 where
+    pub below : (k : ℕ) → getD buf k 0 < F .p
+    pub at : (k : ℕ) → k < n → residue F (getD buf k 0) ≡ F .series .coeff s k
 
   pub carries-seriesOf : {buf : List ℕ} → ((k : ℕ) → getD buf k 0 < F .p) → Carries buf (seriesOf buf)
   carries-seriesOf {buf} h = record { below = h; at = λ k. sym (coeff-seriesOf buf k) }

@@ -29,7 +29,7 @@ use Rattle.lists.specs.Extents.{significant-le, after-significant, significantI
 use Rattle.lists.specs.Words.{seriesOf, coeff-seriesOf, Carries, carries-seriesOf, carries-zero, carries-nonzero, seriesOf-carries}
 use Rattle.lists.proofs.Parts.{getD-then-zeros}
 use Rattle.reduction.specs.Reduction.{reduced, digits}
-use Rattle.reduction.specs.Steps.{length-reduced, length-digits, reduced-remainder, digits-quotient}
+use Rattle.reduction.proofs.Steps.{length-reduced, length-digits, reduced-remainder, digits-quotient}
 use Rattle.rounds.specs.Round.{lastWord, roundSteps, roundFits, remaining, quotientWords, writeFits}
 
 -- the significant words are all that a list says

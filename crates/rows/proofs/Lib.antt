@@ -1,2 +1,3 @@
+pub mod RowWords
 pub mod Loops
 pub mod Montgomery

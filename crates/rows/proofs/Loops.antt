@@ -14,7 +14,7 @@ use lib.ListN.{length, getD, take, drop, set, length-set, length-drop, drop-of-l
 use lib.Seq.{getD-set-same, getD-set-other, getD-drop, take-all}
 use borrow.Author.Tests.{lt-ltb, le-ltb}
 use Rattle.lists.specs.Tabulate.{tabulated}
-use Rattle.rows.specs.RowWords.{length-rowFrom, rowFrom-low, rowFrom-at, rowFrom-above}
+use Rattle.rows.proofs.RowWords.{length-rowFrom, rowFrom-low, rowFrom-at, rowFrom-above}
 use Rattle.rows.specs.Rows.{rowAt, row, rowFrom, Partway}
 
 pub start : (p : ℕ) (x : List ℕ) (m : ℕ) (y : List ℕ) → Partway p x m y x 0

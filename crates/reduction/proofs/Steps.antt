@@ -1,6 +1,5 @@
 -- The steps of the division on words are those on series: for every prime field F, on words modulo p = F .p.
 --     length-reduced, length-digits, length-lessProduct     the lengths of the steps' lists
---     Low n                                 the words are below p, and each word below n stands for its coefficient of the series
 --     row-series, row-low                   a row step adds m · u^k times a series
 --     negated-residue, digit-residue        the words of a step stand for minus an element, and for the quotient's coefficient
 --     step-series                           one step of the division
@@ -24,10 +23,10 @@ use Rattle.algebra.specs.Sum.{sum, sum-zero, sum-suc}
 use Rattle.algebra.specs.Division as D
 use Rattle.algebra.specs.Division.{coeff-monomial-mul, coeff-monomial-mul-low, coeff-monomial-low, step, remainder, quotient, remainder-zero, remainder-suc, quotient-zero, quotient-below, coeff-quotient-top, coeff-quotient-low}
 use Rattle.algebra.specs.PrimeField.{PrimeField, scalars, scalarField, positive, residue, residue-0, residue-add, residue-mul, residue-neg, residue-mod, residue-mul-mod}
-use Rattle.lists.specs.Words.{Carries, carries-zero, carries-below}
+use Rattle.lists.specs.Words.{Carries, Low, carries-zero, carries-below}
 use Rattle.rows.specs.Rows.{rowFrom}
 use Rattle.reduction.specs.Reduction.{negated, digit, reduced, digits, lessProductTo, lessProduct}
-use Rattle.rows.specs.RowWords.{length-rowFrom, rowFrom-low, rowFrom-at, rowFrom-above, rowFrom-below}
+use Rattle.rows.proofs.RowWords.{length-rowFrom, rowFrom-low, rowFrom-at, rowFrom-above, rowFrom-below}
 
 pub length-reduced : (p inv : ℕ) (y : List ℕ) (k : ℕ) (x : List ℕ) → length (reduced p inv y k x) ≡ length x
 unfolding reduced
@@ -64,10 +63,6 @@ module _ (F : PrimeField) where
   infixl 65 _+ˢ_
   infixl 70 _*ˢ_
   infix 80 -ˢ_
-  pub record Low (n : ℕ) (buf : List ℕ) (s : S) : Type 0 where
-    pub below : (j : ℕ) → getD buf j 0 < F .p
-    pub at : (j : ℕ) → j < n → residue F (getD buf j 0) ≡ F .series .coeff s j
-
   pub negated-residue : (a : ℕ) → residue F (negated (F .p) a) ≡ ⊖ residue F a
   unfolding negated
   negated-residue a = residue-mod F (F .p - a % F .p) ∙ residue-neg F a
@@ -121,8 +116,8 @@ module _ (F : PrimeField) where
       go j (yes l) = row-low-word k m x y s r j l (cx .at j)
       go j (no l) = let e : j ≡ k + (j - k) = omega arith in rw e (from (j - k) (decLt (j - k) (length y)))
 
-  pub row-low : (n k m : ℕ) {x y : List ℕ} {s r : S} → Low n x s → Low n y r → n ≤ length x → n ≤ length y
-      → Low n (rowFrom (F .p) k x m y) (s +ˢ monomial (F .series) (residue F m) k *ˢ r)
+  pub row-low : (n k m : ℕ) {x y : List ℕ} {s r : S} → Low F n x s → Low F n y r → n ≤ length x → n ≤ length y
+      → Low F n (rowFrom (F .p) k x m y) (s +ˢ monomial (F .series) (residue F m) k *ˢ r)
   row-low n k m {x} {y} {s} {r} cx cy lx ly =
       record { below = rowFrom-below (F .p) k x m y (positive F) (cx .below); at = λ j l. go j l (decLt j k) }
     where
@@ -251,16 +246,16 @@ module _ (F : PrimeField) where
       go j (yes l) = coeff-terms n c j l
       go j (no l) = below-terms n c .at j (omega arith) ∙ sym (h .at j (omega arith))
 
-  module _ (n : ℕ) {s q t : List ℕ} {a b c : S} (ls : Low n s a) (lt : Low n t b) (cq : Carries F q c)
+  module _ (n : ℕ) {s q t : List ℕ} {a b c : S} (ls : Low F n s a) (lt : Low F n t b) (cq : Carries F q c)
       (ns : n ≤ length s) (nt : n ≤ length t) where
-    less-terms-low : (k : ℕ) → Low n (lessProductTo (F .p) k s q t) (a +ˢ -ˢ (terms k c *ˢ b))
+    less-terms-low : (k : ℕ) → Low F n (lessProductTo (F .p) k s q t) (a +ˢ -ˢ (terms k c *ˢ b))
     unfolding lessProductTo terms
-    less-terms-low zero = subst (λ z. Low n s z) (sym (ap (λ z. a +ˢ -ˢ (z *ˢ b)) (sum-zero (F .series) _) ∙ none a b)) ls
+    less-terms-low zero = subst (λ z. Low F n s z) (sym (ap (λ z. a +ˢ -ˢ (z *ˢ b)) (sum-zero (F .series) _) ∙ none a b)) ls
       where
         none : (a b : S) → a +ˢ -ˢ (0ˢ *ˢ b) ≡ a
         none a b = simp RING
     less-terms-low (suc k) =
-        subst (λ z. Low n (lessProductTo (F .p) (suc k) s q t) z)
+        subst (λ z. Low F n (lessProductTo (F .p) (suc k) s q t) z)
         (minus (getD q k 0) k (a +ˢ -ˢ (terms k c *ˢ b)) b (cq .at k)
         ∙ one a (terms k c) (monomial (F .series) (F .series .coeff c k) k) b
         ∙ ap (λ z. a +ˢ -ˢ (z *ˢ b)) (sym (sum-suc (F .series) k _)))
@@ -270,8 +265,8 @@ module _ (F : PrimeField) where
         one : (a x y b : S) → a +ˢ -ˢ (x *ˢ b) +ˢ -ˢ (y *ˢ b) ≡ a +ˢ -ˢ ((x +ˢ y) *ˢ b)
         one a x y b = simp RING
 
-    pub less-product-low : Low n (lessProduct (F .p) s q t) (a +ˢ -ˢ (c *ˢ b))
+    pub less-product-low : Low F n (lessProduct (F .p) s q t) (a +ˢ -ˢ (c *ˢ b))
     unfolding lessProduct
     less-product-low =
-        subst (λ z. Low n (lessProductTo (F .p) (length q) s q t) (a +ˢ -ˢ (z *ˢ b))) (terms-all (length q) (carries-below F cq))
+        subst (λ z. Low F n (lessProductTo (F .p) (length q) s q t) (a +ˢ -ˢ (z *ˢ b))) (terms-all (length q) (carries-below F cq))
         (less-terms-low (length q))

@@ -1,11 +1,11 @@
--- The sum of all rows, reduced, is the product.
+-- The product in whole numbers, reduced, is the product of the series.
 -- Assumes nothing.
 use mathlib.Core.Path.{_≡_, sym, ap, ap₂, _∙_}
 use mathlib.Core.Bool.{cond}
 use mathlib.Core.List.{List}
 use Prim.Native.Nat.{ℕ, zero, suc, _+_, _-_, _*_, _%_, _≤_, _<_}
 use native.Mathlib.Decide.{decLt}
-use native.Mathlib.Nat.{mod-lt, zero-add, mul-zero, zero-mul}
+use native.Mathlib.Nat.{mod-lt, mul-zero}
 use native.Mathlib.Omega.{arith}
 use lib.ListN.{length, getD}
 use borrow.Author.Tests.{eq-eqb, le-leb}
@@ -15,9 +15,10 @@ use Rattle.algebra.specs.PrimeField.{PrimeField, scalars, positive, residue, va
 use Rattle.lists.specs.Tabulate.{tabulate, length-tabulate, getD-tabulate, tabulate-ext}
 use Rattle.lists.specs.Words.{seriesOf, coeff-seriesOf, value-is}
 use Rattle.convolution.specs.Convolution.{convolveFits, convolution}
-use Rattle.convolution.specs.Rows.{Shifted, rowSum, Summed, remainders}
+use Rattle.convolution.specs.Rows.{rowSum, behind, Whole, remainders}
 use Rattle.convolution.proofs.Sums.{sum-more}
-use Rattle.convolution.proofs.Buffers.{ends-are}
+use Rattle.convolution.proofs.Halves.{behind-lead, behind-at}
+use Rattle.convolution.proofs.Whole.{all-rows}
 
 pub length-remainders : (p n : ℕ) (s : List ℕ) → length (remainders p n s) ≡ n
 unfolding remainders
@@ -44,42 +45,38 @@ module _ (F : PrimeField) where
   productAt : (a b : List ℕ) → ℕ → ℕ
   productAt a b k = value F (F .series .coeff (F .series .ring .mul (seriesOf F a) (seriesOf F b)) k)
 
-  module _ (a b x w : List ℕ) (f : Shifted 0 a x) (g : Shifted 7 b w) where
+  module _ (a b : List ℕ) where
     -- no row beyond k, or beyond a, has a word at k
-    all-rows : (k : ℕ) → rowSum x w k (length a) ≡ rowSum x w k (suc k)
-    all-rows k = go (decLt k (length a))
+    all-words : (k : ℕ) → rowSum a (behind b) k (length a) ≡ rowSum a (behind b) k (suc k)
+    all-words k = go (decLt k (length a))
       where
-        go : Dec (k < length a) → rowSum x w k (length a) ≡ rowSum x w k (suc k)
+        go : Dec (k < length a) → rowSum a (behind b) k (length a) ≡ rowSum a (behind b) k (suc k)
         go (yes l) =
-            sum-more x w k (suc k) (length a) l
-            (λ j p q. ap (λ y. getD x j 0 * y) (g .lead (k + 7 - j) (omega arith)) ∙ mul-zero _)
-        go (no l) =
-            sym
-            (sum-more x w k (length a) (suc k) (omega arith)
-            (λ j p q. ap (λ y. y * getD w (k + 7 - j) 0) (ends-are f .at j p) ∙ zero-mul _))
+            sum-more a (behind b) k (suc k) (length a) l
+            (λ j p q. ap (λ y. getD a j 0 * y) (behind-lead b (k + 7 - j) (omega arith)) ∙ mul-zero _)
+        go (no l) = sym (all-rows a b k (suc k) (omega arith))
 
-    coefficient-is : (k : ℕ) → residue F (rowSum x w k (length a)) ≡ F .series .coeff (F .series .ring .mul (seriesOf F a) (seriesOf F b)) k
+    coefficient-is : (k : ℕ) → residue F (rowSum a (behind b) k (length a)) ≡ F .series .coeff (F .series .ring .mul (seriesOf F a) (seriesOf F b)) k
     unfolding term
     coefficient-is k =
-        ap (residue F) (all-rows k)
-        ∙ residue-sum x w k (suc k)
+        ap (residue F) (all-words k)
+        ∙ residue-sum a (behind b) k (suc k)
         ∙ sym
         (coeff-product (F .series) (seriesOf F a) (seriesOf F b) k
-        ∙ total-ext (scalars F) (suc k) _ (term x w k) (λ j l. ap₂ (λ y z. y ⊗ z) (first j) (second j l)))
+        ∙ total-ext (scalars F) (suc k) _ (term a (behind b) k) (λ j l. ap₂ (λ y z. y ⊗ z) (coeff-seriesOf F a j) (second j l)))
       where
-        first : (j : ℕ) → F .series .coeff (seriesOf F a) j ≡ residue F (getD x j 0)
-        first j = coeff-seriesOf F a j ∙ ap (residue F) (sym (f .at j) ∙ ap (λ i. getD x i 0) (zero-add j))
-
         place : (k j : ℕ) → j < suc k → 7 + (k - j) ≡ k + 7 - j
         place k j l = omega arith
 
-        second : (j : ℕ) → j < suc k → F .series .coeff (seriesOf F b) (k - j) ≡ residue F (getD w (k + 7 - j) 0)
-        second j l = coeff-seriesOf F b (k - j) ∙ ap (residue F) (sym (g .at (k - j)) ∙ ap (λ i. getD w i 0) (place k j l))
+        second : (j : ℕ) → j < suc k → F .series .coeff (seriesOf F b) (k - j) ≡ residue F (getD (behind b) (k + 7 - j) 0)
+        second j l =
+            coeff-seriesOf F b (k - j)
+            ∙ ap (residue F) (sym (behind-at b (k - j)) ∙ ap (λ i. getD (behind b) i 0) (place k j l))
 
-    pub convolution-is : {m : ℕ} → F .p ≡ m → {s : List ℕ} (n : ℕ) → n + 1 ≡ length a + length b → n ≤ length s
-        → Summed x w s (length a) → remainders m n s ≡ convolution F a b
+    pub convolution-is : {m : ℕ} → F .p ≡ m → {s : List ℕ} (n : ℕ) → n + 1 ≡ length a + length b → Whole a b s
+        → remainders m n s ≡ convolution F a b
     unfolding remainders convolution productAt
-    convolution-is {m} q {s} n e l h = tabulate-ext n _ _ word ∙ ap (λ i. tabulate i (productAt a b)) (omega arith)
+    convolution-is {m} q {s} n e h = tabulate-ext n _ _ word ∙ ap (λ i. tabulate i (productAt a b)) (omega arith)
       where
         word : (k : ℕ) → k < n → getD s k 0 % m ≡ productAt a b k
         word k j =

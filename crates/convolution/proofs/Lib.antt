@@ -1,4 +1,9 @@
 pub mod Sums
 pub mod Rows
-pub mod Buffers
+pub mod Joining
+pub mod Blocks
+pub mod Halves
+pub mod Cuts
+pub mod Laying
+pub mod Whole
 pub mod Convolution

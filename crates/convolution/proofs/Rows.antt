@@ -1,59 +1,73 @@
--- The loops that add the rows up: eight rows word by word, and eight rows after eight.
+-- What the crate `wide_rows` adds up are the rows of a product, where the factors are small and stand between zeros.
 -- Assumes nothing.
-use mathlib.Core.Path.{_≡_, sym, ap, _∙_}
+use mathlib.Core.Path.{_≡_, sym, ap, ap₂, _∙_}
 use mathlib.Core.List.{List}
-use Prim.Native.Nat.{ℕ, _+_, _-_, _*_, _≤_, _<_}
-use native.Mathlib.Decide.{ℕ-discrete, decLt}
-use native.Mathlib.Nat.{mul-zero, zero-mul}
+use Prim.Native.Nat.{ℕ, zero, suc, _+_, _-_, _*_, _/_, _%_, _^_, _≤_, _<_}
+use native.Mathlib.Decide.{decLt}
+use native.Mathlib.Nat.{add-zero, add-suc, add-assoc, mul-zero, mod-eq-of-lt}
+use native.Mathlib.Numerals.{add-one}
 use native.Mathlib.Omega.{arith}
-use lib.ListN.{length, getD, set, length-set}
-use lib.Seq.{getD-set-same, getD-set-other}
-use Rattle.convolution.specs.Rows.{Ends, Strip, rowSum, Summed}
-use Rattle.convolution.proofs.Sums.{sum-none, sum-more}
+use lib.ListN.{length, getD}
+use Rattle.wide_rows.specs.Rows.{dot, grown, withRows}
+use Rattle.wide_rows.proofs.Dots.{dot-none, dot-next}
+use Rattle.wide_rows.proofs.Groups.{grown-none, grown-within, grown-below, grown-above, word-added}
+use Rattle.convolution.specs.Rows.{Ends, Factors, Strip, rowSum, Summed}
+use Rattle.convolution.proofs.Sums.{sum-none, sum-next, sum-more, sum-le}
 
-module _ (a b : List ℕ) where
-  -- the words below k have eight rows more
-  pub record Partway (i k : ℕ) (s : List ℕ) : Type 0 where
-    pub done : (j : ℕ) → j < k → j < length s → getD s j 0 ≡ rowSum a b j (i + 8)
-    pub todo : (j : ℕ) → k ≤ j → j < length s → getD s j 0 ≡ rowSum a b j i
-
-  -- eight rows whose words at j are 0
-  eight-none : (i j : ℕ) → ((n : ℕ) → i ≤ n → n < i + 8 → getD b (j + 7 - n) 0 ≡ 0) → rowSum a b j i ≡ rowSum a b j (i + 8)
-  eight-none i j h = sym (sum-more a b j i (i + 8) (omega arith) (λ n l g. ap (λ x. getD a n 0 * x) (h n l g) ∙ mul-zero _))
-
-  -- the eight rows begin at word i
-  pub part-start : {m : ℕ} {s : List ℕ} (i : ℕ) → Strip m b → Summed a b s i → Partway i i s
-  part-start i z h =
-      record {
-        done = λ j l g. h .at j g ∙ eight-none i j (λ n p q. z .lead (j + 7 - n) (omega arith));
-        todo = λ j l g. h .at j g;
-      }
-
-  pub part-step : {i k : ℕ} {s : List ℕ} (v : ℕ) → Partway i k s → k < length s → v ≡ rowSum a b k (i + 8) → Partway i (k + 1) (set s k v)
-  part-step {i} {k} {s} v h p e =
-      record {
-        done = λ j l g. go j l (rw length-set at g) (ℕ-discrete j k);
-        todo = λ j l g. getD-set-other s k j v 0 (omega arith) ∙ h .todo j (omega arith) (rw length-set at g);
-      }
+module _ (a b : List ℕ) (f : Factors a b) where
+  -- a group of eight rows that reaches word k
+  dot-is : (k g n : ℕ) → 8 * g ≤ k → rowSum a b k (8 * g + n) ≡ rowSum a b k (8 * g) + dot a b (8 * g) (k - 8 * g) n
+  dot-is k g zero l = ap (rowSum a b k) (add-zero (8 * g)) ∙ sym (ap (λ u. rowSum a b k (8 * g) + u) (dot-none a b (8 * g) (k - 8 * g)) ∙ add-zero _)
+  dot-is k g (suc n) l =
+      ap (rowSum a b k) (place n)
+      ∙ sum-next a b k (8 * g + n)
+      ∙ ap₂ (λ u v. u + v) (dot-is k g n l) (ap₂ (λ u v. u * v) first second)
+      ∙ add-assoc _ _ _
+      ∙ ap (λ u. rowSum a b k (8 * g) + u) (sym (ap (dot a b (8 * g) (k - 8 * g)) (sym (add-one n)) ∙ dot-next a b (8 * g) (k - 8 * g) n))
     where
-      go : (j : ℕ) → j < k + 1 → j < length s → Dec (j ≡ k) → getD (set s k v) j 0 ≡ rowSum a b j (i + 8)
-      go j l g (yes q) = rw q (getD-set-same s k v 0 p ∙ e)
-      go j l g (no q) = getD-set-other s k j v 0 q ∙ h .done j (omega arith) g
+      place : (n : ℕ) → 8 * g + suc n ≡ 8 * g + n + 1
+      place n = omega arith
 
-  -- and end before word i + m
-  pub part-end : {m i k : ℕ} {s : List ℕ} → Strip m b → Partway i k s → i + m ≤ k → Summed a b s (i + 8)
-  part-end {m} {i} {k} {s} z h p = record { at = λ j l. go j l (decLt j k) }
-    where
-      go : (j : ℕ) → j < length s → Dec (j < k) → getD s j 0 ≡ rowSum a b j (i + 8)
-      go j l (yes q) = h .done j q l
-      go j l (no q) = h .todo j (omega arith) l ∙ eight-none i j (λ n t u. z .tail (j + 7 - n) (omega arith))
+      back : (k n : ℕ) → 8 * g ≤ k → k + 7 - (8 * g + n) ≡ k - 8 * g + 7 - n
+      back k n l = omega arith
 
-  pub rows-start : {s : List ℕ} → Ends 0 s → Summed a b s 0
-  rows-start z = record { at = λ k l. z .at k (omega arith) ∙ sym (sum-none a b k) }
+      first : getD a (8 * g + n) 0 ≡ getD a (8 * g + n) 0 % 16777216
+      first = sym (mod-eq-of-lt {m = 16777216} (omega (arith, f .first (8 * g + n))))
 
-  -- the rows from n on are 0
-  pub rows-end : {i : ℕ} {s : List ℕ} (n : ℕ) → Ends n a → n ≤ i → Summed a b s i → Summed a b s n
-  rows-end {i} n z l h =
-      record {
-        at = λ k g. h .at k g ∙ sum-more a b k n i l (λ j p q. ap (λ x. x * getD b (k + 7 - j) 0) (z .at j p) ∙ zero-mul _);
-      }
+      second : getD b (k + 7 - (8 * g + n)) 0 ≡ getD b (k - 8 * g + 7 - n) 0 % 4294967296
+      second =
+          ap (λ j. getD b j 0) (back k n l) ∙ sym (mod-eq-of-lt {m = 4294967296} (omega (arith, f .second (k - 8 * g + 7 - n))))
+
+  -- eight rows whose words at k are 0
+  eight-none : (g k : ℕ) → ((n : ℕ) → 8 * g ≤ n → n < 8 * g + 8 → getD b (k + 7 - n) 0 ≡ 0) → rowSum a b k (8 * g) ≡ rowSum a b k (8 * g + 8)
+  eight-none g k h =
+      sym (sum-more a b k (8 * g) (8 * g + 8) (omega arith) (λ n l t. ap (λ x. getD a n 0 * x) (h n l t) ∙ mul-zero _))
+
+  module _ (m : ℕ) (z : Strip m b) (e : length b ≡ m + 7) where
+    grown-is : (k g : ℕ) → 8 * g ≤ length a → grown a b k 0 g ≡ rowSum a b k (8 * g)
+    grown-is k zero l = grown-none a b k 0 0 ∙ sym (sum-none a b k)
+    grown-is k (suc g) l =
+        ap (grown a b k 0) (sym (add-one g)) ∙ go (grown-is k g (omega arith)) (decLt k (8 * g)) (decLt (8 * g + length b) (k + 8)) ∙ ap (rowSum a b k) (place g)
+      where
+        place : (g : ℕ) → 8 * g + 8 ≡ 8 * suc g
+        place g = omega arith
+
+        go : grown a b k 0 g ≡ rowSum a b k (8 * g) → Dec (k < 8 * g) → Dec (8 * g + length b < k + 8) → grown a b k 0 (g + 1) ≡ rowSum a b k (8 * g + 8)
+        go before (yes h) _ = grown-below a b k 0 g h ∙ before ∙ eight-none g k (λ n p q. z .lead (k + 7 - n) (omega arith))
+        go before (no h) (yes t) =
+            grown-above a b k 0 g (omega arith) t ∙ before ∙ eight-none g k (λ n p q. z .tail (k + 7 - n) (omega arith))
+        go before (no h) (no t) =
+            grown-within a b k 0 g (omega arith) (omega arith)
+            ∙ ap (λ u. (u + dot a b (8 * g) (k - 8 * g) 8) % 2 ^ 64) before
+            ∙ ap (λ u. u % 2 ^ 64) (sym (dot-is k g 8 (omega arith)))
+            ∙ mod-eq-of-lt {m = 2 ^ 64} (omega (arith, sum-le a b k f (8 * g + 8), f .few))
+
+    pub summed-is : (g : ℕ) {s new : List ℕ} → length a ≡ 8 * g → Ends 0 s → length new ≡ length s → new ≡ withRows a b s → Summed a b new (8 * g)
+    summed-is g {s} {new} l o q w =
+        record {
+          at = λ k h.
+              ap (λ u. getD u k 0) w
+              ∙ word-added a b s k (omega arith)
+              ∙ ap₂ (λ u v. grown a b k u v) (o .at k (omega arith)) (omega arith)
+              ∙ grown-is k g (omega arith);
+        }

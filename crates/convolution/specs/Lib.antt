@@ -1,2 +1,3 @@
 pub mod Convolution
 pub mod Rows
+pub mod Halves

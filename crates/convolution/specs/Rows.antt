@@ -1,17 +1,22 @@
 -- A product by rows, in buffers: row j is word j of the first factor times the second. The second factor stands behind 7 zeros, so that
--- eight rows have one range of words.
+-- eight rows have one range of words. A buffer may hold several factors, or several sums, one after the other: its blocks.
 --     Ends          from n on every word is 0
 --     Shifted       d zeros, the words of a list, then zeros
---     Factors       the two factors in their buffers: words of 16 bits, few enough that no sum passes 64 bits
+--     Factors       the two factors in their buffers: words of 17 bits, few enough that no sum passes 64 bits
 --     Strip         what stands before the second factor, and from m on behind it, is 0
 --     rowSum        word k of the sum of the first n rows
 --     Summed        each word of s is that of the sum of the first n rows
+--     block         block t of those of n words
+--     Blocks        so many blocks of 8 g rows, of second factors of v + 1 words, and of their sums, in three buffers
+--     Multiplied    the first t blocks of s are the sums of their rows, the rest is 0
+--     behind        a list behind 7 zeros
+--     Whole         s begins with the words of the product of two lists, in whole numbers
 --     remainders    the first n words of s, reduced
 -- Assumes nothing.
 use mathlib.Core.Path.{_≡_}
-use mathlib.Core.List.{List}
+use mathlib.Core.List.{List, _++_}
 use Prim.Native.Nat.{ℕ, zero, suc, _+_, _-_, _*_, _%_, _≤_, _<_}
-use lib.ListN.{length, getD}
+use lib.ListN.{length, getD, take, drop, replicate}
 use Rattle.lists.specs.Tabulate.{tabulate}
 
 pub record Ends (n : ℕ) (s : List ℕ) : Type 0 where
@@ -22,9 +27,9 @@ pub record Shifted (d : ℕ) (l s : List ℕ) : Type 0 where
   pub at : (k : ℕ) → getD s (d + k) 0 ≡ getD l k 0
 
 pub record Factors (a b : List ℕ) : Type 0 where
-  pub few : length a ≤ 264
-  pub first : (k : ℕ) → getD a k 0 < 65536
-  pub second : (k : ℕ) → getD b k 0 < 65536
+  pub few : length a ≤ 256
+  pub first : (k : ℕ) → getD a k 0 < 131072
+  pub second : (k : ℕ) → getD b k 0 < 131072
 
 pub record Strip (m : ℕ) (b : List ℕ) : Type 0 where
   pub lead : (k : ℕ) → k < 7 → getD b k 0 ≡ 0
@@ -36,6 +41,30 @@ rowSum a b k (suc n) = rowSum a b k n + getD a n 0 * getD b (k + 7 - n) 0
 
 pub record Summed (a b s : List ℕ) (n : ℕ) : Type 0 where
   pub at : (k : ℕ) → k < length s → getD s k 0 ≡ rowSum a b k n
+
+unfoldable pub block : ℕ → ℕ → List ℕ → List ℕ
+block n t l = take n (drop (t * n) l)
+
+pub record Blocks (count g v : ℕ) (x y s : List ℕ) : Type 0 where
+  pub few : count ≤ 3
+  pub size-x : count * (8 * g) ≤ length x
+  pub size-y : count * (v + 15) ≤ length y
+  pub size-s : count * (8 * g + v) ≤ length s
+  pub rows : 8 * g ≤ 256
+  pub width : v ≤ 256
+  pub factors : (t : ℕ) → t < count → Factors (block (8 * g) t x) (block (v + 15) t y)
+  pub strip : (t : ℕ) → t < count → Strip (v + 8) (block (v + 15) t y)
+
+pub record Multiplied (g v : ℕ) (x y : List ℕ) (t : ℕ) (s : List ℕ) : Type 0 where
+  pub done : (r k : ℕ) → r < t → k < 8 * g + v
+      → getD s (r * (8 * g + v) + k) 0 ≡ rowSum (block (8 * g) r x) (block (v + 15) r y) k (8 * g)
+  pub todo : (k : ℕ) → t * (8 * g + v) ≤ k → getD s k 0 ≡ 0
+
+unfoldable pub behind : List ℕ → List ℕ
+behind b = replicate 7 0 ++ b
+
+pub record Whole (a b s : List ℕ) : Type 0 where
+  pub at : (k : ℕ) → k + 1 < length a + length b → getD s k 0 ≡ rowSum a (behind b) k (length a)
 
 unfoldable pub remainders : ℕ → ℕ → List ℕ → List ℕ
 remainders p n s = tabulate n (λ k. getD s k 0 % p)

@@ -1,87 +1,97 @@
-// The product of two scaled forms, by rows: row j is word j of the first factor times the second factor, from word j on. Eight rows are
-// added up at a time, in 64 bits, so that each word of the sum is read and written once for eight products, and reduced once at the end.
+// The product of two scaled forms, in whole numbers and reduced once for each word. It is formed by rows (crate `wide_rows`), of the whole
+// factors or, where that is quicker, of their halves: Karatsuba's product.
 ghost use mathlib.Core.Path.{_≡_};
 ghost use mathlib.Core.Bool.{cond};
-ghost use Prim.Native.Nat.{_+_, _*_, _<_, _≤_};
-ghost use lib.ListN.{length};
+ghost use lib.Dec.{eqb};
+ghost use Prim.Native.Nat.{_+_, _*_, _/_, _<_, _≤_};
+ghost use lib.ListN.{length, getD, take, drop};
 ghost use Rattle.algebra.specs.PrimeField.{F65521};
 ghost use Rattle.refusal.specs.Limits.{maxWords};
 ghost use Rattle.field.specs.Field.{p};
+ghost use Rattle.wide_rows.specs.Placed.{Placed};
 ghost use Rattle.convolution.specs.Convolution.{convolveFits, convolution};
-ghost use Rattle.convolution.specs.Rows.{Ends, Shifted, Factors, Strip, rowSum, Summed, remainders};
+ghost use Rattle.convolution.specs.Rows.{Ends, Factors, Strip, rowSum, block, Blocks, Multiplied, Whole, remainders};
+ghost use Rattle.convolution.specs.Halves.{Halving, SecondHalves, Laid, sumAt, crossAt, joinAt, Joined, Enough, Small};
 
-// The product of two words. The remainders change nothing: they tell LLVM that 32 bits hold each factor, and one instruction (pmuludq)
-// then forms two products.
-fn times(x: u64, y: u64) -> u64
-    requires { ⌜ (x < 65536) × (y < 65536) ⌝ }
-    ensures { λ r. ⌜ r ≡ x * y ⌝ }
+// The sum of the rows of a block of x and one of y, in a block of s, from i, j and k on. s is 0 from k on.
+fn multiply_block(
+    x: &[u64],
+    y: &[u64],
+    g: usize,
+    v: usize,
+    i: usize,
+    j: usize,
+    k: usize,
+    s: &mut [u64],
+)
+    requires { ⌜ (i + 8 * g ≤ length (now x)) × (j + (v + 15) ≤ length (now y)) × (k + (8 * g + v) ≤ length (now s)) × Ends k (now s) ⌝ }
+    requires { ⌜ Factors (take (8 * g) (drop i (now x))) (take (v + 15) (drop j (now y))) × Strip (v + 8) (take (v + 15) (drop j (now y))) ⌝ }
+    ensures { λ _. ⌜ Placed k (8 * g + v) (λ n. rowSum (take (8 * g) (drop i (now (x .entry)))) (take (v + 15) (drop j (now (y .entry)))) n (8 * g)) (now (s .entry)) (now (s .exit)) ⌝ }
 {
-    (x % 4294967296) * (y % 4294967296)
+    wide_rows::add_rows(
+        &x[i..i + 8 * g],
+        &y[j..j + (v + 15)],
+        &mut s[k..k + (8 * g + v)],
+    );
 }
 
-// Word k of the sum with row i added. The second factor stands behind 7 zeros: its word for row i is at k + 7 - i.
-fn add_term(sum: u64, a: &[u64], b: &[u64], i: usize, k: usize) -> u64
-    requires { ⌜ Factors (now a) (now b) ⌝ }
-    requires { ⌜ (i < length (now a)) × (i ≤ k + 7) × (k + 7 < length (now b) + i) ⌝ }
-    requires { ⌜ sum ≡ rowSum (now a) (now b) k i ⌝ }
-    ensures { λ r. ⌜ r ≡ rowSum (now (a .entry)) (now (b .entry)) k (i + 1) ⌝ }
+// Each block of s, which is 0: the sum of the rows of the blocks of x and y. One place alone calls the loops of the rows, so that LLVM puts
+// them in here, where it knows the buffers.
+fn multiply(x: &[u64], y: &[u64], count: usize, g: usize, v: usize, s: &mut [u64])
+    requires { ⌜ Blocks count g v (now x) (now y) (now s) × Ends 0 (now s) ⌝ }
+    ensures { λ _. ⌜ Multiplied g v (now (x .entry)) (now (y .entry)) count (now (s .exit)) ⌝ }
 {
-    sum + times(a[i], b[k + 7 - i])
+    let mut t = 0;
+    while t < count {
+        multiply_block(x, y, g, v, t * (8 * g), t * (v + 15), t * (8 * g + v), s);
+        t += 1;
+    }
 }
 
-// Word k of the sum with eight rows added.
-fn add_terms(sum: u64, a: &[u64], b: &[u64], i: usize, k: usize) -> u64
-    requires { ⌜ Factors (now a) (now b) ⌝ }
-    requires { ⌜ (i + 8 ≤ length (now a)) × (i ≤ k) × (k + 7 < length (now b) + i) ⌝ }
-    requires { ⌜ sum ≡ rowSum (now a) (now b) k i ⌝ }
-    ensures { λ r. ⌜ r ≡ rowSum (now (a .entry)) (now (b .entry)) k (i + 8) ⌝ }
+// n words of a list, from i on, in s from d on.
+fn widen(list: &[u16], i: usize, n: usize, d: usize, s: &mut [u64])
+    requires { ⌜ (i + n ≤ length (now list)) × (d + n ≤ length (now s)) ⌝ }
+    ensures { λ _. ⌜ Placed d n (λ k. getD (now (list .entry)) (i + k) 0) (now (s .entry)) (now (s .exit)) ⌝ }
 {
-    let s1 = add_term(sum, a, b, i, k);
-    let s2 = add_term(s1, a, b, i + 1, k);
-    let s3 = add_term(s2, a, b, i + 2, k);
-    let s4 = add_term(s3, a, b, i + 3, k);
-    let s5 = add_term(s4, a, b, i + 4, k);
-    let s6 = add_term(s5, a, b, i + 5, k);
-    let s7 = add_term(s6, a, b, i + 6, k);
-    add_term(s7, a, b, i + 7, k)
-}
-
-// s with the eight rows from i on added: they reach from word i to word i + m - 1.
-fn add_rows(a: &[u64], b: &[u64], i: usize, m: usize, s: &mut [u64])
-    requires { ⌜ Factors (now a) (now b) × Strip m (now b) ⌝ }
-    requires { ⌜ (i + 8 ≤ length (now a)) × (m + 7 ≤ length (now b)) × (i + m ≤ length (now s)) ⌝ }
-    requires { ⌜ Summed (now a) (now b) (now s) i ⌝ }
-    ensures { λ _. ⌜ Summed (now (a .entry)) (now (b .entry)) (now (s .exit)) (i + 8) ⌝ }
-{
-    let mut k = i;
-    while k < i + m {
-        s[k] = add_terms(s[k], a, b, i, k);
+    let mut k = 0;
+    while k < n {
+        s[d + k] = list[i + k] as u64;
         k += 1;
     }
 }
 
-// The sum of n rows, in s, which is 0. The last eight rows may pass n: what follows the words of a is 0.
-fn sum_rows(a: &[u64], b: &[u64], n: usize, m: usize, s: &mut [u64])
-    requires { ⌜ Factors (now a) (now b) × Strip m (now b) × Ends n (now a) ⌝ }
-    requires { ⌜ (n + 7 ≤ length (now a)) × (m + 7 ≤ length (now b)) × (n + m ≤ length (now s)) ⌝ }
-    requires { ⌜ Ends 0 (now s) ⌝ }
-    ensures { λ _. ⌜ Summed (now (a .entry)) (now (b .entry)) (now (s .exit)) n ⌝ }
+// The sum of the first two blocks of d words, in the third.
+fn add_halves(s: &mut [u64], d: usize)
+    requires { ⌜ (3 * d ≤ length (now s)) × Small (2 * d) (now s) ⌝ }
+    ensures { λ _. ⌜ Placed (2 * d) d (sumAt d (now (s .entry))) (now (s .entry)) (now (s .exit)) ⌝ }
 {
-    let mut i = 0;
-    while i < n {
-        add_rows(a, b, i, m, s);
-        i += 8;
+    let mut k = 0;
+    while k < d {
+        s[2 * d + k] = s[k] + s[d + k];
+        k += 1;
     }
 }
 
-// The words of a list in s, which is 0, from d on.
-fn widen(list: &[u16], d: usize, s: &mut [u64])
-    requires { ⌜ (d + length (now list) ≤ length (now s)) × Ends 0 (now s) ⌝ }
-    ensures { λ _. ⌜ Shifted d (now (list .entry)) (now (s .exit)) ⌝ }
+// The product of the sums becomes a0 b1 + a1 b0.
+fn cross(s: &mut [u64], h: usize)
+    requires { ⌜ (6 * h ≤ length (now s)) × Small (6 * h) (now s) × Enough h (now s) ⌝ }
+    ensures { λ _. ⌜ Placed (4 * h) (2 * h) (crossAt h (now (s .entry))) (now (s .entry)) (now (s .exit)) ⌝ }
 {
     let mut k = 0;
-    while k < list.len() {
-        s[d + k] = list[k] as u64;
+    while k < 2 * h {
+        s[4 * h + k] = s[4 * h + k] - (s[k] + s[2 * h + k]);
+        k += 1;
+    }
+}
+
+// And is added from word h on.
+fn add_cross(s: &mut [u64], h: usize)
+    requires { ⌜ (6 * h ≤ length (now s)) × Small (6 * h) (now s) ⌝ }
+    ensures { λ _. ⌜ Placed h (2 * h) (joinAt h (now (s .entry))) (now (s .entry)) (now (s .exit)) ⌝ }
+{
+    let mut k = 0;
+    while k < 2 * h {
+        s[h + k] = s[h + k] + s[4 * h + k];
         k += 1;
     }
 }
@@ -98,23 +108,111 @@ fn reduce_words(s: &[u64], out: &mut [u16])
     }
 }
 
-// The product, with buffers that are 0: each factor in words of 64 bits, with room for the zeros around it, and the sum.
-fn convolve_in(
-    a: &[u16],
-    b: &[u16],
-    first: &mut [u64],
-    second: &mut [u64],
-    s: &mut [u64],
-    out: &mut [u16],
-)
+// The number of groups of eight rows in half of the first factor, where the factors are cut: both halves fit the buffers, and the loop over
+// eight rows has fewer words to form, with 80 for what Karatsuba's product does besides. Else 0.
+fn halving(n: usize, m: usize) -> usize
+    requires { ⌜ (n ≤ maxWords) × (m ≤ maxWords) ⌝ }
+    ensures { λ g. ⌜ Halving n m g ⌝ }
+{
+    let g = (n + 15) / 16;
+    if 9 < g {
+        return 0;
+    }
+    if m < 8 * g {
+        return 0;
+    }
+    if 16 * g + 1 < m {
+        return 0;
+    }
+    if (n + 7) / 8 * (m + 7) < 24 * g * (g + 1) + 80 {
+        return 0;
+    }
+    g
+}
+
+// How many products there are, of how many groups of eight rows, and of second factors of at most width + 1 words. The width is even, so
+// that no group of rows ends with a single word.
+struct Plan {
+    count: usize,
+    groups: usize,
+    width: usize,
+}
+
+// One product of the whole factors where g is 0, three of their halves else.
+fn plan_of(g: usize, n: usize, m: usize) -> Plan
+    requires { ⌜ (g ≤ 9) × (n ≤ maxWords) × (m ≤ maxWords) ⌝ }
+    ensures { λ r. ⌜ (r .count ≡ cond (eqb g 0) 1 3) × (r .groups ≡ cond (eqb g 0) ((n + 7) / 8) g) × (r .width ≡ cond (eqb g 0) (2 * (m / 2)) (8 * g)) ⌝ }
+{
+    if g == 0 {
+        return Plan {
+            count: 1,
+            groups: (n + 7) / 8,
+            width: 2 * (m / 2),
+        };
+    }
+    Plan {
+        count: 3,
+        groups: g,
+        width: 8 * g,
+    }
+}
+
+// The halves of the second factor and their sum, in s, which is 0.
+fn halve_second(b: &[u16], h: usize, s: &mut [u64])
+    requires { ⌜ (h ≤ length (now b)) × (length (now b) ≤ 2 * h + 1) × (3 * (h + 15) ≤ length (now s)) × (h ≤ 72) × Ends 0 (now s) ⌝ }
+    ensures { λ _. ⌜ SecondHalves h (now (b .entry)) (block (h + 15) 0 (now (s .exit))) (block (h + 15) 1 (now (s .exit))) (block (h + 15) 2 (now (s .exit))) ⌝ }
+{
+    widen(b, 0, h, 7, s);
+    widen(b, h, b.len() - h, h + 22, s);
+    add_halves(s, h + 15);
+}
+
+// The factors in their buffers, which are 0.
+fn lay(a: &[u16], b: &[u16], g: usize, x: &mut [u64], y: &mut [u64])
+    requires { ⌜ (length (now a) ≤ maxWords) × (length (now b) ≤ maxWords) × Halving (length (now a)) (length (now b)) g ⌝ }
+    requires { ⌜ (length (now x) ≡ 256) × (length (now y) ≡ 272) × Ends 0 (now x) × Ends 0 (now y) ⌝ }
+    ensures { λ _. ⌜ Laid g (now (a .entry)) (now (b .entry)) (now (x .exit)) (now (y .exit)) ⌝ }
+{
+    widen(a, 0, a.len(), 0, x);
+    if g == 0 {
+        widen(b, 0, b.len(), 7, y);
+        return;
+    }
+    add_halves(x, 8 * g);
+    halve_second(b, 8 * g, y);
+}
+
+// The three products joined; where g is 0, s as it is.
+fn join(s: &mut [u64], g: usize)
+    requires { ⌜ (48 * g ≤ length (now s)) × Small (6 * (8 * g)) (now s) × Enough (8 * g) (now s) ⌝ }
+    ensures { λ _. ⌜ Joined (8 * g) (now (s .entry)) (now (s .exit)) ⌝ }
+{
+    cross(s, 8 * g);
+    add_cross(s, 8 * g);
+}
+
+// The product in whole numbers.
+fn multiply_lists(a: &[u16], b: &[u16], x: &mut [u64], y: &mut [u64], s: &mut [u64])
+    requires { ⌜ (length (now a) ≤ maxWords) × (length (now b) ≤ maxWords) ⌝ }
+    requires { ⌜ (length (now x) ≡ 256) × (length (now y) ≡ 272) × (length (now s) ≡ 512) ⌝ }
+    requires { ⌜ Ends 0 (now x) × Ends 0 (now y) × Ends 0 (now s) ⌝ }
+    ensures { λ _. ⌜ Whole (now (a .entry)) (now (b .entry)) (now (s .exit)) ⌝ }
+{
+    let g = halving(a.len(), b.len());
+    lay(a, b, g, x, y);
+    let plan = plan_of(g, a.len(), b.len());
+    multiply(x, y, plan.count, plan.groups, plan.width, s);
+    join(s, g);
+}
+
+// The product, with buffers that are 0.
+fn convolve_in(a: &[u16], b: &[u16], x: &mut [u64], y: &mut [u64], s: &mut [u64], out: &mut [u16])
     requires { ⌜ (length (now a) ≤ maxWords) × (length (now b) ≤ maxWords) × (length (now out) + 1 ≡ length (now a) + length (now b)) ⌝ }
-    requires { ⌜ (length (now first) ≡ 264) × (length (now second) ≡ 272) × (length (now s) ≡ 520) ⌝ }
-    requires { ⌜ Ends 0 (now first) × Ends 0 (now second) × Ends 0 (now s) ⌝ }
+    requires { ⌜ (length (now x) ≡ 256) × (length (now y) ≡ 272) × (length (now s) ≡ 512) ⌝ }
+    requires { ⌜ Ends 0 (now x) × Ends 0 (now y) × Ends 0 (now s) ⌝ }
     ensures { λ _. ⌜ now (out .exit) ≡ convolution F65521 (now (a .entry)) (now (b .entry)) ⌝ }
 {
-    widen(a, 0, first);
-    widen(b, 7, second);
-    sum_rows(first, second, a.len(), b.len() + 7, s);
+    multiply_lists(a, b, x, y, s);
     reduce_words(s, out);
 }
 
@@ -122,10 +220,10 @@ fn convolve_into(a: &[u16], b: &[u16], out: &mut [u16])
     requires { ⌜ (length (now a) ≤ maxWords) × (length (now b) ≤ maxWords) × (length (now out) + 1 ≡ length (now a) + length (now b)) ⌝ }
     ensures { λ _. ⌜ now (out .exit) ≡ convolution F65521 (now (a .entry)) (now (b .entry)) ⌝ }
 {
-    let mut first = [0u64; 264];
-    let mut second = [0u64; 272];
-    let mut s = [0u64; 520];
-    convolve_in(a, b, &mut first, &mut second, &mut s, out);
+    let mut x = [0u64; 256];
+    let mut y = [0u64; 272];
+    let mut s = [0u64; 512];
+    convolve_in(a, b, &mut x, &mut y, &mut s, out);
 }
 
 // The words of the product of two scaled forms.

@@ -2,7 +2,7 @@
 -- Assumes nothing.
 use mathlib.Core.Path.{refl}
 use borrow.Author.Needs.{needs}
-use Rattle.convolution.proofs.Buffers.{zeros-are}
+use Rattle.convolution.proofs.Sums.{zeros-are}
 use Rattle.convolution.proofs.convolve_into.Statement.{statement}
 use Rattle.convolution.proofs.convolve_into.Tie as tie
 
@@ -18,7 +18,7 @@ slice-aggregate-convolve-in-3 c = search needs
 convolve-in-requires : tie.Need-convolve-in-requires
 convolve-in-requires c κs =
     let start = c .before .before .before .before .before .before .before in
-    (start .pre, ((refl, refl, refl), (zeros-are 264, zeros-are 272, zeros-are 520)))
+    (start .pre, ((refl, refl, refl), (zeros-are 256, zeros-are 272, zeros-are 512)))
 
 same-length : tie.Need-same-length
 same-length c = search needs

@@ -1,22 +1,27 @@
 -- `convolution::widen` meets its contract.
 -- Assumes nothing.
-use mathlib.Core.Path.{_≡_, refl}
-use Prim.Native.Nat.{_≤_, _-_}
+use mathlib.Core.Path.{_≡_}
+use mathlib.Core.Path.{refl}
+use Prim.Native.Nat.{_+_, _≤_, _-_}
 use native.Mathlib.Omega.{arith}
-use lib.ListN.{length, length-set}
+use lib.ListN.{length, getD, length-set}
+use Rattle.wide_rows.specs.Placed.{Placed}
+use Rattle.wide_rows.proofs.Placing.{place-start, place-step, place-end}
 use borrow.Author.Needs.{needs}
-use Rattle.convolution.proofs.Buffers.{Copied, copy-start, copy-step, copy-end}
 use Rattle.convolution.proofs.widen.Statement.{statement}
 use Rattle.convolution.proofs.widen.Tie as tie
 
 abbrev Inv-loop : tie.InvT-loop
-Inv-loop list d s₀ k₀ s k = (k ≤ length list) × (length s ≡ length s₀) × Copied d list k s
+Inv-loop list i n d s₀ k₀ s k = (k ≤ n) × (length s ≡ length s₀) × Placed d k (λ j. getD list (i + j) 0) s₀ s
 
 abbrev μ-loop : tie.MeasureT-loop
-μ-loop list d s₀ k₀ s k = length list - k
+μ-loop list i n d s₀ k₀ s k = n - k
 
 loop-holds : tie.Need-loop-holds Inv-loop μ-loop
-loop-holds c = (search needs, search needs, copy-start _ _ (c .pre .1))
+loop-holds c = (search needs, search needs, place-start _ _ _)
+
+add-s : tie.Need-add-s Inv-loop μ-loop
+add-s c = search needs
 
 mul-s : tie.Need-mul-s Inv-loop μ-loop
 mul-s c = search needs
@@ -25,10 +30,10 @@ shared-slice-read-s : tie.Need-shared-slice-read-s Inv-loop μ-loop
 shared-slice-read-s c = search needs
 
 cast-s : tie.Need-cast-s Inv-loop μ-loop
-cast-s c = omega (arith, c .shared-slice-known .given (c .before .before .loop .k))
+cast-s c = omega (arith, c .shared-slice-known .given (c .before .before .before .args .i + c .before .before .loop .k))
 
-add-s : tie.Need-add-s Inv-loop μ-loop
-add-s c = search needs
+add-s-2 : tie.Need-add-s-2 Inv-loop μ-loop
+add-s-2 c = search needs
 
 mul-s-2 : tie.Need-mul-s-2 Inv-loop μ-loop
 mul-s-2 c = search needs
@@ -43,17 +48,13 @@ loop-less : tie.Need-loop-less Inv-loop μ-loop
 loop-less c = search needs
 
 loop-again : tie.Need-loop-again Inv-loop μ-loop
-loop-again c = (
-  search needs,
-  simp length-set (omega arith),
-  copy-step _ (c .before .before .loop .inv .2) (omega arith) refl,
-)
+loop-again c = (search needs, simp length-set (omega arith), place-step _ (c .before .before .loop .inv .2) (omega arith) refl)
 
 same-length : tie.Need-same-length Inv-loop μ-loop
 same-length c = search needs
 
 returns : tie.Need-returns Inv-loop μ-loop
-returns c = copy-end (c .before .loop .inv .2) (omega arith)
+returns c = place-end _ (c .before .loop .inv .2) (omega arith)
 
 pub widen-spec : {M : Type 1} → statement M
 widen-spec =
@@ -62,10 +63,11 @@ widen-spec =
     Inv-loop
     μ-loop
     loop-holds
+    add-s
     mul-s
     shared-slice-read-s
     cast-s
-    add-s
+    add-s-2
     mul-s-2
     slice-write-s
     add-k

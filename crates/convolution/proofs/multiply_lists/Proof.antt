@@ -1,0 +1,72 @@
+-- `convolution::multiply_lists` meets its contract.
+-- Assumes nothing.
+use native.Mathlib.Omega.{arith}
+use Rattle.convolution.proofs.Cuts.{cut-few}
+use Rattle.convolution.proofs.Whole.{blocks-fit, small-is, enough-is, whole-is}
+use borrow.Author.Needs.{needs}
+use Rattle.convolution.proofs.multiply_lists.Statement.{statement}
+use Rattle.convolution.proofs.multiply_lists.Tie as tie
+
+halving-requires : tie.Need-halving-requires
+halving-requires c κs = search needs
+
+lay-requires : tie.Need-lay-requires
+lay-requires c κs = search needs
+
+plan-of-requires : tie.Need-plan-of-requires
+plan-of-requires c κs = (cut-few (c .before .before .before .before .before .before .before .halving .ensures), omega arith, omega arith)
+
+multiply-requires : tie.Need-multiply-requires
+multiply-requires c κs =
+    let start = c .before .before .before .before .before .before .before .before .before .before .before .before .before .before .before .before .before in
+    let known-a = c .before .before .before .before .before .before .before .before .before .before .before .before .before .before .before .before .shared-slice-known .given in
+    let known-b = c .before .before .before .before .before .before .before .before .before .before .before .before .before .before .before .shared-slice-known2 .given in
+    let plan = c .before .before .before .plan-of .ensures in (
+      blocks-fit _ _ (λ k. omega (arith, known-a k)) (λ k. omega (arith, known-b k)) _ _ _ _ _ _ _ (c .before .before .before .before .before .before .before .before .before .before .before .halving .ensures) (c .before .before .before .before .before .before .before .before .lay .ensures)
+          (plan .0) (plan .1) (plan .2) (omega arith) (omega arith) (omega arith) (omega arith) (omega arith),
+      start .pre .1 .1 .2,
+    )
+
+join-requires : tie.Need-join-requires
+join-requires c κs =
+    let known-a = c .before .before .before .before .before .before .before .before .before .before .before .before .before .before .before .before .before .before .before .before .shared-slice-known .given in
+    let known-b = c .before .before .before .before .before .before .before .before .before .before .before .before .before .before .before .before .before .before .before .shared-slice-known2 .given in
+    let plan = c .before .before .before .before .before .before .before .plan-of .ensures in
+    let cut = c .before .before .before .before .before .before .before .before .before .before .before .before .before .before .before .halving .ensures in (
+      omega (arith, cut-few cut),
+      small-is _ _ (λ k. omega (arith, known-a k)) (λ k. omega (arith, known-b k)) _ _ _ _ _ _ _ cut (c .before .before .before .before .before .before .before .before .before .before .before .before .lay .ensures) (plan .0) (plan .1)
+          (plan .2) (c .before .before .before .multiply .ensures),
+      enough-is _ _ (λ k. omega (arith, known-a k)) (λ k. omega (arith, known-b k)) _ _ _ _ _ _ _ cut (c .before .before .before .before .before .before .before .before .before .before .before .before .lay .ensures) (plan .0) (plan .1)
+          (plan .2) (c .before .before .before .multiply .ensures),
+    )
+
+same-length : tie.Need-same-length
+same-length c = search needs
+
+same-length-2 : tie.Need-same-length-2
+same-length-2 c = search needs
+
+same-length-3 : tie.Need-same-length-3
+same-length-3 c = search needs
+
+returns : tie.Need-returns
+returns c =
+    let known-a = c .before .before .before .before .before .before .before .before .before .before .before .before .before .before .before .before .before .before .before .before .before .before .before .shared-slice-known .given in
+    let known-b = c .before .before .before .before .before .before .before .before .before .before .before .before .before .before .before .before .before .before .before .before .before .before .shared-slice-known2 .given in
+    let plan = c .before .before .before .before .before .before .before .before .before .before .plan-of .ensures in
+    whole-is _ _ (λ k. omega (arith, known-a k)) (λ k. omega (arith, known-b k)) _ _ _ _ _ _ _ (c .before .before .before .before .before .before .before .before .before .before .before .before .before .before .before .before .before .before .halving .ensures) (c .before .before .before .before .before .before .before .before .before .before .before .before .before .before .before .lay .ensures)
+    (plan .0) (plan .1) (plan .2) (c .before .before .before .before .before .before .multiply .ensures) (c .before .before .join .ensures)
+
+pub multiply-lists-spec : {M : Type 1} → statement M
+multiply-lists-spec =
+    tie.close
+    (tie.spec
+    halving-requires
+    lay-requires
+    plan-of-requires
+    multiply-requires
+    join-requires
+    same-length
+    same-length-2
+    same-length-3
+    returns)

@@ -1,0 +1,16 @@
+-- `wide_rows::times` meets its contract.
+-- Assumes nothing.
+use native.Mathlib.Omega.{arith}
+use Rattle.wide_rows.proofs.Dots.{product-le}
+use borrow.Author.Needs.{needs}
+use Rattle.wide_rows.proofs.times.Statement.{statement}
+use Rattle.wide_rows.proofs.times.Tie as tie
+
+mul-result : tie.Need-mul-result
+mul-result c = omega (arith, product-le (c .args .x) (c .args .y))
+
+returns : tie.Need-returns
+returns c = search needs
+
+pub times-spec : {M : Type 1} → statement M
+times-spec = tie.close (tie.spec mul-result returns)

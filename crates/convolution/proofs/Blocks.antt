@@ -9,8 +9,7 @@ use native.Mathlib.Omega.{arith}
 use lib.ListN.{length, getD, take, drop, length-take, length-drop, List·getD-append, List·getD-eq-default}
 use lib.Seq.{getD-take, getD-drop, getD-append-add, length-take-le}
 use Rattle.wide_rows.specs.Placed.{Placed}
-use Rattle.convolution.specs.Rows.{Ends, rowSum, Summed, block, Blocks, Multiplied}
-use Rattle.convolution.proofs.Sums.{split}
+use Rattle.convolution.specs.Rows.{Ends, rowSum, Summed, block, Multiplied}
 
 -- a part that was lent and came back as z
 module _ (k r n : ℕ) (s z : List ℕ) (w : r ≡ n) (l : k + n ≤ length s) (e : length z ≡ n) where

@@ -25,9 +25,6 @@ module _ (a b : List ℕ) (k : ℕ) where
   unfolding rowSum
   sum-next n = ap (rowSum a b k) (add-one n)
 
-  pub sum-at : {n m x : ℕ} → n ≡ m → x ≡ rowSum a b k n → x ≡ rowSum a b k m
-  sum-at e h = h ∙ ap (rowSum a b k) e
-
   pub sum-le : Factors a b → (n : ℕ) → rowSum a b k n ≤ n * 17179607041
   unfolding rowSum
   sum-le f zero = zero-le

@@ -1,6 +1,6 @@
 -- The product in whole numbers, by rows or by Karatsuba's way: what the loops ask, and what they have made in the end.
 -- Assumes nothing.
-use mathlib.Core.Path.{_≡_, refl, sym, ap, _∙_}
+use mathlib.Core.Path.{_≡_, sym, ap, _∙_}
 use mathlib.Core.Bool.{cond}
 use mathlib.Core.List.{List}
 use Prim.Native.Nat.{ℕ, zero, suc, _+_, _-_, _*_, _/_, _≤_, _<_}
@@ -175,7 +175,6 @@ module _ (a b : List ℕ) (p : (k : ℕ) → getD a k 0 < 65536) (q : (k : ℕ) 
     one-block : Shifted 0 a x → Shifted 7 b y → Blocks 1 ((length a + 7) / 8) (2 * (length b / 2)) x y s
     one-block f g =
         record {
-          few = omega arith;
           size-x = omega arith;
           size-y = omega arith;
           size-s = omega arith;
@@ -197,7 +196,6 @@ module _ (a b : List ℕ) (p : (k : ℕ) → getD a k 0 < 65536) (q : (k : ℕ) 
         → SecondHalves (8 * i) b (block (8 * i + 15) 0 y) (block (8 * i + 15) 1 y) (block (8 * i + 15) 2 y) → Blocks 3 i (8 * i) x y s
     three-blocks i l m f g =
         record {
-          few = omega arith;
           size-x = omega arith;
           size-y = omega arith;
           size-s = omega arith;

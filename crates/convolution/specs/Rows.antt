@@ -46,7 +46,6 @@ unfoldable pub block : ℕ → ℕ → List ℕ → List ℕ
 block n t l = take n (drop (t * n) l)
 
 pub record Blocks (count g v : ℕ) (x y s : List ℕ) : Type 0 where
-  pub few : count ≤ 3
   pub size-x : count * (8 * g) ≤ length x
   pub size-y : count * (v + 15) ≤ length y
   pub size-s : count * (8 * g + v) ≤ length s

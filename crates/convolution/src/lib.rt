@@ -1,5 +1,5 @@
-// The product of two scaled forms, in whole numbers and reduced once for each word. It is formed by rows (crate `wide_rows`), of the whole
-// factors or, where that is quicker, of their halves: Karatsuba's product.
+// The product of two scaled forms, in whole numbers, reduced once for each word. It is formed by rows (crate `wide_rows`): those of the whole
+// factors or, where that is quicker, those of their halves, three products instead of four (Karatsuba). a0, a1 and b0, b1 are the halves.
 ghost use mathlib.Core.Path.{_≡_};
 ghost use mathlib.Core.Bool.{cond};
 ghost use lib.Dec.{eqb};
@@ -13,7 +13,8 @@ ghost use Rattle.convolution.specs.Convolution.{convolveFits, convolutio
 ghost use Rattle.convolution.specs.Rows.{Ends, Factors, Strip, rowSum, block, Blocks, Multiplied, Whole, remainders};
 ghost use Rattle.convolution.specs.Halves.{Halving, SecondHalves, Laid, sumAt, crossAt, joinAt, Joined, Enough, Small};
 
-// The sum of the rows of a block of x and one of y, in a block of s, from i, j and k on. s is 0 from k on.
+// The sum of the rows of a block of x and one of y, in a block of s, from i, j and k on. s is 0 from k on. A block of x has 8 g words, one
+// of y at most v + 1 between zeros, at least 7 on each side, one of s all words of the product.
 fn multiply_block(
     x: &[u64],
     y: &[u64],
@@ -35,8 +36,8 @@ fn multiply_block(
     );
 }
 
-// Each block of s, which is 0: the sum of the rows of the blocks of x and y. One place alone calls the loops of the rows, so that LLVM puts
-// them in here, where it knows the buffers.
+// Each block of s, which is 0: the sum of the rows of the blocks of x and y. The loops of the rows are called from this one place, so that
+// LLVM inlines them down to where the buffers are and knows that they do not overlap.
 fn multiply(x: &[u64], y: &[u64], count: usize, g: usize, v: usize, s: &mut [u64])
     requires { ⌜ Blocks count g v (now x) (now y) (now s) × Ends 0 (now s) ⌝ }
     ensures { λ _. ⌜ Multiplied g v (now (x .entry)) (now (y .entry)) count (now (s .exit)) ⌝ }
@@ -72,7 +73,7 @@ fn add_halves(s: &mut [u64], d: usize)
     }
 }
 
-// The product of the sums becomes a0 b1 + a1 b0.
+// The third block, (a0 + a1) (b0 + b1), less the first two, a0 b0 and a1 b1: it becomes a0 b1 + a1 b0.
 fn cross(s: &mut [u64], h: usize)
     requires { ⌜ (6 * h ≤ length (now s)) × Small (6 * h) (now s) × Enough h (now s) ⌝ }
     ensures { λ _. ⌜ Placed (4 * h) (2 * h) (crossAt h (now (s .entry))) (now (s .entry)) (now (s .exit)) ⌝ }
@@ -84,7 +85,7 @@ fn cross(s: &mut [u64], h: usize)
     }
 }
 
-// And is added from word h on.
+// The third block, added to the first two from word h on.
 fn add_cross(s: &mut [u64], h: usize)
     requires { ⌜ (6 * h ≤ length (now s)) × Small (6 * h) (now s) ⌝ }
     ensures { λ _. ⌜ Placed h (2 * h) (joinAt h (now (s .entry))) (now (s .entry)) (now (s .exit)) ⌝ }
@@ -108,8 +109,8 @@ fn reduce_words(s: &[u64], out: &mut [u16])
     }
 }
 
-// The number of groups of eight rows in half of the first factor, where the factors are cut: both halves fit the buffers, and the loop over
-// eight rows has fewer words to form, with 80 for what Karatsuba's product does besides. Else 0.
+// How many groups of eight rows half of the first factor has, where the factors are cut: the halves fit the buffers, and the words that the
+// groups reach are fewer, with 80 more for the sums and differences, than those of the whole factors' rows. Else 0.
 fn halving(n: usize, m: usize) -> usize
     requires { ⌜ (n ≤ maxWords) × (m ≤ maxWords) ⌝ }
     ensures { λ g. ⌜ Halving n m g ⌝ }

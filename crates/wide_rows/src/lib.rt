@@ -4,11 +4,11 @@
 ghost use mathlib.Core.Path.{_≡_};
 ghost use mathlib.Core.Bool.{cond};
 ghost use Prim.Native.Nat.{_+_, _-_, _*_, _%_, _<_, _≤_};
-ghost use lib.ListN.{length, getD};
+ghost use lib.ListN.{length};
 ghost use Rattle.wide_rows.specs.Placed.{Placed};
 ghost use Rattle.wide_rows.specs.Rows.{dot, gainAt, rowsFit, withRows};
 
-// The product of the low bits of two words. One instruction (pmuludq) forms two such products.
+// The product of the low bits of two words. LLVM has two of them formed by one instruction (pmuludq), as 32 bits hold each factor.
 fn times(x: u64, y: u64) -> u64
     ensures { λ r. ⌜ r ≡ x % 16777216 * (y % 4294967296) ⌝ }
 {
@@ -62,7 +62,8 @@ fn add_all(x: &[u64], y: &[u64], s: &mut [u64])
     }
 }
 
-// s with the rows of x times y added, where it has room for them.
+// s with the rows of x times y added, where it has room for them. Where y begins and ends with 7 zeros, and nothing passes the bits that
+// count, that is the product of the words of x and of those between the zeros.
 pub fn add_rows(x: &[u64], y: &[u64], s: &mut [u64])
     ensures { λ _. ⌜ now (s .exit) ≡ cond (rowsFit (now (x .entry)) (now (y .entry)) (now (s .entry))) (withRows (now (x .entry)) (now (y .entry)) (now (s .entry))) (now (s .entry)) ⌝ }
 {

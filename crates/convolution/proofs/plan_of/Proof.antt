@@ -13,7 +13,7 @@ mul-t8 : tie.Need-mul-t8
 mul-t8 c = search needs
 
 returns : tie.Need-returns
-returns c = (rw (eq-eqb (c .before .args .g) 0 (omega arith)), rw (eq-eqb (c .before .args .g) 0 (omega arith)), rw (eq-eqb (c .before .args .g) 0 (omega arith)))
+returns c = let none = eq-eqb (c .before .args .g) 0 (omega arith) in (rw none, rw none, rw none)
 
 mul-t9 : tie.Need-mul-t9
 mul-t9 c = search needs

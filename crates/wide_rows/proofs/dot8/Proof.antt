@@ -3,7 +3,6 @@
 use mathlib.Core.Path.{sym}
 use native.Mathlib.Omega.{arith}
 use Rattle.wide_rows.proofs.Dots.{dot-none, dot-as}
-use borrow.Author.Needs.{needs}
 use Rattle.wide_rows.proofs.dot8.Statement.{statement}
 use Rattle.wide_rows.proofs.dot8.Tie as tie
 

@@ -36,14 +36,14 @@ rest-is k x = take-all (length x - k) (drop k x) (rest-fits k x)
 pub put-back : (k : ℕ) (x z : List ℕ) → take k x ++ (z ++ drop (length x - k) (drop k x)) ≡ take k x ++ z
 put-back k x z = ap (λ l. take k x ++ l) (ap (λ l. z ++ l) (drop-of-length-le (drop k x) (rest-fits k x)) ∙ append-nil z)
 
--- a product taken off each half
-pub taken-off : (p n : ℕ) (s q t : List ℕ) {a b : List ℕ} → length s ≡ n + n → length q ≤ n
-    → a ≡ cond (lessProductFits (take n s) q) (lessProduct p (take n s) q (take n t)) (take n s)
-    → b ≡ cond (lessProductFits (rest n (a ++ drop n s)) q) (lessProduct p (rest n (a ++ drop n s)) q (rest n t)) (rest n (a ++ drop n s))
+-- a product by the first c words of t taken off each half
+pub taken-off : (p n c : ℕ) (s q t : List ℕ) {a b : List ℕ} → length s ≡ n + n → length q ≤ n
+    → a ≡ cond (lessProductFits (take n s) q) (lessProduct p (take n s) q (take c t)) (take n s)
+    → b ≡ cond (lessProductFits (rest n (a ++ drop n s)) q) (lessProduct p (rest n (a ++ drop n s)) q (take (n + c - n) (drop n t))) (rest n (a ++ drop n s))
     → take n (a ++ drop n s) ++ (b ++ drop (length (a ++ drop n s) - n) (drop n (a ++ drop n s)))
-    ≡ lessProduct p (take n s) q (take n t) ++ lessProduct p (drop n s) q (drop n t)
+    ≡ lessProduct p (take n s) q (take c t) ++ lessProduct p (drop n s) q (take c (drop n t))
 unfolding lessProductFits
-taken-off p n s q t {a} {b} es lq ea eb =
+taken-off p n c s q t {a} {b} es lq ea eb =
     put-back n (a ++ drop n s) b ∙ ap₂ _++_ (take-at a (drop n s) n long ∙ first) second
   where
     front : length (take n s) ≡ n
@@ -52,19 +52,22 @@ taken-off p n s q t {a} {b} es lq ea eb =
     back : length (drop n s) ≡ n
     back = length-drop n s ∙ omega arith
 
-    first : a ≡ lessProduct p (take n s) q (take n t)
-    first = ea ∙ ap (λ c. cond c (lessProduct p (take n s) q (take n t)) (take n s)) (le-leb (length q) (length (take n s)) (omega (arith, front)))
+    first : a ≡ lessProduct p (take n s) q (take c t)
+    first = ea ∙ ap (λ z. cond z (lessProduct p (take n s) q (take c t)) (take n s)) (le-leb (length q) (length (take n s)) (omega (arith, front)))
 
     long : length a ≡ n
-    long = ap length first ∙ length-lessProduct p (take n s) q (take n t) ∙ front
+    long = ap length first ∙ length-lessProduct p (take n s) q (take c t) ∙ front
 
     same : rest n (a ++ drop n s) ≡ drop n s
     same = rest-is n (a ++ drop n s) ∙ drop-at a (drop n s) n long
 
-    second : b ≡ lessProduct p (drop n s) q (drop n t)
+    words : n + c - n ≡ c
+    words = omega arith
+
+    second : b ≡ lessProduct p (drop n s) q (take c (drop n t))
     second =
-        eb ∙ ap₂ (λ x y. cond (leb (length q) (length x)) (lessProduct p x q y) x) same (rest-is n t)
-        ∙ ap (λ c. cond c (lessProduct p (drop n s) q (drop n t)) (drop n s)) (le-leb (length q) (length (drop n s)) (omega (arith, back)))
+        eb ∙ ap₂ (λ x i. cond (leb (length q) (length x)) (lessProduct p x q (take i (drop n t))) x) same words
+        ∙ ap (λ z. cond z (lessProduct p (drop n s) q (take c (drop n t))) (drop n s)) (le-leb (length q) (length (drop n s)) (omega (arith, back)))
 
 -- a row put together from its parts
 module _ (n : ℕ) (x s t : List ℕ) (lx : length x ≡ n) (ls : length s ≡ n) where

@@ -4,22 +4,24 @@
 use mathlib.Core.Path.{_≡_, sym, _∙_, ap, subst}
 use mathlib.Core.Bool.{cond}
 use mathlib.Core.List.{List}
-use Prim.Native.Nat.{ℕ, zero, _+_, _<_}
+use Prim.Native.Nat.{ℕ, zero, suc, _+_, _-_, _≤_, _<_}
 use native.Mathlib.Omega.{arith}
 use lib.ListN.{length}
 use Rattle.algebra.specs.Ring.{CommRing}
 use Rattle.algebra.specs.Euclid.{next-acc, done-acc}
-use Rattle.algebra.specs.PrimeField.{PrimeField, scalarField}
+use Rattle.algebra.specs.PrimeField.{PrimeField, scalarField, positive}
 use Rattle.lists.specs.Degrees.{significant}
-use Rattle.lists.specs.Words.{Low}
+use Rattle.lists.specs.Extents.{significant-le}
+use Rattle.lists.specs.Words.{Low, ZeroFrom, zero-later}
 use Rattle.reduction.proofs.Steps.{less-product-low, length-lessProduct}
-use Rattle.rounds.specs.Round.{remaining, quotientWords}
-use Rattle.rounds.proofs.Turns.{end-euclid, round-fits, round-euclid, round-quotient, length-remaining}
+use Rattle.reduction.proofs.Cut.{lessProduct-zero}
+use Rattle.rounds.specs.Round.{roundSteps, remaining, quotientWords}
+use Rattle.rounds.proofs.Turns.{end-euclid, round-fits, round-euclid, round-quotient, length-remaining, length-quotientWords}
 use Rattle.gcd.specs.Workers.{Buffer, euclidOn}
 use Rattle.gcd.proofs.Turning as T
 use Rattle.gcd.specs.Workers.{Turning}
 use Rattle.gcd.proofs.Turning.{Turned, turning-count, turning-last}
-use Rattle.cofactors.specs.Workers.{partX, partS, partT, lessQuotient, turned, Leads, roundsOn, Carried, Ends}
+use Rattle.cofactors.specs.Workers.{partX, partS, partT, reach, Short, Cut, lessQuotient, turned, Leads, roundsOn, Carried, Ends}
 use Rattle.cofactors.proofs.Parts.{length-partS, length-partT, joined-x, joined-s, joined-t, joined-length}
 
 module _ (F : PrimeField) (n : ℕ) where
@@ -87,6 +89,29 @@ module _ (F : PrimeField) (n : ℕ) where
     unfolding turned
     turned-length = joined-length n left-x left-s left-t long-x long-s long-t
 
+  -- a round leaves short cofactors: the quotient has at most as many words more than 1 as x loses
+  module _ (u v : List ℕ) (eu : length u ≡ n + (n + n)) (bu : Buffer F n (partX n u)) (bv : Buffer F n (partX n v)) (some : 0 < significant (partX n v)) where
+    less-short : (s t : List ℕ) → ZeroFrom (reach F n u v) s → ZeroFrom (reach F n u v) t
+        → ZeroFrom (suc n - significant (partX n v)) (lessQuotient F n (partX n u) (partX n v) s t)
+    unfolding lessQuotient roundSteps
+    less-short s t zs zt = zero-later fits (lessProduct-zero (F .p) (positive F) (reach F n u v) zt s (quotientWords F (partX n u) (partX n v)) zs)
+      where
+        steps : length (quotientWords F (partX n u) (partX n v)) ≡ significant (partX n u) - (significant (partX n v) - 1)
+        steps = length-quotientWords F n (partX n u) (partX n v) (bu .below) (bv .below) (bu .size) (bv .size) some
+
+        fits : reach F n u v + (length (quotientWords F (partX n u) (partX n v)) - 1) ≤ suc n - significant (partX n v)
+        fits = omega (arith, steps, significant-le (partX n u), significant-le (partX n v), bu .size, bv .size)
+
+    turned-short : Short F n (reach F n u v) u → Short F n (reach F n u v) v → Short F n (suc n - significant (partX n v)) (turned F n u v)
+    turned-short su sv =
+        record {
+          left = rw (turned-s u v eu bu bv some) (less-short (partS n u) (partS n v) (su .left) (sv .left));
+          right = rw (turned-t u v eu bu bv some) (less-short (partT n u) (partT n v) (su .right) (sv .right));
+        }
+
+  short-later : {c d : ℕ} {u : List ℕ} → c ≤ d → Short F n c u → Short F n d u
+  short-later l s = record { left = zero-later l (s .left); right = zero-later l (s .right) }
+
   -- where no round is left, s is the cofactor
   leads-end : (x y : List ℕ) → Buffer F n x → Buffer F n y → significant y ≡ 0 → {s s′ : List ℕ} {c : S}
       → Leads F n (euclidOn F n x y) s s′ c → Low F n s c
@@ -109,6 +134,10 @@ module _ (F : PrimeField) (n : ℕ) where
         right = leads-end (partX n u) (partX n v) (c .turning .left) (c .turning .right) none (c .right);
       }
 
+  -- what the next round needs of the cofactors
+  pub carried-cut : (u₀ v₀ u v : List ℕ) (rounds : ℕ) → Carried F n u₀ v₀ u v rounds → Cut F n u v
+  carried-cut u₀ v₀ u v rounds c = record { left = c .left .low .below; right = c .right .low .below; short = c .short-v }
+
   pub record Carries-on (u₀ v₀ v u′ : List ℕ) (rounds : ℕ) : Type 0 where
     pub next : Carried F n u₀ v₀ v u′ (rounds + 1)
     pub smaller : significant (partX n u′) < significant (partX n v)
@@ -124,10 +153,12 @@ module _ (F : PrimeField) (n : ℕ) where
           size-u = c .size-v;
           size-v = turned-length u v (c .size-u) bx by some;
           turning = subst (λ w. Turning F n (partX n u₀) (partX n v₀) y w (rounds + 1)) (sym is-x) (step .next);
+          short-u = short-later (omega (arith, less)) (c .short-v);
+          short-v = short-later (omega (arith, less)) (turned-short u v (c .size-u) bx by some (c .short-u) (c .short-v));
           left = leads (turned-s u v (c .size-u) bx by some) (leads-round x y bx by some (length-partS n u (c .size-u)) (length-partS n v (c .size-v)) (c .left));
           right = leads (turned-t u v (c .size-u) bx by some) (leads-round x y bx by some (length-partT n u (c .size-u)) (length-partT n v (c .size-v)) (c .right));
         };
-        smaller = rw is-x (step .smaller);
+        smaller = less;
         few = step .few;
       })
     where
@@ -151,6 +182,9 @@ module _ (F : PrimeField) (n : ℕ) where
 
       is-x : partX n (turned F n u v) ≡ remaining F x y
       is-x = turned-x u v (c .size-u) bx by some
+
+      less : significant (partX n (turned F n u v)) < significant y
+      less = rw is-x (step .smaller)
 
       leads : {s s′ s″ : List ℕ} {k : S} → s″ ≡ s′ → Leads F n (euclidOn F n y (remaining F x y)) s s′ k
           → Leads F n (roundsOn F n v (turned F n u v)) s s″ k

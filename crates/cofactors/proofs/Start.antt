@@ -12,13 +12,14 @@ use Rattle.algebra.specs.Ring.{CommRing, RING}
 use Rattle.algebra.specs.Series.{coeff-0, coeff-1-zero, coeff-1-suc}
 use Rattle.algebra.specs.PrimeField.{PrimeField, positive, residue, residue-0, residue-1}
 use Rattle.lists.specs.Lists.{scaled}
-use Rattle.lists.specs.Words.{scaledWords, Low}
+use Rattle.lists.specs.Extents.{significant-le}
+use Rattle.lists.specs.Words.{scaledWords, Low, ZeroFrom, zero-later}
 use Rattle.kernels.specs.Kernels.{scaleFits}
 use Rattle.gcd.specs.Workers.{Holds}
 use Rattle.gcd.proofs.Buffers.{holds-scaled}
 use Rattle.gcd.proofs.Turning.{turning-start}
 use Rattle.euclid.specs.Gcds.{room}
-use Rattle.cofactors.specs.Workers.{partX, partS, partT, Started, roundsOn, Carried}
+use Rattle.cofactors.specs.Workers.{partX, partS, partT, reach, Started, roundsOn, Carried}
 use Rattle.cofactors.proofs.Parts.{length-partX, length-partS}
 
 module _ (F : PrimeField) (n : ℕ) where
@@ -65,23 +66,32 @@ module _ (F : PrimeField) (n : ℕ) where
     first : n + 0 ≡ n
     first = omega arith
 
+    -- the words of the cofactors but the 1
+    zero-su : (k : ℕ) → getD (partS n u) (suc k) 0 ≡ 0
+    zero-su k = zero-partS u (suc k) (su .size) (λ l. su .zeros (n + suc k) (omega arith) (λ e. omega arith))
+
+    zero-tu : (k : ℕ) → getD (partT n u) k 0 ≡ 0
+    zero-tu k = getD-partT u k ∙ su .zeros (n + (n + k)) (omega arith) (λ e. omega arith)
+
+    zero-sv : (k : ℕ) → getD (partS n v) k 0 ≡ 0
+    zero-sv k = zero-partS v k (sv .size) (λ l. sv .zeros (n + k) (omega arith) (λ e. omega arith))
+
+    zero-tv : (k : ℕ) → getD (partT n v) (suc k) 0 ≡ 0
+    zero-tv k = getD-partT v (suc k) ∙ sv .zeros (n + (n + suc k)) (omega arith) (λ e. omega arith)
+
     left-u : Low F n (partS n u) 1ˢ
-    left-u =
-        low-one (partS n u) (getD-partS u 0 some ∙ ap (λ i. getD u i 0) first ∙ su .here)
-        (λ k. zero-partS u (suc k) (su .size) (λ l. su .zeros (n + suc k) (omega arith) (λ e. omega arith)))
-
-    right-u : Low F n (partT n u) 0ˢ
-    right-u = low-zero (partT n u) (λ k. getD-partT u k ∙ su .zeros (n + (n + k)) (omega arith) (λ e. omega arith))
-
-    left-v : Low F n (partS n v) 0ˢ
-    left-v =
-        low-zero (partS n v)
-        (λ k. zero-partS v k (sv .size) (λ l. sv .zeros (n + k) (omega arith) (λ e. omega arith)))
+    left-u = low-one (partS n u) (getD-partS u 0 some ∙ ap (λ i. getD u i 0) first ∙ su .here) zero-su
 
     right-v : Low F n (partT n v) 1ˢ
-    right-v =
-        low-one (partT n v) (getD-partT v 0 ∙ ap (λ i. getD v (n + i) 0) first ∙ sv .here)
-        (λ k. getD-partT v (suc k) ∙ sv .zeros (n + (n + suc k)) (omega arith) (λ e. omega arith))
+    right-v = low-one (partT n v) (getD-partT v 0 ∙ ap (λ i. getD v (n + i) 0) first ∙ sv .here) zero-tv
+
+    at-least-1 : 1 ≤ reach F n u v
+    at-least-1 =
+        omega (arith, significant-le (partX n u), significant-le (partX n v), su .holds .buffer .size, sv .holds .buffer .size)
+
+    after-1 : (l : List ℕ) → ((k : ℕ) → getD l (suc k) 0 ≡ 0) → ZeroFrom (reach F n u v) l
+    after-1 l h =
+        zero-later at-least-1 (record { at = λ k b. let e : k ≡ suc (k - 1) = omega arith in ap (λ i. getD l i 0) e ∙ h (k - 1) })
 
     -- the rows that the loop starts from
     pub carried-start : Carried F n u v u v 0
@@ -90,8 +100,10 @@ module _ (F : PrimeField) (n : ℕ) where
           size-u = su .size;
           size-v = sv .size;
           turning = turning-start F n (partX n u) (partX n v) (su .holds .buffer) (sv .holds .buffer);
-          left = record { of = 1ˢ; of′ = 0ˢ; low = left-u; low′ = left-v; sum = keep (roundsOn F n u v .byX) (roundsOn F n u v .byY) };
-          right = record { of = 0ˢ; of′ = 1ˢ; low = right-u; low′ = right-v; sum = pass (roundsOn F n u v .byX) (roundsOn F n u v .byY) };
+          short-u = record { left = after-1 (partS n u) zero-su; right = record { at = λ k l. zero-tu k } };
+          short-v = record { left = record { at = λ k l. zero-sv k }; right = after-1 (partT n v) zero-tv };
+          left = record { of = 1ˢ; of′ = 0ˢ; low = left-u; low′ = low-zero (partS n v) zero-sv; sum = keep (roundsOn F n u v .byX) (roundsOn F n u v .byY) };
+          right = record { of = 0ˢ; of′ = 1ˢ; low = low-zero (partT n u) zero-tu; low′ = right-v; sum = pass (roundsOn F n u v .byX) (roundsOn F n u v .byY) };
         }
       where
         keep : (x y : S) → x *ˢ 1ˢ +ˢ y *ˢ 0ˢ ≡ x

@@ -3,20 +3,22 @@
 use mathlib.Core.Path.{_≡_, sym, _∙_, ap, ap₂}
 use mathlib.Core.Bool.{cond, true}
 use mathlib.Core.List.{List, _++_, append-assoc}
-use Prim.Native.Nat.{ℕ, zero, _+_, _-_, _≤_, _<_}
+use Prim.Native.Nat.{ℕ, zero, suc, max, _+_, _-_, _≤_, _<_}
 use native.Mathlib.Omega.{arith}
 use lib.ListN.{length, take, drop, take-append-drop}
 use lib.Seq.{take-at, drop-at, drop-append-le, take-take}
 use Rattle.algebra.specs.Ring.{CommRing}
-use Rattle.algebra.specs.PrimeField.{PrimeField}
+use Rattle.algebra.specs.PrimeField.{PrimeField, positive}
 use Rattle.lists.specs.Degrees.{significant}
 use Rattle.lists.specs.Extents.{significant-le}
+use Rattle.lists.specs.Words.{zero-later}
 use Rattle.reduction.specs.Reduction.{lessProduct}
+use Rattle.reduction.proofs.Cut.{lessProduct-cut}
 use Rattle.rounds.specs.Round.{roundSteps, roundFits, remaining, quotientWords}
 use Rattle.rounds.proofs.Turns.{round-fits, length-remaining, length-quotientWords, roundSteps-le}
 use Rattle.gcd.proofs.Parts.{significant-put, steps-part, fits-part, quotient-part, left-part}
 use Rattle.gcd.specs.Workers.{Buffer}
-use Rattle.cofactors.specs.Workers.{partX, partS, partT, lessQuotient, turned}
+use Rattle.cofactors.specs.Workers.{partX, partS, partT, reach, Cut, lessQuotient, turned}
 use Rattle.cofactors.proofs.Parts.{rest, rest-is, put-back}
 use Rattle.cofactors.proofs.Rounds.{turned-x}
 
@@ -95,19 +97,29 @@ module _ (F : PrimeField) (n : ℕ) where
               ap significant (take-at z (drop nu u) nu e ∙ sym (take-at z (drop nu (partX n u)) nu e))
               ∙ significant-put nu (partX n u) all-u z e ∙ ap significant (left-is ∙ sym (turned-x F n u v eu bu bv some-v))
 
-          -- x left by the round, and the cofactors less the quotient's product
-          pub turn-row : {r′ : List ℕ}
-              → r′ ≡ lessProduct (F .p) (take n (rest n (z ++ drop nu u))) (take k q′) (take n (rest n v))
-              ++ lessProduct (F .p) (drop n (rest n (z ++ drop nu u))) (take k q′) (drop n (rest n v))
+          -- x left by the round, and the cofactors less the quotient's product, of which c words are read
+          pub turn-row : {r′ : List ℕ} (c : ℕ) → suc n - max nu nv ≤ c → c ≤ n → Cut F n u v
+              → r′ ≡ lessProduct (F .p) (take n (rest n (z ++ drop nu u))) (take k q′) (take c (rest n v))
+              ++ lessProduct (F .p) (drop n (rest n (z ++ drop nu u))) (take k q′) (take c (drop n (rest n v)))
               → take n (z ++ drop nu u) ++ (r′ ++ drop (length (z ++ drop nu u) - n) (drop n (z ++ drop nu u))) ≡ turned F n u v
           unfolding turned lessQuotient
-          turn-row {r′} er =
+          turn-row {r′} c far inside cut er =
               put-back n (z ++ drop nu u) r′
               ∙ ap₂ _++_ (ap (take n) row-is ∙ take-at (remaining F (partX n u) (partX n v)) (drop n u) n long)
               (er
-              ∙ ap₂ (λ a b. lessProduct (F .p) (take n a) (take k q′) (take n b) ++ lessProduct (F .p) (drop n a) (take k q′) (drop n b))
+              ∙ ap₂ (λ a b. lessProduct (F .p) (take n a) (take k q′) (take c b) ++ lessProduct (F .p) (drop n a) (take k q′) (take c (drop n b)))
               (rest-is n (z ++ drop nu u) ∙ ap (drop n) row-is ∙ drop-at (remaining F (partX n u) (partX n v)) (drop n u) n long) (rest-is n v)
-              ∙ ap (λ l. lessProduct (F .p) (partS n u) l (partS n v) ++ lessProduct (F .p) (partT n u) l (partT n v)) quotient-is)
+              ∙ ap (λ l. lessProduct (F .p) (partS n u) l (take c (drop n v)) ++ lessProduct (F .p) (partT n u) l (take c (partT n v))) quotient-is
+              ∙ ap₂ _++_
+              (ap (lessProduct (F .p) (partS n u) digits) (sym (take-take c n (drop n v) inside))
+              ∙ lessProduct-cut (F .p) (positive F) c (zero-later reached (cut .short .left)) (partS n u) digits (cut .left))
+              (lessProduct-cut (F .p) (positive F) c (zero-later reached (cut .short .right)) (partT n u) digits (cut .right)))
             where
+              digits : List ℕ
+              digits = quotientWords F (partX n u) (partX n v)
+
+              reached : reach F n u v ≤ c
+              reached = omega (arith, hu, hv)
+
               long : length (remaining F (partX n u) (partX n v)) ≡ n
               long = length-remaining F n (partX n u) (partX n v) (bu .below) (bv .below) (bu .size) (bv .size) some-v

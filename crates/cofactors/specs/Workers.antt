@@ -3,6 +3,9 @@
 --     wrongSlices           whether a result slice has not the length of its result; Slices: none of them
 --     partX, partS, partT   the parts of a row
 --     Started n one row s   a row with the words of s, zeros after it but for a 1 at word `one`
+--     reach n u v           no cofactor in the rows u, v has more words: those that the parts x have lost, and 1
+--     Short c u             both cofactors in the row u are 0 from word c on
+--     Cut u v               what a round needs of the cofactors: those of u are words below p, those of v have at most `reach` words
 --     turned n u v          what a round leaves of the row u: u less q times v, part by part, q being the quotient of the parts x
 --     Leads z s s′ c        s and s′ stand for series that lead to the cofactor c: with the cofactors of the rounds z that are left they
 --                           give c. The words are cut off at n
@@ -18,7 +21,7 @@
 use mathlib.Core.Path.{_≡_}
 use mathlib.Core.Bool.{Bool, not, _||_}
 use mathlib.Core.List.{List, _++_}
-use Prim.Native.Nat.{ℕ, suc, _+_, _-_, _≤_, _<_}
+use Prim.Native.Nat.{ℕ, suc, max, _+_, _-_, _≤_, _<_}
 use lib.Dec.{eqb}
 use lib.ListN.{getD, length, take, drop}
 use Rattle.algebra.specs.Ring.{CommRing}
@@ -27,7 +30,7 @@ use Rattle.algebra.specs.Euclid.{Euclid}
 use Rattle.algebra.specs.PrimeField.{PrimeField, scalarField, scalars, inverse}
 use Rattle.lists.specs.Degrees.{significant, naiveDegree}
 use Rattle.lists.specs.Lists.{unscaled}
-use Rattle.lists.specs.Words.{seriesOf, Low}
+use Rattle.lists.specs.Words.{seriesOf, Low, ZeroFrom}
 use Rattle.reduction.specs.Reduction.{lessProduct}
 use Rattle.rounds.specs.Round.{remaining, quotientWords}
 use Rattle.gcd.specs.Workers.{Buffer, Holds, euclidOn, monicList}
@@ -68,6 +71,18 @@ module _ (F : PrimeField) (n : ℕ) where
     pub here : getD row one 0 ≡ 1
     pub zeros : (k : ℕ) → n ≤ k → ¬ (k ≡ one) → getD row k 0 ≡ 0
 
+  abbrev pub reach : (u v : List ℕ) → ℕ
+  reach u v = suc n - max (significant (partX n u)) (significant (partX n v))
+
+  pub record Short (c : ℕ) (u : List ℕ) : Type 0 where
+    pub left : ZeroFrom c (partS n u)
+    pub right : ZeroFrom c (partT n u)
+
+  pub record Cut (u v : List ℕ) : Type 0 where
+    pub left : (k : ℕ) → getD (partS n u) k 0 < F .p
+    pub right : (k : ℕ) → getD (partT n u) k 0 < F .p
+    pub short : Short (reach u v) v
+
   -- what is left of the words s of u, t being those of v
   unfoldable pub lessQuotient : (x y s t : List ℕ) → List ℕ
   lessQuotient x y s t = lessProduct (F .p) s (quotientWords F x y) t
@@ -92,6 +107,8 @@ module _ (F : PrimeField) (n : ℕ) where
     pub size-u : length u ≡ n + (n + n)
     pub size-v : length v ≡ n + (n + n)
     pub turning : Turning F n (partX n u₀) (partX n v₀) (partX n u) (partX n v) rounds
+    pub short-u : Short (reach u v) u
+    pub short-v : Short (reach u v) v
     pub left : Leads (roundsOn u v) (partS n u) (partS n v) (roundsOn u₀ v₀ .byX)
     pub right : Leads (roundsOn u v) (partT n u) (partT n v) (roundsOn u₀ v₀ .byY)
 

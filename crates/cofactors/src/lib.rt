@@ -2,7 +2,7 @@
 ghost use mathlib.Core.Path.{_≡_};
 ghost use mathlib.Core.Bool.{cond};
 ghost use mathlib.Core.List.{_++_};
-ghost use Prim.Native.Nat.{ℕ, suc, _+_, _-_, _<_, _≤_};
+ghost use Prim.Native.Nat.{ℕ, suc, max, _+_, _-_, _<_, _≤_};
 ghost use lib.ListN.{length, getD, take, drop};
 ghost use Rattle.algebra.specs.PrimeField.{F65521, residue};
 ghost use Rattle.refusal.specs.Limits.{maxWords};
@@ -17,7 +17,7 @@ ghost use Rattle.gcd.specs.Calls.{gcdReply, gcdValues, Greatest};
 ghost use Rattle.gcd.specs.Workers.{Buffer};
 ghost use Rattle.gcd.specs.Workers.{Ready};
 ghost use Rattle.cofactors.specs.Calls.{cofactorRefusals, Cofactors};
-ghost use Rattle.cofactors.specs.Workers.{partX, turned, Started, Carried, Ends};
+ghost use Rattle.cofactors.specs.Workers.{partX, turned, Started, Cut, Carried, Ends};
 ghost use Rattle.cofactors.specs.Workers.{wrongSlices, timesList, Found, LastRow, Wrote, Slices, Results};
 use gcd::Gcd;
 use lists::NaiveDegree;
@@ -100,13 +100,22 @@ fn start_row(list: &[u16], row: &mut [u16], one: usize)
     row[one] = 1;
 }
 
-// s less q times t, for both cofactors of a row.
-fn take_off(s: &mut [u16], q: &[u16], t: &[u16])
-    requires { ⌜ (length (now s) ≡ maxWords + maxWords) × (length (now t) ≡ maxWords + maxWords) × (length (now q) ≤ maxWords) ⌝ }
-    ensures { λ _. ⌜ now (s .exit) ≡ lessProduct p (take maxWords (now (s .entry))) (now (q .entry)) (take maxWords (now (t .entry))) ++ lessProduct p (drop maxWords (now (s .entry))) (now (q .entry)) (drop maxWords (now (t .entry))) ⌝ }
+// s less q times the first n words of t, for both cofactors of a row.
+fn take_off(s: &mut [u16], q: &[u16], t: &[u16], n: usize)
+    requires { ⌜ (length (now s) ≡ maxWords + maxWords) × (length (now t) ≡ maxWords + maxWords) × (length (now q) ≤ maxWords) × (n ≤ maxWords) ⌝ }
+    ensures { λ _. ⌜ now (s .exit) ≡ lessProduct p (take maxWords (now (s .entry))) (now (q .entry)) (take n (now (t .entry))) ++ lessProduct p (drop maxWords (now (s .entry))) (now (q .entry)) (take n (drop maxWords (now (t .entry)))) ⌝ }
 {
-    reduction::sub_product(&mut s[..256], q, &t[..256]);
-    reduction::sub_product(&mut s[256..], q, &t[256..]);
+    reduction::sub_product(&mut s[..256], q, &t[..n]);
+    reduction::sub_product(&mut s[256..], q, &t[256..256 + n]);
+}
+
+// How many words of the cofactors a round reads, of parts x with nu and nv significant words: all that can differ from 0, and whole groups
+// of 8, as the rows go by groups of 8.
+fn words_read(nu: usize, nv: usize) -> usize
+    requires { ⌜ (nu ≤ maxWords) × (nv ≤ maxWords) × (0 < nv) ⌝ }
+    ensures { λ r. ⌜ (suc maxWords - max nu nv ≤ r) × (r ≤ maxWords) ⌝ }
+{
+    (264 - lists::larger(nu, nv)) / 8 * 8
 }
 
 // One of Euclid's rounds on rows: u less the quotient times v. The significant words of their parts x, nu and nv of them, are all that
@@ -116,12 +125,13 @@ fn turn(u: &mut [u16], nu: usize, v: &[u16], nv: usize, q: &mut [u16]) -> usize
     requires { ⌜ Buffer F65521 maxWords (partX maxWords (now u)) ⌝ }
     requires { ⌜ Buffer F65521 maxWords (partX maxWords (now v)) ⌝ }
     requires { ⌜ (nu ≡ significant (partX maxWords (now u))) × (nv ≡ significant (partX maxWords (now v))) × (0 < nv) ⌝ }
+    requires { ⌜ Cut F65521 maxWords (now u) (now v) ⌝ }
     ensures { λ r. ⌜ r ≡ significant (partX maxWords (now (u .exit))) ⌝ }
     ensures { λ _. ⌜ now (u .exit) ≡ turned F65521 maxWords (now (u .entry)) (now (v .entry)) ⌝ }
 {
     let k = rounds::round(&mut u[..nu], &v[..nv], q);
     let left = lists::significant_words(&u[..nu]);
-    take_off(&mut u[256..], &q[..k], &v[256..]);
+    take_off(&mut u[256..], &q[..k], &v[256..], words_read(nu, nv));
     left
 }
 

@@ -8,8 +8,9 @@ use native.Mathlib.Nat.{mul-le-mul, le-refl}
 use native.Mathlib.Omega.{arith}
 use lib.ListN.{length, getD, take, drop, length-take, length-drop, List·getD-append, List·getD-eq-default}
 use lib.Seq.{getD-take, getD-drop, getD-append-add, length-take-le}
+use Rattle.lists.specs.Words.{ZeroFrom}
 use Rattle.wide_rows.specs.Placed.{Placed}
-use Rattle.convolution.specs.Rows.{Ends, rowSum, Summed, block, Multiplied}
+use Rattle.convolution.specs.Rows.{rowSum, Summed, block, Multiplied}
 
 -- a part that was lent and came back as z
 module _ (k r n : ℕ) (s z : List ℕ) (w : r ≡ n) (l : k + n ≤ length s) (e : length z ≡ n) where
@@ -44,8 +45,8 @@ module _ (k r n : ℕ) (s z : List ℕ) (w : r ≡ n) (l : k + n ≤ length s) (
   part-placed a b m h = record { low = before; at = λ j p. within j p ∙ h .at j (omega arith); high = after }
 
 -- a part of a list that is 0 from k on
-pub part-ends : {s : List ℕ} (k n : ℕ) → Ends k s → Ends 0 (take n (drop k s))
-part-ends {s} k n z = record { at = λ j l. go j (decLt j n) }
+pub part-zero : {s : List ℕ} (k n : ℕ) → ZeroFrom k s → ZeroFrom 0 (take n (drop k s))
+part-zero {s} k n z = record { at = λ j l. go j (decLt j n) }
   where
     go : (j : ℕ) → Dec (j < n) → getD (take n (drop k s)) j 0 ≡ 0
     go j (yes p) = getD-take n (drop k s) j 0 p ∙ getD-drop k s j 0 ∙ z .at (k + j) (omega arith)
@@ -59,7 +60,7 @@ pub block-fits : (n : ℕ) {t count m : ℕ} → t < count → count * n ≤ m �
 block-fits n {t} {count} {m} l h = omega (arith, mul-le-mul {n₁ = t + 1} {n₂ = count} {m₂ = n} (omega arith) (le-refl n))
 
 module _ (g v : ℕ) (x y : List ℕ) where
-  pub blocks-start : {s : List ℕ} → Ends 0 s → Multiplied g v x y 0 s
+  pub blocks-start : {s : List ℕ} → ZeroFrom 0 s → Multiplied g v x y 0 s
   blocks-start z = record { done = λ r k l h. absurd (omega arith); todo = λ k l. z .at k (omega arith) }
 
   pub blocks-next : (t : ℕ) {s new : List ℕ} → Multiplied g v x y t s

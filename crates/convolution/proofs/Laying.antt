@@ -6,8 +6,9 @@ use Prim.Native.Nat.{ℕ, _+_, _-_, _*_, _≤_, _<_}
 use native.Mathlib.Decide.{decLt}
 use native.Mathlib.Omega.{arith}
 use lib.ListN.{length, getD, List·getD-eq-default}
+use Rattle.lists.specs.Words.{ZeroFrom}
 use Rattle.wide_rows.specs.Placed.{Placed}
-use Rattle.convolution.specs.Rows.{Ends, Shifted, block, behind}
+use Rattle.convolution.specs.Rows.{Shifted, block, behind}
 use Rattle.convolution.specs.Halves.{FirstHalves, SecondHalves, Laid, sumAt, Small}
 use Rattle.convolution.proofs.Sums.{split}
 use Rattle.convolution.proofs.Blocks.{block-at, block-end}
@@ -24,14 +25,14 @@ placed-below m {d} {n} {f} {old} {new} p u v k = go (decLt k d) (decLt k (d + n)
         omega (arith, ap (λ i. getD new i 0) (split d k (omega arith)), p .at (k - d) (omega arith), v (k - d))
     go (no l) (no h) = omega (arith, p .high k (omega arith), u k)
 
-pub zero-below : {s : List ℕ} → Ends 0 s → (k : ℕ) → getD s k 0 < 65536
+pub zero-below : {s : List ℕ} → ZeroFrom 0 s → (k : ℕ) → getD s k 0 < 65536
 zero-below z k = omega (arith, z .at k (omega arith))
 
 pub below-small : (n : ℕ) {s : List ℕ} → ((k : ℕ) → getD s k 0 < 65536) → Small n s
 below-small n b = record { at = λ k l. omega (arith, b k) }
 
 -- a whole list
-pub shifted-is : (d : ℕ) {l old s : List ℕ} → Ends 0 old → Placed d (length l) (λ k. getD l (0 + k) 0) old s → Shifted d l s
+pub shifted-is : (d : ℕ) {l old s : List ℕ} → ZeroFrom 0 old → Placed d (length l) (λ k. getD l (0 + k) 0) old s → Shifted d l s
 shifted-is d {l} {old} {s} z p =
     record { lead = λ k h. p .low k h ∙ z .at k (omega arith); at = λ k. go k (decLt k (length l)) }
   where
@@ -81,7 +82,7 @@ first-halves h {a} {x} {new} f p =
     word k = ap (λ i. getD x i 0) (same k) ∙ f .at k
 
 -- the halves of the second factor, each behind 7 zeros
-module _ (h : ℕ) (b : List ℕ) {s₀ s₁ s₂ : List ℕ} (z : Ends 0 s₀) (p : Placed 7 h (λ k. getD b (0 + k) 0) s₀ s₁)
+module _ (h : ℕ) (b : List ℕ) {s₀ s₁ s₂ : List ℕ} (z : ZeroFrom 0 s₀) (p : Placed 7 h (λ k. getD b (0 + k) 0) s₀ s₁)
     (q : Placed (h + 22) (length b - h) (λ k. getD b (h + k) 0) s₁ s₂) where
   low-lead : (k : ℕ) → k < 7 → getD s₂ k 0 ≡ 0
   low-lead k l = q .low k (omega arith) ∙ p .low k l ∙ z .at k (omega arith)

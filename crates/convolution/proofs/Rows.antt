@@ -8,10 +8,11 @@ use native.Mathlib.Nat.{add-zero, add-assoc, mul-zero, mod-eq-of-lt}
 use native.Mathlib.Numerals.{add-one}
 use native.Mathlib.Omega.{arith}
 use lib.ListN.{length, getD}
+use Rattle.lists.specs.Words.{ZeroFrom}
 use Rattle.wide_rows.specs.Rows.{dot, grown, withRows}
 use Rattle.wide_rows.proofs.Dots.{dot-none, dot-next}
 use Rattle.wide_rows.proofs.Groups.{grown-none, grown-within, grown-below, grown-above, word-added}
-use Rattle.convolution.specs.Rows.{Ends, Factors, Strip, rowSum, Summed}
+use Rattle.convolution.specs.Rows.{Factors, Strip, rowSum, Summed}
 use Rattle.convolution.proofs.Sums.{sum-none, sum-next, sum-more, sum-le}
 
 module _ (a b : List ℕ) (f : Factors a b) where
@@ -62,7 +63,7 @@ module _ (a b : List ℕ) (f : Factors a b) where
             ∙ ap (λ u. u % 2 ^ 64) (sym (dot-is k g 8 (omega arith)))
             ∙ mod-eq-of-lt {m = 2 ^ 64} (omega (arith, sum-le a b k f (8 * g + 8), f .few))
 
-    pub summed-is : (g : ℕ) {s new : List ℕ} → length a ≡ 8 * g → Ends 0 s → length new ≡ length s → new ≡ withRows a b s → Summed a b new (8 * g)
+    pub summed-is : (g : ℕ) {s new : List ℕ} → length a ≡ 8 * g → ZeroFrom 0 s → length new ≡ length s → new ≡ withRows a b s → Summed a b new (8 * g)
     summed-is g {s} {new} l o q w =
         record {
           at = λ k h.

@@ -7,7 +7,8 @@ use native.Mathlib.Nat.{add-zero, add-suc, mul-zero, mul-le-mul}
 use native.Mathlib.Numerals.{add-one}
 use native.Mathlib.Omega.{arith}
 use lib.ListN.{getD, replicate}
-use Rattle.convolution.specs.Rows.{Ends, Factors, rowSum}
+use Rattle.lists.specs.Words.{ZeroFrom}
+use Rattle.convolution.specs.Rows.{Factors, rowSum}
 
 -- words of 17 bits
 pub product-le : {x y : ℕ} → x < 131072 → y < 131072 → x * y ≤ 17179607041
@@ -54,7 +55,7 @@ sum-ext a b x y k zero f g = refl
 sum-ext a b x y k (suc n) f g =
     ap₂ (λ u v. u + v) (sum-ext a b x y k n (λ j p. f j (omega arith)) g) (ap₂ (λ u v. u * v) (f n (omega arith)) (g (k + 7 - n) (omega arith)))
 
-pub zeros-are : (n : ℕ) → Ends 0 (replicate n 0)
+pub zeros-are : (n : ℕ) → ZeroFrom 0 (replicate n 0)
 zeros-are n = record { at = λ k l. go n k }
   where
     go : (n k : ℕ) → _≡_ {A = ℕ} (getD (replicate n 0) k 0) 0

@@ -1,6 +1,5 @@
 -- A product by rows, in buffers: row j is word j of the first factor times the second. The second factor stands behind 7 zeros, so that
 -- eight rows have one range of words. A buffer may hold several factors, or several sums, one after the other: its blocks.
---     Ends          from n on every word is 0
 --     Shifted       d zeros, the words of a list, then zeros
 --     Factors       the two factors in their buffers: words of 17 bits, few enough that no sum passes 64 bits
 --     Strip         what stands before the second factor, and from m on behind it, is 0
@@ -18,9 +17,6 @@ use mathlib.Core.List.{List, _++_}
 use Prim.Native.Nat.{ℕ, zero, suc, _+_, _-_, _*_, _%_, _≤_, _<_}
 use lib.ListN.{length, getD, take, drop, replicate}
 use Rattle.lists.specs.Tabulate.{tabulate}
-
-pub record Ends (n : ℕ) (s : List ℕ) : Type 0 where
-  pub at : (k : ℕ) → n ≤ k → getD s k 0 ≡ 0
 
 pub record Shifted (d : ℕ) (l s : List ℕ) : Type 0 where
   pub lead : (k : ℕ) → k < d → getD s k 0 ≡ 0

@@ -8,9 +8,10 @@ ghost use lib.ListN.{length, getD, take, drop};
 ghost use Rattle.algebra.specs.PrimeField.{F65521};
 ghost use Rattle.refusal.specs.Limits.{maxWords};
 ghost use Rattle.field.specs.Field.{p};
+ghost use Rattle.lists.specs.Words.{ZeroFrom};
 ghost use Rattle.wide_rows.specs.Placed.{Placed};
 ghost use Rattle.convolution.specs.Convolution.{convolveFits, convolution};
-ghost use Rattle.convolution.specs.Rows.{Ends, Factors, Strip, rowSum, block, Blocks, Multiplied, Whole, remainders};
+ghost use Rattle.convolution.specs.Rows.{Factors, Strip, rowSum, block, Blocks, Multiplied, Whole, remainders};
 ghost use Rattle.convolution.specs.Halves.{Halving, SecondHalves, Laid, sumAt, crossAt, joinAt, Joined, Enough, Small};
 
 // The sum of the rows of a block of x and one of y, in a block of s, from i, j and k on. s is 0 from k on. A block of x has 8 g words, one
@@ -25,7 +26,7 @@ fn multiply_block(
     k: usize,
     s: &mut [u64],
 )
-    requires { ⌜ (i + 8 * g ≤ length (now x)) × (j + (v + 15) ≤ length (now y)) × (k + (8 * g + v) ≤ length (now s)) × Ends k (now s) ⌝ }
+    requires { ⌜ (i + 8 * g ≤ length (now x)) × (j + (v + 15) ≤ length (now y)) × (k + (8 * g + v) ≤ length (now s)) × ZeroFrom k (now s) ⌝ }
     requires { ⌜ Factors (take (8 * g) (drop i (now x))) (take (v + 15) (drop j (now y))) × Strip (v + 8) (take (v + 15) (drop j (now y))) ⌝ }
     ensures { λ _. ⌜ Placed k (8 * g + v) (λ n. rowSum (take (8 * g) (drop i (now (x .entry)))) (take (v + 15) (drop j (now (y .entry)))) n (8 * g)) (now (s .entry)) (now (s .exit)) ⌝ }
 {
@@ -39,7 +40,7 @@ fn multiply_block(
 // Each block of s, which is 0: the sum of the rows of the blocks of x and y. The loops of the rows are called from this one place, so that
 // LLVM inlines them down to where the buffers are and knows that they do not overlap.
 fn multiply(x: &[u64], y: &[u64], count: usize, g: usize, v: usize, s: &mut [u64])
-    requires { ⌜ Blocks count g v (now x) (now y) (now s) × Ends 0 (now s) ⌝ }
+    requires { ⌜ Blocks count g v (now x) (now y) (now s) × ZeroFrom 0 (now s) ⌝ }
     ensures { λ _. ⌜ Multiplied g v (now (x .entry)) (now (y .entry)) count (now (s .exit)) ⌝ }
 {
     let mut t = 0;
@@ -160,7 +161,7 @@ fn plan_of(g: usize, n: usize, m: usize) -> Plan
 
 // The halves of the second factor and their sum, in s, which is 0.
 fn halve_second(b: &[u16], h: usize, s: &mut [u64])
-    requires { ⌜ (h ≤ length (now b)) × (length (now b) ≤ 2 * h + 1) × (3 * (h + 15) ≤ length (now s)) × (h ≤ 72) × Ends 0 (now s) ⌝ }
+    requires { ⌜ (h ≤ length (now b)) × (length (now b) ≤ 2 * h + 1) × (3 * (h + 15) ≤ length (now s)) × (h ≤ 72) × ZeroFrom 0 (now s) ⌝ }
     ensures { λ _. ⌜ SecondHalves h (now (b .entry)) (block (h + 15) 0 (now (s .exit))) (block (h + 15) 1 (now (s .exit))) (block (h + 15) 2 (now (s .exit))) ⌝ }
 {
     widen(b, 0, h, 7, s);
@@ -171,7 +172,7 @@ fn halve_second(b: &[u16], h: usize, s: &mut [u64])
 // The factors in their buffers, which are 0.
 fn lay(a: &[u16], b: &[u16], g: usize, x: &mut [u64], y: &mut [u64])
     requires { ⌜ (length (now a) ≤ maxWords) × (length (now b) ≤ maxWords) × Halving (length (now a)) (length (now b)) g ⌝ }
-    requires { ⌜ (length (now x) ≡ 256) × (length (now y) ≡ 272) × Ends 0 (now x) × Ends 0 (now y) ⌝ }
+    requires { ⌜ (length (now x) ≡ 256) × (length (now y) ≡ 272) × ZeroFrom 0 (now x) × ZeroFrom 0 (now y) ⌝ }
     ensures { λ _. ⌜ Laid g (now (a .entry)) (now (b .entry)) (now (x .exit)) (now (y .exit)) ⌝ }
 {
     widen(a, 0, a.len(), 0, x);
@@ -196,7 +197,7 @@ fn join(s: &mut [u64], g: usize)
 fn multiply_lists(a: &[u16], b: &[u16], x: &mut [u64], y: &mut [u64], s: &mut [u64])
     requires { ⌜ (length (now a) ≤ maxWords) × (length (now b) ≤ maxWords) ⌝ }
     requires { ⌜ (length (now x) ≡ 256) × (length (now y) ≡ 272) × (length (now s) ≡ 512) ⌝ }
-    requires { ⌜ Ends 0 (now x) × Ends 0 (now y) × Ends 0 (now s) ⌝ }
+    requires { ⌜ ZeroFrom 0 (now x) × ZeroFrom 0 (now y) × ZeroFrom 0 (now s) ⌝ }
     ensures { λ _. ⌜ Whole (now (a .entry)) (now (b .entry)) (now (s .exit)) ⌝ }
 {
     let g = halving(a.len(), b.len());
@@ -210,7 +211,7 @@ fn multiply_lists(a: &[u16], b: &[u16], x: &mut [u64], y: &mut [u64], s: &mut [u
 fn convolve_in(a: &[u16], b: &[u16], x: &mut [u64], y: &mut [u64], s: &mut [u64], out: &mut [u16])
     requires { ⌜ (length (now a) ≤ maxWords) × (length (now b) ≤ maxWords) × (length (now out) + 1 ≡ length (now a) + length (now b)) ⌝ }
     requires { ⌜ (length (now x) ≡ 256) × (length (now y) ≡ 272) × (length (now s) ≡ 512) ⌝ }
-    requires { ⌜ Ends 0 (now x) × Ends 0 (now y) × Ends 0 (now s) ⌝ }
+    requires { ⌜ ZeroFrom 0 (now x) × ZeroFrom 0 (now y) × ZeroFrom 0 (now s) ⌝ }
     ensures { λ _. ⌜ now (out .exit) ≡ convolution F65521 (now (a .entry)) (now (b .entry)) ⌝ }
 {
     multiply_lists(a, b, x, y, s);

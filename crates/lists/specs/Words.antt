@@ -3,10 +3,11 @@
 --     scaledWords       the coefficients of a list's scaled form, as words
 --     Carries           the words are below p, and word k stands for coefficient k of the series
 --     Low n             the same as far as word n - 1
+--     ZeroFrom n        from word n on every word is 0
 -- Assumes nothing.
 use mathlib.Core.Path.{_≡_, sym, _∙_, ap}
 use mathlib.Core.List.{List}
-use Prim.Native.Nat.{ℕ, _<_}
+use Prim.Native.Nat.{ℕ, _≤_, _<_}
 use native.Mathlib.Decide.{decLt}
 use native.Mathlib.Omega.{arith}
 use lib.ListN.{getD, length, List·getD-eq-default}
@@ -17,6 +18,12 @@ use Rattle.algebra.specs.PrimeField.{PrimeField, scalars, positive, residue, va
 use Rattle.lists.specs.Tabulate.{tabulate, length-tabulate, getD-tabulate}
 use Rattle.lists.specs.Lists.{coefficient, scaled}
 use Rattle.lists.specs.Scaled.{coeff-scaled, below-scaled}
+
+pub record ZeroFrom (n : ℕ) (buf : List ℕ) : Type 0 where
+  pub at : (k : ℕ) → n ≤ k → getD buf k 0 ≡ 0
+
+pub zero-later : {n m : ℕ} {buf : List ℕ} → n ≤ m → ZeroFrom n buf → ZeroFrom m buf
+zero-later l z = record { at = λ k h. z .at k (omega arith) }
 
 module _ (F : PrimeField) where
   open CommRing (scalars F) using (Carrier as K, zero as 𝟘)

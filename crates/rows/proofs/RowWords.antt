@@ -1,18 +1,20 @@
 -- The words of a row, and of a row step from word k on.
 --     row-within, row-beyond                     a word of a row, where y reaches and where it does not
+--     row-cut                                    y need not be read where it is 0
 --     rowFrom-low, rowFrom-at, rowFrom-above     a word of the row step from word k on: before k, where y reaches, and past y
 --     rowFrom-below                              the words stay below p
 -- Assumes nothing.
 use mathlib.Core.Path.{_≡_, sym, _∙_, ap}
 use mathlib.Core.List.{List, _++_}
 use Prim.Native.Nat.{ℕ, _+_, _-_, _*_, _%_, _≤_, _<_}
-use native.Mathlib.Nat.{mod-lt}
+use native.Mathlib.Nat.{mod-lt, mod-eq-of-lt, mul-zero, add-zero}
 use native.Mathlib.Decide.{decLt}
 use native.Mathlib.Omega.{arith}
 use lib.ListN.{length, getD, take, drop, length-append, length-take, length-drop, List·getD-append, List·getD-eq-default}
 use lib.Seq.{getD-take, getD-drop, getD-append-add, length-take-le}
 use borrow.Author.Tests.{lt-ltb, le-ltb}
-use Rattle.lists.specs.Tabulate.{length-tabulate, getD-tabulate}
+use Rattle.lists.specs.Tabulate.{length-tabulate, getD-tabulate, tabulate-ext}
+use Rattle.lists.specs.Words.{ZeroFrom}
 use Rattle.rows.specs.Rows.{rowAt, row, rowFrom}
 
 pub length-row : (p : ℕ) (x : List ℕ) (m : ℕ) (y : List ℕ) → length (row p x m y) ≡ length x
@@ -33,6 +35,26 @@ row-beyond p x m y i ly = go (decLt i (length x))
     go (no l) =
         let e = length-tabulate (length x) (rowAt p x m y) in
         List·getD-eq-default (row p x m y) 0 (omega arith) ∙ sym (List·getD-eq-default x 0 (omega arith))
+
+pub row-cut : (p c : ℕ) (x : List ℕ) (m : ℕ) (y : List ℕ) → ((j : ℕ) → getD x j 0 < p) → ZeroFrom c y → row p x m (take c y) ≡ row p x m y
+unfolding row rowAt
+row-cut p c x m y below z = tabulate-ext (length x) _ _ (λ i l. go i (decLt i (length (take c y))) (decLt i (length y)))
+  where
+    cut : length (take c y) ≤ length y
+    cut = rw length-take (omega arith)
+
+    past-cut : (i : ℕ) → ¬ (i < length (take c y)) → i < length y → getD y i 0 ≡ 0
+    past-cut i l h = z .at i (let e = length-take c y in omega arith)
+
+    go : (i : ℕ) → Dec (i < length (take c y)) → Dec (i < length y) → rowAt p x m (take c y) i ≡ rowAt p x m y i
+    go i (yes l) h =
+        simp (lt-ltb i (length (take c y)) l, lt-ltb i (length y) (omega (arith, cut)))
+        (ap (λ b. (getD x i 0 + m * b) % p) (getD-take c y i 0 (let e = length-take c y in omega arith)))
+    go i (no l) (no h) = simp (le-ltb i (length (take c y)) (omega arith), le-ltb i (length y) (omega arith))
+    go i (no l) (yes h) =
+        simp (le-ltb i (length (take c y)) (omega arith), lt-ltb i (length y) h)
+        (sym (ap (λ b. (getD x i 0 + m * b) % p) (past-cut i l h) ∙ ap (λ b. (getD x i 0 + b) % p) (mul-zero m)
+        ∙ ap (λ b. b % p) (add-zero (getD x i 0)) ∙ mod-eq-of-lt (below i)))
 
 pub length-rowFrom : (p k : ℕ) (x : List ℕ) (m : ℕ) (y : List ℕ) → length (rowFrom p k x m y) ≡ length x
 unfolding rowFrom

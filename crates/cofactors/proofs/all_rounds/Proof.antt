@@ -10,7 +10,7 @@ use Rattle.algebra.specs.PrimeField.{F65521}
 use Rattle.refusal.specs.Limits.{maxWords}
 use Rattle.lists.specs.Degrees.{significant}
 use Rattle.cofactors.specs.Workers.{partX, Carried}
-use Rattle.cofactors.proofs.Rounds.{Carries-on, carried-round, carried-end}
+use Rattle.cofactors.proofs.Rounds.{Carries-on, carried-cut, carried-round, carried-end}
 use Rattle.cofactors.proofs.all_rounds.Statement.{statement}
 use Rattle.cofactors.proofs.all_rounds.Tie as tie
 
@@ -79,7 +79,7 @@ returns c =
 turn-requires : tie.Need-turn-requires Inv-loop μ-loop
 turn-requires c κs =
     let i = c .before .before .before .before .loop .inv in
-    ((i .0 .size-u, i .0 .size-v, i .1 ∙ c .before .before .before .before .before .before .before .before .before .before .before .before .pre .1), (i .0 .turning .left, (i .0 .turning .right, (i .2, i .3, omega arith))))
+    ((i .0 .size-u, i .0 .size-v, i .1 ∙ c .before .before .before .before .before .before .before .before .before .before .before .before .pre .1), (i .0 .turning .left, (i .0 .turning .right, ((i .2, i .3, omega arith), carried-cut F65521 maxWords _ _ _ _ _ (i .0)))))
 
 add-rounds : tie.Need-add-rounds Inv-loop μ-loop
 add-rounds c = let l = first (c .before .before .before .before) .few in search needs
@@ -102,7 +102,7 @@ turn-requires-2 : tie.Need-turn-requires-2 Inv-loop μ-loop
 turn-requires-2 c κs =
     let t = c .before .before .before .before .before .before .before .before in
     let i = first t .next in
-    ((i .size-u, i .size-v, omega arith), (i .turning .left, (i .turning .right, (c .before .before .before .before .before .before .before .before .before .before .before .before .before .loop .inv .3, t .turn .ensures .0, omega arith))))
+    ((i .size-u, i .size-v, omega arith), (i .turning .left, (i .turning .right, ((c .before .before .before .before .before .before .before .before .before .before .before .before .before .loop .inv .3, t .turn .ensures .0, omega arith), carried-cut F65521 maxWords _ _ _ _ _ i))))
 
 add-rounds-2 : tie.Need-add-rounds-2 Inv-loop μ-loop
 add-rounds-2 c = let l = first (c .before .before .before .before .before .before .before .before .before .before .before .before .before) .few in search needs

@@ -28,6 +28,9 @@ part-sub-product-start c = search needs
 part-sub-product-end : tie.Need-part-sub-product-end
 part-sub-product-end c = search needs
 
+add-sub-product : tie.Need-add-sub-product
+add-sub-product c = search needs
+
 sub-sub-product-2 : tie.Need-sub-sub-product-2
 sub-sub-product-2 c = search needs
 
@@ -44,7 +47,7 @@ same-length : tie.Need-same-length
 same-length c = search needs
 
 returns : tie.Need-returns
-returns c = taken-off 65521 256 (c .before .before .before .before .before .before .before .before .before .before .before .before .before .args .s .now) (c .before .before .before .before .before .before .before .before .before .before .before .before .before .args .q .now) (c .before .before .before .before .before .before .before .before .before .before .before .before .before .args .t .now) (c .before .before .before .before .before .before .before .before .before .before .before .before .before .pre .0) (c .before .before .before .before .before .before .before .before .before .before .before .before .before .pre .2) (c .before .before .before .before .before .before .before .sub-product .ensures) (c .before .before .sub-product2 .ensures)
+returns c = taken-off 65521 256 (c .before .before .before .before .before .before .before .before .before .before .before .before .before .args .n) (c .before .before .before .before .before .before .before .before .before .before .before .before .before .args .s .now) (c .before .before .before .before .before .before .before .before .before .before .before .before .before .args .q .now) (c .before .before .before .before .before .before .before .before .before .before .before .before .before .args .t .now) (c .before .before .before .before .before .before .before .before .before .before .before .before .before .pre .0) (c .before .before .before .before .before .before .before .before .before .before .before .before .before .pre .2) (c .before .before .before .before .before .before .before .sub-product .ensures) (c .before .before .sub-product2 .ensures)
 
 pub take-off-spec : {M : Type 1} → statement M
 take-off-spec =
@@ -57,6 +60,7 @@ take-off-spec =
     sub-sub-product
     part-sub-product-start
     part-sub-product-end
+    add-sub-product
     sub-sub-product-2
     part-sub-product-start-2
     part-sub-product-end-2

@@ -20,7 +20,7 @@ unfolding F65521
 few c =
     let a = c .before .before .before .before .before .before .before .args in
     let pre = c .before .before .before .before .before .before .before .pre in
-    turn-steps F65521 256 (a .u .now) (a .v .now) (a .q .now) (a .nu) (a .nv) (pre .0 .0) (pre .0 .2) (pre .1 .0) (pre .1 .1 .0) (pre .1 .1 .1 .0) (pre .1 .1 .1 .1) (pre .1 .1 .1 .2) (c .round .ensures .0)
+    turn-steps F65521 256 (a .u .now) (a .v .now) (a .q .now) (a .nu) (a .nv) (pre .0 .0) (pre .0 .2) (pre .1 .0) (pre .1 .1 .0) (pre .1 .1 .1 .0 .0) (pre .1 .1 .1 .0 .1) (pre .1 .1 .1 .0 .2) (c .round .ensures .0)
 
 -- the part of u has its length again
 long : (c : tie.After-round) → length (c .round .last .0) ≡ c .before .before .before .before .before .before .before .args .nu
@@ -73,12 +73,17 @@ part-take-off-start-2 c = search needs
 part-take-off-end-2 : tie.Need-part-take-off-end-2
 part-take-off-end-2 c = search needs
 
+words-read-requires : tie.Need-words-read-requires
+words-read-requires c κs =
+    let s = c .before .before .before .before .before .before .before .before .before .before .before .before .before .before .before .before in
+    (omega (arith, significant-le (partX 256 (s .args .u .now)), s .pre .1 .0 .size), omega (arith, significant-le (partX 256 (s .args .v .now)), s .pre .1 .1 .0 .size), omega arith)
+
 take-off-requires : tie.Need-take-off-requires
 take-off-requires c κs =
-    let l = few (c .before .before .before .before .before .before .before .before .before) in
-    let e = long (c .before .before .before .before .before .before .before .before .before) in
-    let s = c .before .before .before .before .before .before .before .before .before .before .before .before .before .before .before .before in
-    (simp (length-take, length-drop, length-append) (omega (arith, significant-le (partX 256 (s .args .u .now)), s .pre .1 .0 .size)), simp (length-take, length-drop) (omega arith), simp length-take (omega arith))
+    let l = few (c .before .before .before .before .before .before .before .before .before .before) in
+    let e = long (c .before .before .before .before .before .before .before .before .before .before) in
+    let s = c .before .before .before .before .before .before .before .before .before .before .before .before .before .before .before .before .before in
+    (simp (length-take, length-drop, length-append) (omega (arith, significant-le (partX 256 (s .args .u .now)), s .pre .1 .0 .size)), simp (length-take, length-drop) (omega arith), simp length-take (omega arith), omega arith)
 
 same-length : tie.Need-same-length
 same-length c = search needs
@@ -89,12 +94,12 @@ same-length-2 c = search needs
 returns : tie.Need-returns
 unfolding F65521
 returns c =
-    let a = c .before .before .before .before .before .before .before .before .before .before .before .before .before .before .before .before .before .before .before .args in
-    let pre = c .before .before .before .before .before .before .before .before .before .before .before .before .before .before .before .before .before .before .before .pre in
-    let r = c .before .before .before .before .before .before .before .before .before .before .before .before .round in
-    let row = turn-row F65521 256 (a .u .now) (a .v .now) (a .q .now) (a .nu) (a .nv) (pre .0 .0) (pre .0 .2) (pre .1 .0) (pre .1 .1 .0) (pre .1 .1 .1 .0) (pre .1 .1 .1 .1) (pre .1 .1 .1 .2) (r .ensures .0) (r .ensures .1 .1) (r .ensures .1 .0) (c .before .before .take-off .ensures) in
-    let left = turn-left F65521 256 (a .u .now) (a .v .now) (a .q .now) (a .nu) (a .nv) (pre .0 .0) (pre .0 .2) (pre .1 .0) (pre .1 .1 .0) (pre .1 .1 .1 .0) (pre .1 .1 .1 .1) (pre .1 .1 .1 .2) (r .ensures .0) (r .ensures .1 .1) (r .ensures .1 .0) (long (c .before .before .before .before .before .before .before .before .before .before .before .before)) in
-    (c .before .before .before .before .before .before .significant-words .ensures ∙ left ∙ ap (λ l. significant (take 256 l)) (sym row), row)
+    let a = c .before .before .before .before .before .before .before .before .before .before .before .before .before .before .before .before .before .before .before .before .args in
+    let pre = c .before .before .before .before .before .before .before .before .before .before .before .before .before .before .before .before .before .before .before .before .pre in
+    let r = c .before .before .before .before .before .before .before .before .before .before .before .before .before .round in
+    let row = turn-row F65521 256 (a .u .now) (a .v .now) (a .q .now) (a .nu) (a .nv) (pre .0 .0) (pre .0 .2) (pre .1 .0) (pre .1 .1 .0) (pre .1 .1 .1 .0 .0) (pre .1 .1 .1 .0 .1) (pre .1 .1 .1 .0 .2) (r .ensures .0) (r .ensures .1 .1) (r .ensures .1 .0) (c .before .before .before .words-read .result) (c .before .before .before .words-read .ensures .0) (c .before .before .before .words-read .ensures .1) (pre .1 .1 .1 .1) (c .before .before .take-off .ensures) in
+    let left = turn-left F65521 256 (a .u .now) (a .v .now) (a .q .now) (a .nu) (a .nv) (pre .0 .0) (pre .0 .2) (pre .1 .0) (pre .1 .1 .0) (pre .1 .1 .1 .0 .0) (pre .1 .1 .1 .0 .1) (pre .1 .1 .1 .0 .2) (r .ensures .0) (r .ensures .1 .1) (r .ensures .1 .0) (long (c .before .before .before .before .before .before .before .before .before .before .before .before .before)) in
+    (c .before .before .before .before .before .before .before .significant-words .ensures ∙ left ∙ ap (λ l. significant (take 256 l)) (sym row), row)
 
 pub turn-spec : {M : Type 1} → statement M
 turn-spec =
@@ -115,6 +120,7 @@ turn-spec =
     sub-take-off-2
     part-take-off-start-2
     part-take-off-end-2
+    words-read-requires
     take-off-requires
     same-length
     same-length-2

@@ -7,7 +7,7 @@ use native.Mathlib.Omega.{arith}
 use lib.ListN.{take, drop}
 use Rattle.wide_rows.proofs.Groups.{rows-added}
 use Rattle.convolution.proofs.Rows.{summed-is}
-use Rattle.convolution.proofs.Blocks.{part-placed, part-ends, part-length}
+use Rattle.convolution.proofs.Blocks.{part-placed, part-zero, part-length}
 use borrow.Author.Needs.{needs}
 use Rattle.convolution.proofs.multiply_block.Statement.{statement}
 use Rattle.convolution.proofs.multiply_block.Tie as tie
@@ -93,7 +93,7 @@ returns c =
     let kept = rw (add-sub-cancel-left k (8 * g + v)) at (call .kept .1 .1 .0) in
     let done = rw (add-sub-cancel-left i (8 * g), add-sub-cancel-left j (v + 15), add-sub-cancel-left k (8 * g + v)) at (call .ensures) in
     part-placed k (k + (8 * g + v) - k) (8 * g + v) _ _ (add-sub-cancel-left k (8 * g + v)) (omega arith) (kept ∙ in-s) x y (8 * g)
-    (summed-is x y (start .pre .1 .0) (v + 8) (start .pre .1 .1) (omega (arith, in-y)) g in-x (part-ends k (8 * g + v) (start .pre .0 .3)) kept
+    (summed-is x y (start .pre .1 .0) (v + 8) (start .pre .1 .1) (omega (arith, in-y)) g in-x (part-zero k (8 * g + v) (start .pre .0 .3)) kept
     (rows-added x y s (omega (arith, in-y)) (omega (arith, in-x, in-y, in-s)) done))
 
 pub multiply-block-spec : {M : Type 1} → statement M

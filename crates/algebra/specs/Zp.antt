@@ -21,7 +21,7 @@ use Rattle.algebra.specs.Ring as R
 use Rattle.algebra.specs.Ring.{CommRing, IsField, RING}
 use Rattle.algebra.specs.Prime.{Prime}
 
-mul-mod-left : (a b m : ℕ) → (a % m * b) % m ≡ (a * b) % m
+pub mul-mod-left : (a b m : ℕ) → (a % m * b) % m ≡ (a * b) % m
 mul-mod-left a b m = sym (N.add-mul-mod-self-left (a % m * b) m (a / m * b)) ∙ ap (λ x. x % m) go
   where
     go : a % m * b + m * (a / m * b) ≡ a * b
@@ -29,7 +29,7 @@ mul-mod-left a b m = sym (N.add-mul-mod-self-left (a % m * b) m (a / m * b)) ∙
         ap (λ x. a % m * b + x) (sym (N.mul-assoc m (a / m) b)) ∙ sym (N.add-mul (a % m) (m * (a / m)) b)
         ∙ ap (λ x. x * b) (N.mod-add-div a m)
 
-mul-mod-right : (a b m : ℕ) → (a * (b % m)) % m ≡ (a * b) % m
+pub mul-mod-right : (a b m : ℕ) → (a * (b % m)) % m ≡ (a * b) % m
 mul-mod-right a b m =
     ap (λ x. x % m) (N.mul-comm a (b % m)) ∙ mul-mod-left b a m ∙ ap (λ x. x % m) (N.mul-comm b a)
 

@@ -6,10 +6,10 @@ use mathlib.Core.List.{List, [], _∷_}
 use Prim.Native.Nat.{ℕ, suc, _+_, _*_, _%_, _≤_, _<_}
 use native.Mathlib.Omega.{arith}
 use lib.Dec.{T, ltb, eqb, eqb→eq, ltb→lt}
-use lib.ListN.{length}
+use lib.ListN.{length, getD}
 use mir.Facts.{and-yes}
 use Rattle.algebra.specs.PrimeField.{PrimeField}
-use Rattle.inverses.specs.Inverses.{inversesFrom, inverseTable}
+use Rattle.inverses.specs.Inverses.{inversesFrom, inverseTable, table-rule}
 use Rattle.field.specs.Theorems.{inverse-only}
 
 -- entry x of the number k: a word below p, and k · x leaves 1 modulo p; k counts on from entry to entry
@@ -45,3 +45,8 @@ at-field F n (x ∷ xs) s t =
 
 pub table-is : (F : PrimeField) {p : ℕ} → F .p ≡ p → (n : ℕ) (l : List ℕ) → length l ≡ suc n → T (rightTable p l) → l ≡ inverseTable n F
 table-is F e n l s t = at-field F n l s (subst (λ (q : ℕ). T (rightTable q l)) (sym e) t)
+
+-- k times entry k of such a table leaves 1
+pub entry-inverts : (F : PrimeField) {p : ℕ} → F .p ≡ p → (n k : ℕ) {l : List ℕ} → l ≡ inverseTable n F → n < p → 1 ≤ k → k ≤ n → (k * getD l k 0) % p ≡ 1
+entry-inverts F {p} e n k is h s b =
+    ap₂ (λ (x : List ℕ) (q : ℕ). (k * getD x k 0) % q) is (sym e) ∙ table-rule F n k (subst (λ (q : ℕ). n < q) (sym e) h) s b

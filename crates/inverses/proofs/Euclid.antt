@@ -4,7 +4,7 @@ use mathlib.Core.Path.{_≡_, refl, sym, ap, _∙_, subst}
 use mathlib.Core.Logic.{_⊎_, inl, inr}
 use mathlib.Core.Bool.{true, false}
 use Prim.Native.Nat.{ℕ, zero, suc, _+_, _*_, _-_, _/_, _%_, _≤_, _<_, _∣_}
-use native.Mathlib.Nat.{mul-zero, zero-mod, zero-div, mul-le-mul-right, mul-le-mul-left, div-add-mod', div-le-self, mod-lt, mod-eq-of-lt, dvd-mul-right, add-mul-mod-self-right}
+use native.Mathlib.Nat.{mul-zero, mul-assoc, zero-mod, zero-div, mul-le-mul-right, mul-le-mul-left, div-add-mod', div-le-self, mod-lt, mod-eq-of-lt, dvd-mul-right, add-mul-mod-self-right}
 use native.Mathlib.Decide.{decLt}
 use native.Mathlib.Omega.{arith}
 use lib.IntN.{ℤ, pos, negℤ, negℤ-negℤ, negℤ-+ℤ, natAbs, _+ℤ_, _-ℤ_, _*ℤ_}
@@ -15,6 +15,7 @@ use mir.Syntax.{w16, w32}
 use mir.Val.{toZ, ofZ, SFits, Fits}
 use mir.ValLaws.{toZ-ofZ, toZ-pos}
 use Rattle.algebra.specs.Prime.{Prime}
+use Rattle.algebra.specs.Zp.{mul-mod-left, mul-mod-right}
 use Rattle.inverses.proofs.Answers.{Found}
 
 -- Integers of a known sign.
@@ -231,7 +232,7 @@ module _ (p : ℕ) where
         });
       }
 
--- The end: the second remainder is 0.
+-- The end: the second remainder r is in the table.
 
 -- a divisor of p below p is 1
 divisor : (p : ℕ) → Prime p → (d e : ℕ) → d * e ≡ p → d < p → d ≡ 1
@@ -242,14 +243,17 @@ divisor p prime d e h l = pick (prime .only d (subst (λ (n : ℕ). d ∣ n) h (
     pick (inr x) = absurd (omega arith)
 
 -- the products at the end, where d and n are the quotient and the remainder of the cofactor's size m
-neg-product : (p a b n d m k : ℕ) → b + n ≡ p → d * p + n ≡ m → 1 + m * a ≡ k * p → a * b + k * p ≡ 1 + (a + a * d) * p
-neg-product p a b n d m k h e f = omega (arith, ap (λ (i : ℕ). a * i) h, ap (λ (i : ℕ). a * i) e)
+neg-product : (p a b n d m k r : ℕ) → b + n ≡ p → d * p + n ≡ m → r + m * a ≡ k * p → a * b + k * p ≡ r + (a + a * d) * p
+neg-product p a b n d m k r h e f = omega (arith, ap (λ (i : ℕ). a * i) h, ap (λ (i : ℕ). a * i) e)
 
-pos-product : (p a n d m k : ℕ) → d * p + n ≡ m → 1 + k * p ≡ m * a → a * n + a * d * p ≡ 1 + k * p
-pos-product p a n d m k e f = omega (arith, ap (λ (i : ℕ). a * i) e)
+pos-product : (p a n d m k r : ℕ) → d * p + n ≡ m → r + k * p ≡ m * a → a * n + a * d * p ≡ r + k * p
+pos-product p a n d m k r e f = omega (arith, ap (λ (i : ℕ). a * i) e)
 
-small : (p : ℕ) {r0 r1 m0 m1 : ℕ} → 0 < r0 → Common p r0 r1 m0 m1 → m0 ≤ p
-small p {r0} {r1} {m0} {m1} h s = omega (arith, s .whole, s .order, mul-le-mul-right m1 h)
+small : (p : ℕ) {r0 r1 m0 m1 : ℕ} → Common p r0 r1 m0 m1 → m1 ≤ p
+small p {r0} {r1} {m0} {m1} s = omega (arith, s .whole, mul-le-mul-right m1 some)
+  where
+    some : 1 ≤ r0
+    some = omega (arith, s .falls)
 
 positive : (p : ℕ) → Prime p → 0 < p
 positive p prime = let h : 1 < p = prime .big in omega arith
@@ -261,93 +265,109 @@ is-less : (n : ℕ) {z : ℤ} → 0 < n → z ≡ negℤ (pos n) → ltZ z (pos 
 is-less zero h e t = omega arith
 is-less (suc n) h e t = let z : _≡_ {A = ℕ} 0 1 = cc (ap (λ (x : ℤ). ltZ x (pos 0)) e) in omega arith
 
+-- b is a word below p whose product with a leaves r
+pub record Leaves (p a r b : ℕ) : Type 0 where
+  pub high : b < p
+  pub is : (a * b) % p ≡ r
+
+-- where e is the inverse of r, b times e is that of a
+pub inverse-of-rest : (p : ℕ) → 0 < p → (a r e b : ℕ) → Leaves p a r b → (r * e) % p ≡ 1 → Found p a ((b * e) % p)
+inverse-of-rest p big a r e b l h =
+    record {
+      high = mod-lt (b * e) big;
+      one =
+          mul-mod-right a (b * e) p ∙ ap (λ (n : ℕ). n % p) (sym (mul-assoc a b e)) ∙ sym (mul-mod-left (a * b) e p)
+          ∙ ap (λ (n : ℕ). (n * e) % p) (l .is) ∙ h;
+    }
+
 module _ (p : ℕ) (prime : Prime p) where
   -- where the second remainder is 0, the first is 1
   pub last-is-one : (a r0 t0 t1 : ℕ) → Steps p a r0 0 t0 t1 → r0 ≡ 1
   last-is-one a r0 t0 t1 (inl u) = divisor p prime r0 (u .m1) (omega (arith, u .common .whole)) (omega (arith, u .common .more))
   last-is-one a r0 t0 t1 (inr u) = divisor p prime r0 (u .m1) (omega (arith, u .common .whole)) (omega (arith, u .common .more))
 
-  -- a product that is 1 but for multiples of p leaves 1
-  leaves : (x k l : ℕ) → x + k * p ≡ 1 + l * p → x % p ≡ 1
-  leaves x k l e =
-      sym (add-mul-mod-self-right x k p)
-      ∙ ap (λ (n : ℕ). n % p) e
-      ∙ add-mul-mod-self-right 1 l p
-      ∙ mod-eq-of-lt (prime .big)
+  module _ (r : ℕ) where
+    -- a product that is r but for multiples of p leaves r
+    leaves : r < p → (x k l : ℕ) → x + k * p ≡ r + l * p → x % p ≡ r
+    leaves less x k l e =
+        sym (add-mul-mod-self-right x k p)
+        ∙ ap (λ (n : ℕ). n % p) e
+        ∙ add-mul-mod-self-right r l p
+        ∙ mod-eq-of-lt less
 
-  -- the cofactor's size is no multiple of p
-  neg-some : (a n d m k : ℕ) → d * p + n ≡ m → 1 + m * a ≡ k * p → 0 < n
-  neg-some a zero d m k e f = absurd (omega (arith, leaves 0 k (d * a) (omega (arith, ap (λ (i : ℕ). i * a) e)), zero-mod p))
-  neg-some a (suc n) d m k e f = omega arith
+    -- the cofactor's size is no multiple of p
+    neg-some : 0 < r → r < p → (a n d m k : ℕ) → d * p + n ≡ m → r + m * a ≡ k * p → 0 < n
+    neg-some some less a zero d m k e f = absurd (omega (arith, leaves less 0 k (d * a) (omega (arith, ap (λ (i : ℕ). i * a) e)), zero-mod p))
+    neg-some some less a (suc n) d m k e f = omega arith
 
-  -- the remainder z of the cofactor, with its sign
-  pub data Rest (a : ℕ) (z : ℤ) : Type 0 where
-    below : (n : ℕ) → z ≡ negℤ (pos n) → 0 < n → n < p → Found p a (p - n) → Rest a z
-    above : (n : ℕ) → z ≡ pos n → n < p → Found p a n → Rest a z
+    -- the remainder z of the cofactor, with its sign
+    pub data Rest (a : ℕ) (z : ℤ) : Type 0 where
+      below : (n : ℕ) → z ≡ negℤ (pos n) → 0 < n → n < p → Leaves p a r (p - n) → Rest a z
+      above : (n : ℕ) → z ≡ pos n → n < p → Leaves p a r n → Rest a z
 
-  pub record Ended (a t0 : ℕ) : Type 0 where
-    pub quot : SFits w32 (quotZ (toZ w32 t0) (pos p))
-    pub rest : Rest a (toZ w32 (ofZ w32 (remZ (toZ w32 t0) (pos p))))
+    pub record Ended (a t1 : ℕ) : Type 0 where
+      pub quot : SFits w32 (quotZ (toZ w32 t1) (pos p))
+      pub rest : Rest a (toZ w32 (ofZ w32 (remZ (toZ w32 t1) (pos p))))
 
-  pub ended : p ≤ 65521 → (a t0 t1 : ℕ) → Steps p a 1 0 t0 t1 → Ended a t0
-  ended fit a t0 t1 (inl u) =
-      let m : ℕ = u .m0 in
-      let h : m ≤ p = small p (omega arith) (u .common) in
-      let n : ℕ = m % p in
-      let l : n < p = mod-lt m (positive p prime) in
-      let d : m / p ≤ m = div-le-self m p in
-      let some : 0 < n = neg-some a n (m / p) m (u .k0) (div-add-mod' m p) (u .left) in
-      record {
-        quot = subst (λ (x : ℤ). SFits w32 x) (sym (ap (λ (x : ℤ). quotZ x (pos p)) (u .sign0) ∙ quot-neg p m)) (fits-neg (m / p) (omega arith));
-        rest =
-            below n
-            (back (remZ (toZ w32 t0) (pos p)) (ap (λ (x : ℤ). remZ x (pos p)) (u .sign0) ∙ rem-neg p m) (fits-neg n (omega arith)))
-            some
-            l
-            (record {
-              high = omega arith;
-              one = leaves (a * (p - n)) (u .k0) (a + a * (m / p)) (neg-product p a (p - n) n (m / p) m (u .k0) (omega arith) (div-add-mod' m p) (u .left));
-            });
-      }
-  ended fit a t0 t1 (inr u) =
-      let m : ℕ = u .m0 in
-      let h : m ≤ p = small p (omega arith) (u .common) in
-      let n : ℕ = m % p in
-      let l : n < p = mod-lt m (positive p prime) in
-      let d : m / p ≤ m = div-le-self m p in
-      record {
-        quot = subst (λ (x : ℤ). SFits w32 x) (sym (ap (λ (x : ℤ). quotZ x (pos p)) (u .sign0))) (fits-pos (omega arith));
-        rest =
-            above n
-            (back (remZ (toZ w32 t0) (pos p)) (ap (λ (x : ℤ). remZ x (pos p)) (u .sign0)) (fits-pos (omega arith)))
-            l
-            (record {
-              high = l;
-              one = leaves (a * n) (a * (m / p)) (u .k0) (pos-product p a n (m / p) m (u .k0) (div-add-mod' m p) (u .left));
-            });
-      }
+    pub ended : p ≤ 65521 → 0 < r → r < p → (a r0 t0 t1 : ℕ) → Steps p a r0 r t0 t1 → Ended a t1
+    ended fit some less a r0 t0 t1 (inl u) =
+        let m : ℕ = u .m1 in
+        let h : m ≤ p = small p (u .common) in
+        let n : ℕ = m % p in
+        let l : n < p = mod-lt m (positive p prime) in
+        let d : m / p ≤ m = div-le-self m p in
+        record {
+          quot = subst (λ (x : ℤ). SFits w32 x) (sym (ap (λ (x : ℤ). quotZ x (pos p)) (u .sign1))) (fits-pos (omega arith));
+          rest =
+              above n
+              (back (remZ (toZ w32 t1) (pos p)) (ap (λ (x : ℤ). remZ x (pos p)) (u .sign1)) (fits-pos (omega arith)))
+              l
+              (record {
+                high = l;
+                is = leaves less (a * n) (a * (m / p)) (u .k1) (pos-product p a n (m / p) m (u .k1) r (div-add-mod' m p) (u .right));
+              });
+        }
+    ended fit some less a r0 t0 t1 (inr u) =
+        let m : ℕ = u .m1 in
+        let h : m ≤ p = small p (u .common) in
+        let n : ℕ = m % p in
+        let l : n < p = mod-lt m (positive p prime) in
+        let d : m / p ≤ m = div-le-self m p in
+        let more : 0 < n = neg-some some less a n (m / p) m (u .k1) (div-add-mod' m p) (u .right) in
+        record {
+          quot = subst (λ (x : ℤ). SFits w32 x) (sym (ap (λ (x : ℤ). quotZ x (pos p)) (u .sign1) ∙ quot-neg p m)) (fits-neg (m / p) (omega arith));
+          rest =
+              below n
+              (back (remZ (toZ w32 t1) (pos p)) (ap (λ (x : ℤ). remZ x (pos p)) (u .sign1) ∙ rem-neg p m) (fits-neg n (omega arith)))
+              more
+              l
+              (record {
+                high = omega arith;
+                is = leaves less (a * (p - n)) (u .k1) (a + a * (m / p)) (neg-product p a (p - n) n (m / p) m (u .k1) r (omega arith) (div-add-mod' m p) (u .right));
+              });
+        }
 
-  -- what a return asks of the number that it hands out
-  pub record Out (a : ℕ) (z : ℤ) : Type 0 where
-    pub cast : T (nonNeg z) × Fits w16 (natAbs z)
-    pub is : Found p a (natAbs z)
+    -- what the product asks of the cofactor brought back
+    pub record Out (a : ℕ) (z : ℤ) : Type 0 where
+      pub cast : T (nonNeg z) × Fits w16 (natAbs z)
+      pub is : Leaves p a r (natAbs z)
 
-  out : p ≤ 65521 → (a : ℕ) (z : ℤ) (b : ℕ) → z ≡ pos b → Found p a b → Out a z
-  out fit a z b e i = subst (λ (x : ℤ). Out a x) (sym e) (record { cast = (tt, record { fits = omega (arith, i .high) }); is = i })
+    out : p ≤ 65521 → (a : ℕ) (z : ℤ) (b : ℕ) → z ≡ pos b → Leaves p a r b → Out a z
+    out fit a z b e i = subst (λ (x : ℤ). Out a x) (sym e) (record { cast = (tt, record { fits = omega (arith, i .high) }); is = i })
 
-  pub record Low (a : ℕ) (z : ℤ) : Type 0 where
-    pub add : SFits w32 (z +ℤ pos p)
-    pub done : Out a (toZ w32 (ofZ w32 (z +ℤ pos p)))
+    pub record Low (a : ℕ) (z : ℤ) : Type 0 where
+      pub add : SFits w32 (z +ℤ pos p)
+      pub done : Out a (toZ w32 (ofZ w32 (z +ℤ pos p)))
 
-  pub low : p ≤ 65521 → (a : ℕ) (z : ℤ) → Rest a z → ltZ z (pos 0) ≡ true → Low a z
-  low fit a z (below n e h l i) t =
-      let s : z +ℤ pos p ≡ pos (p - n) = ap (λ (x : ℤ). x +ℤ pos p) e ∙ lift p n h l in
-      record {
-        add = subst (λ (x : ℤ). SFits w32 x) (sym s) (fits-pos (omega arith));
-        done = out fit a (toZ w32 (ofZ w32 (z +ℤ pos p))) (p - n) (back (z +ℤ pos p) s (fits-pos (omega arith))) i;
-      }
-  low fit a z (above n e l i) t = absurd (no-less e t)
+    pub low : p ≤ 65521 → (a : ℕ) (z : ℤ) → Rest a z → ltZ z (pos 0) ≡ true → Low a z
+    low fit a z (below n e h l i) t =
+        let s : z +ℤ pos p ≡ pos (p - n) = ap (λ (x : ℤ). x +ℤ pos p) e ∙ lift p n h l in
+        record {
+          add = subst (λ (x : ℤ). SFits w32 x) (sym s) (fits-pos (omega arith));
+          done = out fit a (toZ w32 (ofZ w32 (z +ℤ pos p))) (p - n) (back (z +ℤ pos p) s (fits-pos (omega arith))) i;
+        }
+    low fit a z (above n e l i) t = absurd (no-less e t)
 
-  pub high : p ≤ 65521 → (a : ℕ) (z : ℤ) → Rest a z → ltZ z (pos 0) ≡ false → Out a z
-  high fit a z (below n e h l i) t = absurd (is-less n h e t)
-  high fit a z (above n e l i) t = out fit a z n e i
+    pub high : p ≤ 65521 → (a : ℕ) (z : ℤ) → Rest a z → ltZ z (pos 0) ≡ false → Out a z
+    high fit a z (below n e h l i) t = absurd (is-less n h e t)
+    high fit a z (above n e l i) t = out fit a z n e i

@@ -272,7 +272,8 @@ const INVERSES: InverseTable = [
     61170,
 ];
 
-// Euclid's steps on the modulus and a: each remainder is its cofactor times a, but for multiples of the modulus.
+// Euclid's steps on the modulus and a: each remainder is its cofactor times a, but for multiples of the modulus. They stop
+// where the remainder's inverse is in the table.
 pub fn inverse(a: u16) -> Word
     ensures answer { λ r. ⌜ wordReply r ≡ reply (lowest (inverseRefusals p a)) (inverseOf F65521 a ∷ []) ⌝ }
     ensures inverts { λ r. ⌜ Inverts p a r ⌝ }
@@ -287,7 +288,7 @@ pub fn inverse(a: u16) -> Word
     let mut r1: u32 = a as u32;
     let mut t0: i32 = 0;
     let mut t1: i32 = 1;
-    while r1 != 0 {
+    while 256 < r1 {
         let q = r0 / r1;
         let r2 = r0 % r1;
         let t2 = t0 - (q as i32) * t1;
@@ -296,15 +297,16 @@ pub fn inverse(a: u16) -> Word
         t0 = t1;
         t1 = t2;
     }
-    // The modulus is prime, so the last remainder is 1.
-    if r0 != 1 {
+    // The modulus is prime, so no remainder is 0 before one is 1.
+    if r1 == 0 {
         return Word::Refused(Refusal::NoInverse);
     }
-    let m = t0 % 65521;
+    let m = t1 % 65521;
+    let inv = table()[r1 as usize];
     if m < 0 {
-        Word::Done((m + 65521) as u16)
+        Word::Done(field::mul((m + 65521) as u16, inv))
     } else {
-        Word::Done(m as u16)
+        Word::Done(field::mul(m as u16, inv))
     }
 }
 

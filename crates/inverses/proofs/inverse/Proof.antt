@@ -1,23 +1,26 @@
--- `inverses::inverse` meets its contract. The loop's invariant: Euclid's steps. The measure is the second remainder.
+-- `inverses::inverse` meets its contract. The loop's invariant: Euclid's steps, the first remainder past the table. The measure is the
+-- second remainder.
 -- Assumes nothing.
-use mathlib.Core.Path.{_≡_, refl, subst}
+use mathlib.Core.Path.{_≡_, refl, sym, subst}
 use mathlib.Core.Logic.{inl, inr}
-use Prim.Native.Nat.{ℕ, _/_, _%_}
+use Prim.Native.Nat.{ℕ, _*_, _/_, _%_, _≤_, _<_}
 use native.Mathlib.Nat.{mod-lt}
 use native.Mathlib.Omega.{arith}
+use lib.ListN.{getD}
 use borrow.Author.Needs.{needs}
 use lib.IntN.{ℤ, pos}
 use lib.Signed.{remZ}
 use mir.Syntax.{w32}
 use mir.Val.{toZ, ofZ}
 use Rattle.algebra.specs.PrimeField.{F65521, p-is, prime65521}
-use Rattle.inverses.proofs.Answers.{inverse-loose, inverse-zero, answered}
-use Rattle.inverses.proofs.Euclid.{Steps, started, divided, falling, Stepped, stepped, last-is-one, Ended, ended, Low, low, Out, high}
+use Rattle.inverses.proofs.Answers.{inverse-loose, inverse-zero, Found, answered}
+use Rattle.inverses.proofs.Entries.{entry-inverts}
+use Rattle.inverses.proofs.Euclid.{Steps, started, divided, falling, Stepped, stepped, last-is-one, inverse-of-rest, Ended, ended, Low, low, Out, high}
 use Rattle.inverses.proofs.inverse.Statement.{statement}
 use Rattle.inverses.proofs.inverse.Tie as tie
 
 abbrev Inv-loop : tie.InvT-loop
-Inv-loop a r0₀ r1₀ t0₀ t1₀ r0 r1 t0 t1 = Steps 65521 a r0 r1 t0 t1
+Inv-loop a r0₀ r1₀ t0₀ t1₀ r0 r1 t0 t1 = Steps 65521 a r0 r1 t0 t1 × (256 < r0)
 
 abbrev μ-loop : tie.MeasureT-loop
 μ-loop a r0₀ r1₀ t0₀ t1₀ r0 r1 t0 t1 = r1
@@ -29,7 +32,7 @@ returns-2 : tie.Need-returns-2 Inv-loop μ-loop
 returns-2 c = (rw (inverse-zero 65521 (c .before .before .args .a) (search needs) (c .if2 .taken)), inr refl)
 
 loop-holds : tie.Need-loop-holds Inv-loop μ-loop
-loop-holds c = started 65521 (c .before .before .args .a) (omega arith) (omega arith)
+loop-holds c = (started 65521 (c .before .before .args .a) (omega arith) (omega arith), omega arith)
 
 div-q : tie.Need-div-q Inv-loop μ-loop
 div-q c = omega arith
@@ -45,8 +48,8 @@ turn :
 turn c =
     stepped 65521 (omega arith) (c .before .before .before .before .args .a) (c .before .loop .r0) (c .before .loop .r1)
     _ _ (c .before .loop .t0) (c .before .loop .t1)
-    (divided (c .before .loop .r0) (c .before .loop .r1) (omega arith) (falling 65521 (c .before .loop .inv)))
-    (c .before .loop .inv)
+    (divided (c .before .loop .r0) (c .before .loop .r1) (omega arith) (falling 65521 (c .before .loop .inv .0)))
+    (c .before .loop .inv .0)
 
 cast-t2 : tie.Need-cast-t2 Inv-loop μ-loop
 cast-t2 c = turn c .cast
@@ -61,34 +64,44 @@ loop-less : tie.Need-loop-less Inv-loop μ-loop
 loop-less c = mod-lt (c .before .loop .r0) (omega arith)
 
 loop-again : tie.Need-loop-again Inv-loop μ-loop
-loop-again c = turn c .again
+loop-again c = (turn c .again, omega arith)
 
--- at the loop's end the second remainder is 0, and so the first is 1
-one : (c : tie.After-loop Inv-loop μ-loop) → c .before .loop .r0 ≡ 1
-one c =
+-- at the loop's end the second remainder is not 0: the first would be 1
+some : (c : tie.After-loop Inv-loop μ-loop) → ¬ (c .before .loop .r1 ≡ 0)
+some c e =
     let a : ℕ = c .before .before .before .before .args .a in
     let r0 : ℕ = c .before .loop .r0 in
     let t0 : ℕ = c .before .loop .t0 in
     let t1 : ℕ = c .before .loop .t1 in
-    last-is-one 65521 prime65521 a r0 t0 t1
-    (subst (λ (r : ℕ). Steps 65521 a r0 r t0 t1) (c .loop-test .left) (c .before .loop .inv))
+    let past : 256 < r0 = c .before .loop .inv .1 in
+    omega (arith, last-is-one 65521 prime65521 a r0 t0 t1 (subst (λ (r : ℕ). Steps 65521 a r0 r t0 t1) e (c .before .loop .inv .0)))
 
 returns-3 : tie.Need-returns-3 Inv-loop μ-loop
-returns-3 c = let other : ¬ (c .before .before .loop .r0 ≡ 1) = c .if3 .taken in absurd (other (one (c .before)))
+returns-3 c = absurd (some (c .before) (c .if3 .taken))
+
+in-table : (c : tie.Else3 Inv-loop μ-loop) → (0 < c .before .before .loop .r1) × (c .before .before .loop .r1 ≤ 256)
+in-table c = (omega (arith, some (c .before)), omega (arith, c .before .loop-test .left))
 
 finish :
     (c : tie.Else3 Inv-loop μ-loop)
-    → Ended 65521 prime65521 (c .before .before .before .before .before .args .a) (c .before .before .loop .t0)
+    → Ended 65521 prime65521 (c .before .before .loop .r1) (c .before .before .before .before .before .args .a) (c .before .before .loop .t1)
 finish c =
-    let a : ℕ = c .before .before .before .before .before .args .a in
-    let t0 : ℕ = c .before .before .loop .t0 in
-    let t1 : ℕ = c .before .before .loop .t1 in
-    ended 65521 prime65521 (omega arith) a t0 t1
-    (subst (λ (r : ℕ). Steps 65521 a r 0 t0 t1) (c .if3 .left)
-    (subst (λ (r : ℕ). Steps 65521 a (c .before .before .loop .r0) r t0 t1) (c .before .loop-test .left) (c .before .before .loop .inv)))
+    ended 65521 prime65521 (c .before .before .loop .r1) (omega arith) (in-table c .0) (omega (arith, in-table c .1)) (c .before .before .before .before .before .args .a) (c .before .before .loop .r0) (c .before .before .loop .t0) (c .before .before .loop .t1) (c .before .before .loop .inv .0)
 
 rem-m : tie.Need-rem-m Inv-loop μ-loop
 rem-m c = (omega arith, finish c .quot)
+
+table-requires : tie.Need-table-requires Inv-loop μ-loop
+table-requires c κs = search needs
+
+cast-inv : tie.Need-cast-inv Inv-loop μ-loop
+cast-inv c = search needs
+
+mul-inv : tie.Need-mul-inv Inv-loop μ-loop
+mul-inv c = search needs
+
+array-read-inv : tie.Need-array-read-inv Inv-loop μ-loop
+array-read-inv c = search needs
 
 -- the remainder that the machine leaves of a cofactor
 abbrev left : ℕ → ℤ
@@ -96,31 +109,47 @@ left t = toZ w32 (ofZ w32 (remZ (toZ w32 t) (pos 65521)))
 
 lower :
     (c : tie.Then4 Inv-loop μ-loop)
-    → Low 65521 prime65521 (c .before .before .before .before .before .before .args .a) (left (c .before .before .before .loop .t0))
-lower c = low 65521 prime65521 (omega arith) _ _ (finish (c .before) .rest) (c .if4 .taken)
+    → Low 65521 prime65521 (c .before .before .before .before .loop .r1) (c .before .before .before .before .before .before .before .args .a) (left (c .before .before .before .before .loop .t1))
+lower c = low 65521 prime65521 _ (omega arith) _ _ (finish (c .before .before) .rest) (c .if4 .taken)
 
 higher :
     (c : tie.Else4 Inv-loop μ-loop)
-    → Out 65521 prime65521 (c .before .before .before .before .before .before .args .a) (left (c .before .before .before .loop .t0))
-higher c = high 65521 prime65521 (omega arith) _ _ (finish (c .before) .rest) (c .if4 .left)
+    → Out 65521 prime65521 (c .before .before .before .before .loop .r1) (c .before .before .before .before .before .before .before .args .a) (left (c .before .before .before .before .loop .t1))
+higher c = high 65521 prime65521 _ (omega arith) _ _ (finish (c .before .before) .rest) (c .if4 .left)
 
-add-t18 : tie.Need-add-t18 Inv-loop μ-loop
-add-t18 c = lower c .add
+add-mul : tie.Need-add-mul Inv-loop μ-loop
+add-mul c = lower c .add
 
-cast-t19 : tie.Need-cast-t19 Inv-loop μ-loop
-cast-t19 c = lower c .done .cast
+cast-mul : tie.Need-cast-mul Inv-loop μ-loop
+cast-mul c = lower c .done .cast
 
-cast-t20 : tie.Need-cast-t20 Inv-loop μ-loop
-cast-t20 c = higher c .cast
+mul-requires : tie.Need-mul-requires Inv-loop μ-loop
+mul-requires c κs = search needs
+
+cast-mul-2 : tie.Need-cast-mul-2 Inv-loop μ-loop
+cast-mul-2 c = higher c .cast
+
+mul-requires-2 : tie.Need-mul-requires-2 Inv-loop μ-loop
+mul-requires-2 c κs = search needs
+
+-- r1 times its entry leaves 1
+entry : (c : tie.After-table Inv-loop μ-loop) → (c .before .before .before .loop .r1 * getD (c .table .result) (c .before .before .before .loop .r1) 0) % 65521 ≡ 1
+entry c =
+    let t = in-table (c .before) in
+    entry-inverts F65521 p-is 256 (c .before .before .before .loop .r1) (c .table .ensures) (omega arith) (t .0) (t .1)
 
 returns-4 : tie.Need-returns-4 Inv-loop μ-loop
 returns-4 c =
-    let r = answered F65521 p-is _ _ (omega arith) (omega arith) (lower c .done .is) in
+    let a : ℕ = c .before .before .before .before .before .before .before .before .args .a in
+    let found = inverse-of-rest 65521 (omega arith) a _ _ _ (lower (c .before) .done .is) (entry (c .before .before)) in
+    let r = answered F65521 p-is a (c .mul .result) (omega arith) (omega arith) (subst (λ (b : ℕ). Found 65521 a b) (sym (c .mul .ensures)) found) in
     (r .answer, r .inverts)
 
 returns-5 : tie.Need-returns-5 Inv-loop μ-loop
 returns-5 c =
-    let r = answered F65521 p-is _ _ (omega arith) (omega arith) (higher c .is) in
+    let a : ℕ = c .before .before .before .before .before .before .before .before .args .a in
+    let found = inverse-of-rest 65521 (omega arith) a _ _ _ (higher (c .before) .is) (entry (c .before .before)) in
+    let r = answered F65521 p-is a (c .mul2 .result) (omega arith) (omega arith) (subst (λ (b : ℕ). Found 65521 a b) (sym (c .mul2 .ensures)) found) in
     (r .answer, r .inverts)
 
 pub inverse-spec : {M : Type 1} → statement M
@@ -141,8 +170,14 @@ inverse-spec =
     loop-again
     returns-3
     rem-m
-    add-t18
-    cast-t19
-    cast-t20
+    table-requires
+    cast-inv
+    mul-inv
+    array-read-inv
+    add-mul
+    cast-mul
+    mul-requires
+    cast-mul-2
+    mul-requires-2
     returns-4
     returns-5)

@@ -2,16 +2,16 @@
 -- Assumes nothing.
 use mathlib.Core.Path.{_≡_, sym, _∙_, ap}
 use mathlib.Core.List.{List, []}
-use Prim.Native.Nat.{ℕ, _-_, _≤_, _<_}
+use Prim.Native.Nat.{ℕ, _≤_, _<_}
 use native.Mathlib.Omega.{arith}
-use lib.ListN.{length, take, replicate, length-append}
+use lib.ListN.{length, take}
 use lib.Seq.{take-at}
 use Rattle.refusal.specs.Limits.{maxWords}
 use Rattle.refusal.specs.Refusal.{written}
 use Rattle.refusal.specs.Lowest.{lowest}
 use Rattle.refusal.specs.declared.Outcome.the-variants.{Done}
 use Rattle.euclid.specs.Gcds.{padded}
-use Rattle.euclid.specs.Loops.{length-padded}
+use Rattle.euclid.specs.Loops.{length-padded, padded-inside}
 use Rattle.layout.specs.Layout.{count, listAt}
 use Rattle.layout.specs.Workers.{Passed}
 use Rattle.layout.proofs.Passed.{passed-call, passed-listed}
@@ -35,11 +35,6 @@ held-count h = h .words ∙ ap length (sym (held-take h))
 
 pub held-again : {p n : ℕ} {x c : List ℕ} → Held p x n c → Held p x n (take n x)
 held-again h = rw (held-take h) h
-
--- a list in a slice is no longer than the slice
-pub padded-inside : (n : ℕ) (c : List ℕ) → length c ≤ length (padded n c)
-unfolding padded
-padded-inside n c = omega (arith, length-append c (replicate (n - length c) 0))
 
 -- the slice is out before the call of `read` and out′ afterwards, and n is its answer: the last two facts are its contract
 pub read-held : (p : ℕ) (s : List ℕ) (i : ℕ) (out : List ℕ) {out′ : List ℕ} {n : ℕ} → Passed p s → i < count s

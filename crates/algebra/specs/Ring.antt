@@ -12,6 +12,7 @@ use mathlib.Core.Path.{_≡_, refl, sym, _∙_, ap}
 use Prim.Native.Nat as ℕ·
 use Prim.Native.Nat.{ℕ}
 use native.Mathlib.Nat as N
+use native.Mathlib.Numerals.{add-one}
 
 pub record CommRing : Type 1 where
   pub Carrier : Type 0
@@ -224,6 +225,15 @@ module _ (R : CommRing) where
   pow-add a (ℕ.suc n) m =
       ap (pow a) (N.suc-add n m) ∙ pow-suc a (ℕ·._+_ n m) ∙ ap (λ x. a * x) (pow-add a n m)
       ∙ rw (pow-suc a n) (sym (mul-assoc a (pow a n) (pow a m)))
+
+  pub pow-next : (a : Carrier) (n : ℕ) → pow a n * a ≡ pow a (ℕ·._+_ n 1)
+  pow-next a n = mul-comm (pow a n) a ∙ sym (pow-suc a n) ∙ ap (pow a) (sym (add-one n))
+
+  pub pow-mul : (a : Carrier) (n m : ℕ) → pow (pow a n) m ≡ pow a (ℕ·._*_ n m)
+  pow-mul a n ℕ.zero = pow-zero (pow a n) ∙ sym (ap (pow a) (N.mul-zero n) ∙ pow-zero a)
+  pow-mul a n (ℕ.suc m) =
+      pow-suc (pow a n) m ∙ ap (λ x. pow a n * x) (pow-mul a n m) ∙ sym (pow-add a n (ℕ·._*_ n m))
+      ∙ ap (pow a) (N.add-comm n (ℕ·._*_ n m) ∙ sym (N.mul-suc n m))
 
 pub record IsField (Rg : CommRing) : Type 0 where
   pub inv : Rg .Carrier → Rg .Carrier

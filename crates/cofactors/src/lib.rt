@@ -109,8 +109,8 @@ fn take_off(s: &mut [u16], q: &[u16], t: &[u16], n: usize)
     reduction::sub_product(&mut s[256..], q, &t[256..256 + n]);
 }
 
-// How many words of the cofactors a round reads, of parts x with nu and nv significant words: all that can differ from 0, and whole groups
-// of 8, as the rows go by groups of 8.
+// How many words of the cofactors a round reads, where the parts x have nu and nv significant words. The words that can differ from 0 are
+// 257 less the larger of the two; this is rounded up to a multiple of 8, as a row is added in groups of 8 words.
 fn words_read(nu: usize, nv: usize) -> usize
     requires { ⌜ (nu ≤ maxWords) × (nv ≤ maxWords) × (0 < nv) ⌝ }
     ensures { λ r. ⌜ (suc maxWords - max nu nv ≤ r) × (r ≤ maxWords) ⌝ }

@@ -32,6 +32,11 @@ pub length-padded : (n : ℕ) (c : List ℕ) → length c ≤ n → length (padd
 unfolding padded
 length-padded n c l = let e = length-zeros n c in length-append c (zeros n c) ∙ omega arith
 
+-- no words are left out
+pub padded-inside : (n : ℕ) (c : List ℕ) → length c ≤ length (padded n c)
+unfolding padded
+padded-inside n c = omega (arith, length-append c (zeros n c))
+
 -- c's words, then zeros
 pub getD-padded : (n : ℕ) (c : List ℕ) (k : ℕ) → getD (padded n c) k 0 ≡ getD c k 0
 unfolding padded

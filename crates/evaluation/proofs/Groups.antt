@@ -7,7 +7,7 @@ use native.Mathlib.Nat.{add-zero, mul-zero}
 use native.Mathlib.Omega.{arith}
 use lib.ListN.{getD}
 use Rattle.algebra.specs.Ring as R
-use Rattle.algebra.specs.Ring.{CommRing, RING, pow, pow-zero, pow-suc, pow-add}
+use Rattle.algebra.specs.Ring.{CommRing, RING, pow, pow-zero, pow-suc, pow-add, pow-mul}
 use Rattle.algebra.specs.Sum.{total, total-zero, total-snoc, total-ext}
 use Rattle.algebra.specs.PrimeField.{PrimeField, scalars, residue, residue-0, residue-add, residue-mul}
 use Rattle.lists.specs.Lists.{word}
@@ -20,11 +20,6 @@ module _ (Rg : CommRing) where
 
   infixl 65 _⊕_
   infixl 70 _⊗_
-  pow-times : (x : Carrier) (g n : ℕ) → pow Rg (pow Rg x g) n ≡ pow Rg x (g * n)
-  pow-times x g zero = pow-zero Rg _ ∙ sym (ap (pow Rg x) (mul-zero g) ∙ pow-zero Rg x)
-  pow-times x g (suc n) =
-      pow-suc Rg _ n ∙ ap (λ a. pow Rg x g ⊗ a) (pow-times x g n) ∙ sym (pow-add Rg x g (g * n)) ∙ ap (pow Rg x) (omega arith)
-
   partial-ext : {s t : ℕ → Carrier} {x y x′ y′ : Carrier} (n : ℕ) → ((j : ℕ) → s j ≡ t j) → x ≡ x′ → y ≡ y′ → partial Rg s x y n ≡ partial Rg t x′ y′ n
   unfolding partial
   partial-ext {s} {t} {x} {y} n h e f =
@@ -53,7 +48,7 @@ module _ (Rg : CommRing) where
     grouped g zero = partial-none Rg _ _ _ ∙ sym (ap (partial Rg s x y) (mul-zero g) ∙ partial-none Rg s x y)
     grouped g (suc n) =
         partial-next Rg _ _ _ n
-        ∙ ap₂ (λ a b. a ⊗ pow Rg y g ⊕ partial Rg (λ j. s (g * n + j)) x y g ⊗ b) (grouped g n) (pow-times x g n)
+        ∙ ap₂ (λ a b. a ⊗ pow Rg y g ⊕ partial Rg (λ j. s (g * n + j)) x y g ⊗ b) (grouped g n) (pow-mul Rg x g n)
         ∙ sym (partial-more (g * n) g)
         ∙ ap (partial Rg s x y) (omega arith)
 
@@ -98,5 +93,5 @@ module _ (F : PrimeField) where
           powers =
               t .powers
               ∙ ap (λ a. pow (scalars F) a n) (residue-power F x g qx)
-              ∙ pow-times (scalars F) (residue F x) g n;
+              ∙ pow-mul (scalars F) (residue F x) g n;
         }

@@ -9,7 +9,7 @@ use native.Mathlib.Nat.{mod-lt}
 use native.Mathlib.Omega.{arith}
 use lib.ListN.{length, getD}
 use Rattle.algebra.specs.Ring as R
-use Rattle.algebra.specs.Ring.{CommRing, RING, pow, pow-zero, pow-suc}
+use Rattle.algebra.specs.Ring.{CommRing, RING, pow, pow-zero, pow-suc, pow-next}
 use Rattle.algebra.specs.Sum.{total, total-zero, total-snoc, total-ext, total-mul}
 use Rattle.algebra.specs.PrimeField.{PrimeField, positive, scalars, residue, value, residue-value, residue-0, residue-1, residue-add-mod, residue-mul, residue-mul-mod, residue-neg}
 use Rattle.lists.specs.Degrees.{naiveDegree}
@@ -49,9 +49,6 @@ module _ (Rg : CommRing) where
           where
             none : suc k - 1 - k ≡ 0
             none = omega arith
-
-  pub pow-next : (x : Carrier) (k : ℕ) → pow Rg x k ⊗ x ≡ pow Rg x (k + 1)
-  pow-next x k = R.mul-comm Rg _ _ ∙ sym (pow-suc Rg x k) ∙ ap (pow Rg x) (sym (add-one k))
 
 module _ (F : PrimeField) where
   pub terms-start : (w : ℕ → scalars F .Carrier) (x y : ℕ) → Terms F w x y 0 0 1

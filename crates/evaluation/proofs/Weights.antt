@@ -6,12 +6,12 @@ use Prim.Native.Nat.{ℕ, _+_, _-_, _*_, _%_, _<_}
 use native.Mathlib.Nat.{mod-lt}
 use native.Mathlib.Omega.{arith}
 use lib.ListN.{length, getD}
-use Rattle.algebra.specs.Ring.{CommRing, pow, pow-zero}
+use Rattle.algebra.specs.Ring.{CommRing, pow, pow-zero, pow-next}
 use Rattle.algebra.specs.PrimeField.{PrimeField, positive, scalars, residue, residue-value, residue-1}
 use Rattle.lists.specs.Tabulate.{length-tabulate, getD-tabulate}
 use Rattle.lists.specs.Words.{value-is}
 use Rattle.evaluation.specs.Workers.{powerOf, powersOf, weightsOf}
-use Rattle.evaluation.proofs.Values.{pow-next, residue-times}
+use Rattle.evaluation.proofs.Values.{residue-times}
 
 pub length-weights : (p n : ℕ) (a b : List ℕ) → length (weightsOf p n a b) ≡ n
 unfolding weightsOf

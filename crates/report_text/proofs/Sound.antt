@@ -19,12 +19,11 @@ use Rattle.refusal.specs.declared.Outcome.the-variants.{Done, Refused}
 use Rattle.lists.specs.declared.NaiveDegree.{NaiveDegree}
 use Rattle.lists.specs.Degrees.{naiveDegree, extent, power}
 use Rattle.euclid.specs.Gcds.{commonPower, padded}
-use Rattle.euclid.specs.Loops.{getD-padded}
+use Rattle.euclid.specs.Loops.{padded-inside, getD-padded}
 use Rattle.euclid.specs.Powers.{commonPower-attained}
 use Rattle.albums.specs.Albums.{albumGcd}
 use Rattle.layout.specs.Layout.{listsOf}
 use Rattle.layout.specs.Workers.{Passed}
-use Rattle.album.proofs.Held.{padded-inside}
 use Rattle.gcd.specs.declared.Gcd.{Gcd}
 use Rattle.gcd.specs.declared.Gcd.the-variants as G
 use Rattle.gcd.specs.Calls.{gcdReply}

@@ -15,12 +15,12 @@ use Rattle.refusal.specs.declared.Outcome.{Outcome}
 use Rattle.refusal.specs.declared.Outcome.the-variants.{Done, Refused}
 use Rattle.field.specs.Field.{p}
 use Rattle.euclid.specs.Gcds.{padded}
+use Rattle.euclid.specs.Loops.{padded-inside}
 use Rattle.layout.specs.Layout.{count, listsOf}
 use Rattle.layout.specs.Calls.{albumRefusals}
 use Rattle.layout.specs.Workers.{Passed}
 use Rattle.layout.specs.Places.{length-lists}
 use Rattle.layout.proofs.Passed.{passed-obeys, passed-each}
-use Rattle.album.proofs.Held.{padded-inside}
 use Rattle.report_text.specs.Text.{decimal, line}
 use Rattle.report_text.specs.Report.{⟨lists⟩, listLines, refusedLine, soundReport, reportOf}
 use Rattle.report_text.specs.Calls.{maxText, reportRefusals, textReply}

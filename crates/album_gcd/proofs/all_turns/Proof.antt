@@ -1,4 +1,5 @@
--- `album_gcd::all_turns` meets its contract: h holds the result after the lists below k.
+-- `album_gcd::all_turns` meets its contract. The loop's invariant: h holds the result after the lists below k, and the two buffers keep
+-- their length. The measure is the number of lists left.
 -- Assumes nothing.
 use mathlib.Core.Path.{_≡_, sym, _∙_, ap}
 use Prim.Native.Nat.{_≤_, _-_}

@@ -1,4 +1,4 @@
--- `album_gcd::all_zero` meets its contract: the lists from i on answer for all.
+-- `album_gcd::all_zero` meets its contract. The loop's invariant: the lists from i on answer for all. The measure is the number of those.
 -- Assumes nothing.
 use mathlib.Core.Path.{_≡_, refl, sym, _∙_, ap}
 use mathlib.Core.List.{[]}

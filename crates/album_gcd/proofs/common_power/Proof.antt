@@ -1,4 +1,5 @@
--- `album_gcd::common_power` meets its contract: the least power of the lists below j is found.
+-- `album_gcd::common_power` meets its contract. The loop's invariant: `least` is at most the power of each list below j that is not zero,
+-- and is 256 or the power of a list that is not zero. The measure is the number of lists left.
 -- Assumes nothing.
 use mathlib.Core.Path.{_≡_, sym, _∙_}
 use mathlib.Core.List.{[]}

@@ -1,4 +1,5 @@
--- `host::read_words` meets its contract: the words below k are read.
+-- `host::read_words` meets its contract. The loop's invariant: the words below k are read, and the bytes of all words are there. The
+-- measure is the number of words left.
 -- Assumes nothing.
 use mathlib.Core.Path.{_≡_, sym, _∙_}
 use Prim.Native.Nat.{_*_, _-_, _≤_}

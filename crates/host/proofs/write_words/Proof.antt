@@ -1,4 +1,5 @@
--- `host::write_words` meets its contract: the bytes of the words below k are written.
+-- `host::write_words` meets its contract. The loop's invariant: the bytes of the words below k are written. The measure is the number of
+-- words left.
 -- Assumes nothing.
 use mathlib.Core.Path.{_≡_}
 use Prim.Native.Nat.{_*_, _-_, _≤_}

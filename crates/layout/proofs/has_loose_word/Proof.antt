@@ -1,4 +1,5 @@
--- `layout::has_loose_word` meets its contract: the words that are left answer for all lists.
+-- `layout::has_loose_word` meets its contract. The loop's invariant: the words from `at` on answer for all lists. The measure is the number
+-- of bytes from `at` on.
 -- Assumes nothing.
 use Prim.Native.Nat.{_-_}
 use native.Mathlib.Omega.{arith}

@@ -1,5 +1,5 @@
--- `layout::judge_layout` meets its contract. The loop's invariant: the first k entries name the places where the bodies start, and the
--- next body starts at `at`.
+-- `layout::judge_layout` meets its contract. The loop's invariant: the first k entries name the places where the bodies start, and the next
+-- body starts at `at`. The measure is the number of entries left.
 -- Assumes nothing.
 use mathlib.Core.Path.{_≡_, subst}
 use mathlib.Core.Bool.{true}

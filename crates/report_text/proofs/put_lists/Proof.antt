@@ -1,4 +1,5 @@
--- `report_text::put_lists` meets its contract: the lines of the lists below i are put.
+-- `report_text::put_lists` meets its contract. The loop's invariant: the lines of the lists below i are put, and the room for a list keeps
+-- its length. The measure is the number of lists left.
 -- Assumes nothing.
 use mathlib.Core.Path.{_≡_, refl, sym, _∙_, ap}
 use mathlib.Core.List.{[]}

@@ -1,4 +1,5 @@
--- `report_text::put_words` meets its contract: the words below k are put.
+-- `report_text::put_words` meets its contract. The loop's invariant: word 0 is put, and after it the words below k. The measure is the
+-- number of those left.
 -- Assumes nothing.
 use mathlib.Core.Path.{refl, sym}
 use mathlib.Core.List.{[], _∷_, _++_}

@@ -50,10 +50,10 @@ slice-aggregate-put-list c = held-count (held (c .before .before .before))
 put-list-requires : tie.Need-put-list-requires Inv-loop μ-loop
 put-list-requires c κs =
     let s = c .before .before .before .before .before .before .before .before .before .before .before .before .args .album .now in
-    let e = held (c .before .before .before .before) in
-    let l = length-lists s in (
-      omega (arith, ap length (held-take e), e .listed .some),
-      room-is (ap (listLine _) (list-at s _ (omega arith) ∙ sym (held-take e)))
+    let list = held (c .before .before .before .before) in
+    let counted = length-lists s in (
+      omega (arith, ap length (held-take list), list .listed .some),
+      room-is (ap (listLine _) (list-at s _ (omega arith) ∙ sym (held-take list)))
           (left-room _ _ (lines-next (listsOf s) _ (omega arith)) (c .before .before .before .before .before .before .before .loop .inv .2) (c .before .before .before .before .before .before .before .before .before .before .before .before .pre .1)),
     )
 
@@ -66,12 +66,12 @@ loop-less c = omega arith
 loop-again : tie.Need-loop-again Inv-loop μ-loop
 loop-again c =
     let s = c .before .before .before .before .before .before .before .before .before .before .before .before .before .before .before .args .album .now in
-    let e = held (c .before .before .before .before .before .before .before) in
-    let l = length-lists s in (
+    let list = held (c .before .before .before .before .before .before .before) in
+    let counted = length-lists s in (
       omega arith,
-      held-length e,
+      held-length list,
       left-next _ _ (lines-next (listsOf s) _ (omega arith)) (c .before .before .before .before .before .before .before .before .before .before .loop .inv .2)
-          (put-is (ap (listLine _) (held-take e ∙ sym (list-at s _ (omega arith)))) refl (c .before .before .put-list .ensures)),
+          (put-is (ap (listLine _) (held-take list ∙ sym (list-at s _ (omega arith)))) refl (c .before .before .put-list .ensures)),
     )
 
 same-length : tie.Need-same-length Inv-loop μ-loop
@@ -83,7 +83,7 @@ same-length-2 c = search needs
 returns : tie.Need-returns Inv-loop μ-loop
 returns c =
     let s = c .before .before .before .before .before .before .args .album .now in
-    let l = length-lists s in
+    let counted = length-lists s in
     left-end (left-next [] [] (lines-end (listsOf s) (c .before .loop .i) (omega arith)) (c .before .loop .inv .2) (put-none _ _))
 
 pub put-lists-spec : {M : Type 1} → statement M

@@ -4,8 +4,8 @@
 use Prim.Native.Nat.{_-_}
 use native.Mathlib.Omega.{arith}
 use lib.ListN.{length}
-use Rattle.layout.proofs.Loose.{Left, left-start, left-here, left-on, left-end}
 use borrow.Author.Needs.{needs}
+use Rattle.layout.proofs.Loose.{Left, left-start, left-here, left-on, left-end}
 use Rattle.layout.proofs.has_loose_word.Statement.{statement}
 use Rattle.layout.proofs.has_loose_word.Tie as tie
 

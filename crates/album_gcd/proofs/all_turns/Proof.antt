@@ -28,7 +28,7 @@ count-lists-requires : tie.Need-count-lists-requires Inv-loop μ-loop
 count-lists-requires c κs = search needs
 
 copy-requires : tie.Need-copy-requires Inv-loop μ-loop
-copy-requires c κs = let pre = c .before .before .before .before .before .before .before .pre in pre .1 .0 .1 ∙ sym (pre .1 .0 .2)
+copy-requires c κs = search needs
 
 loop-holds : tie.Need-loop-holds Inv-loop μ-loop
 unfolding F65521
@@ -36,8 +36,8 @@ loop-holds c =
     let pre = c .before .before .before .before .before .before .before .before .before .before .pre in
     let copied = c .before .before .copy .ensures in (
       search needs,
-      pre .1 .0 .0,
-      pre .1 .0 .1,
+      search needs,
+      search needs,
       folding-start F65521 _ _ (ap length copied ∙ pre .1 .0 .1) (λ k. ap (λ l. getD l k 0) copied ∙ pre .1 .1 k),
     )
 

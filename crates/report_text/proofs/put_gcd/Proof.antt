@@ -44,10 +44,10 @@ power-room : (c : tie.After-put-field2) → Room (afterPower (c .before .before 
 power-room c = room-then (degree-room (c .before .before .before .before)) (c .put-field2 .ensures)
 
 sub-put-field : tie.Need-sub-put-field
-sub-put-field c = omega (arith, c .before .before .before .before .before .before .before .pre .0 .0)
+sub-put-field c = search needs
 
 add-put-field : tie.Need-add-put-field
-add-put-field c = let pre = c .before .before .before .before .before .before .before .pre .0 in omega arith
+add-put-field c = search needs
 
 put-field-requires : tie.Need-put-field-requires
 unfolding naiveDegree
@@ -60,7 +60,7 @@ put-requires : tie.Need-put-requires
 put-requires c κs = room-first (10 ∷ []) _ (power-room (c .before .before .before))
 
 put-words-requires : tie.Need-put-words-requires
-put-words-requires c κs = (c .before .before .before .before .before .before .before .before .before .before .before .before .before .before .before .before .before .before .before .before .pre .0 .0, room-then (power-room (c .before .before .before .before .before .before .before)) (c .before .before .before .put .ensures))
+put-words-requires c κs = (search needs, room-then (power-room (c .before .before .before .before .before .before .before)) (c .before .before .before .put .ensures))
 
 same-length : tie.Need-same-length
 same-length c = search needs

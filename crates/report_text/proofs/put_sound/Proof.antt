@@ -25,12 +25,12 @@ put-named-requires c κs =
 put-lists-requires : tie.Need-put-lists-requires
 put-lists-requires c κs =
     let start = c .before .before .before .before .before .before .before .before .before .before .before .before in
-    ((start .pre .0, start .pre .1 .0), lists-room 65521 (start .args .album .now) (start .pre .0) (λ i. omega (arith, c .before .before .before .before .before .before .before .before .before .before .before .shared-slice-known .given i)) (start .pre .1 .2) (c .before .before .before .before .put-named .ensures))
+    (search needs, lists-room 65521 (start .args .album .now) (start .pre .0) (λ i. omega (arith, c .before .before .before .before .before .before .before .before .before .before .before .shared-slice-known .given i)) (start .pre .1 .2) (c .before .before .before .before .put-named .ensures))
 
 put-answer-requires : tie.Need-put-answer-requires
 put-answer-requires c κs =
     let start = c .before .before .before .before .before .before .before .before .before .before .before .before .before .before .before .before .before .before .before in
-    ((start .pre .0, start .pre .1 .1), answer-room 65521 (start .args .album .now) (start .pre .0) (λ i. omega (arith, c .before .before .before .before .before .before .before .before .before .before .before .before .before .before .before .before .before .before .shared-slice-known .given i)) (start .pre .1 .2) (c .before .before .before .before .before .before .before .before .before .before .before .put-named .ensures) (c .before .before .before .before .before .before .put-lists .ensures))
+    (search needs, answer-room 65521 (start .args .album .now) (start .pre .0) (λ i. omega (arith, c .before .before .before .before .before .before .before .before .before .before .before .before .before .before .before .before .before .before .shared-slice-known .given i)) (start .pre .1 .2) (c .before .before .before .before .before .before .before .before .before .before .before .put-named .ensures) (c .before .before .before .before .before .before .put-lists .ensures))
 
 same-length : tie.Need-same-length
 same-length c = search needs

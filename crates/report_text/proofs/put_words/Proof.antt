@@ -34,7 +34,7 @@ rest-room : (c : tie.After-put-number Inv-loop μ-loop)
 rest-room c = room-then (room-is (words-line (c .before .before .before .before .before .args .h .now) (c .before .before .before .before .before .pre .0)) (c .before .before .before .before .before .pre .1)) (c .put-number .ensures)
 
 loop-holds : tie.Need-loop-holds Inv-loop μ-loop
-loop-holds c = (omega (arith, c .before .before .before .before .before .before .before .pre .0), left-start)
+loop-holds c = (search needs, left-start)
 
 mul-put-field : tie.Need-mul-put-field Inv-loop μ-loop
 mul-put-field c = search needs

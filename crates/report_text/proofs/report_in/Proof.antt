@@ -28,7 +28,7 @@ passed : (c : tie.After-enum-told) → Passed 65521 (c .before .before .before .
 passed c = sym (c .before .before .judge-album .ensures) ∙ c .enum-told .given .1
 
 put-sound-requires : tie.Need-put-sound-requires
-put-sound-requires c κs = (passed (c .before .before .before), c .before .before .before .before .before .before .before .before .before .before .pre)
+put-sound-requires c κs = (passed (c .before .before .before), search needs)
 
 same-length : tie.Need-same-length
 same-length c = search needs

@@ -3,7 +3,6 @@
 use mathlib.Core.Path.{refl, sym}
 use mathlib.Core.List.{List, [], _∷_, _++_, map}
 use Prim.Native.Nat.{ℕ, _+_}
-use native.Mathlib.Omega.{arith}
 use borrow.Author.Needs.{needs}
 use Rattle.lists.specs.Degrees.{naiveDegree}
 use Rattle.report_text.specs.Text.{decimal, line}

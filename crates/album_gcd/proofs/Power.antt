@@ -1,5 +1,5 @@
 -- The least power of the lists that are not zero, found by a loop that starts above every power.
---     Lowest i a     a is the least of 256 and of the powers of the lists below i that are not zero
+--     Lowest i a     a is at most the power of each list below i that is not zero, and is 256 or the power of a list that is not zero
 -- Assumes nothing.
 use mathlib.Core.Path.{_≡_, refl, _∙_, ap}
 use mathlib.Core.Logic.{_⊎_, inl, inr}

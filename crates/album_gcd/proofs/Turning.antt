@@ -120,8 +120,8 @@ module _ (F : PrimeField) (big : maxWords ≤ F .p) where
                     slice = v ∙ ap (λ o. written o (padded maxWords (gcdOf F f c)) x) pass;
                   };
               few =
-                  let a = gcd-rounds F f c coefficients in
-                  let b = significant-le f in
+                  let rounds = gcd-rounds F f c coefficients in
+                  let below = significant-le f in
                   let s = h .listed .short in
                   omega (arith, count);
               is =
@@ -164,7 +164,7 @@ module _ (F : PrimeField) where
         record {
           list = t .list;
           held = t .held;
-          few = let a = w .few in let b = t .few in omega arith;
+          few = let before = w .few in let here = t .few in omega arith;
           rest =
               ap (λ j. foldGcd F (record { list = t .list; rounds = k + k′ }) (drop j lists)) (add-one i)
               ∙ ap (λ r. foldGcd F r (drop (suc i) lists)) (sym turned)

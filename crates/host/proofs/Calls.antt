@@ -1,5 +1,6 @@
 -- The three calls: f and g are the bytes of the lists, a and b their words, c and d the words handed to the engine's function for the
 -- results; primed, what stands there afterwards.
+--     ProductCall, DivisionCall, GcdCall     what is known of a call once the engine's function answered
 -- Assumes nothing.
 use mathlib.Core.Path.{_≡_, sym, _∙_, ap, ap₂}
 use mathlib.Core.Bool.{false}
@@ -31,49 +32,74 @@ use Rattle.host.proofs.Fits.{good-list, both}
 use Rattle.host.proofs.Rows.{product-rows, product-whole, division-rows, division-whole, gcd-rows, gcd-whole}
 use Rattle.host.proofs.Answers.{done-reply, refused-reply, wrote, Small, small}
 
-module _ (p : ℕ) (f g out a b c : List ℕ) (ef : badList f ≡ false) (eg : badList g ≡ false) (ea : a ≡ wordsOf f) (eb : b ≡ wordsOf g)
-    (room : length c ≡ roomOf 0 out) (answer : Outcome) (says : outcomeReply answer ≡ reply (lowest (productRefusals p a b c)) [])
-  where
-    product-same : lowest (productRefusals p a b c) ≡ lowest (productRows p f g out)
-    product-same = ap₂ (λ x y. lowest (productRefusals p x y c)) ea eb ∙ product-rows p f g out c ef eg room
+pub record ProductCall (p : ℕ) (f g out a b c : List ℕ) (answer : Outcome) : Type 0 where
+  pub good-f : badList f ≡ false
+  pub good-g : badList g ≡ false
+  pub words-f : a ≡ wordsOf f
+  pub words-g : b ≡ wordsOf g
+  pub room : length c ≡ roomOf 0 out
+  pub says : outcomeReply answer ≡ reply (lowest (productRefusals p a b c)) []
 
-    product-completes : answer ≡ Done → lowest (productRows p f g out) ≡ Done
-    product-completes d =
-        sym product-same ∙ done-reply (lowest (productRefusals p a b c)) [] [] (sym (ap outcomeReply d) ∙ says) .0
+pub record DivisionCall (p : ℕ) (g f q r a b c d : List ℕ) (answer : Outcome) : Type 0 where
+  pub good-g : badList g ≡ false
+  pub good-f : badList f ≡ false
+  pub words-g : a ≡ wordsOf g
+  pub words-f : b ≡ wordsOf f
+  pub room-q : length c ≡ roomOf 0 q
+  pub room-r : length d ≡ roomOf maxWords r
+  pub says : outcomeReply answer ≡ reply (lowest (divideRefusals p a b c d)) []
 
-    pub product-fits : answer ≡ Done → length out ≡ 2 * length c
-    product-fits d = rw room (product-whole p f g out (product-completes d))
+pub record GcdCall (F : PrimeField) (p : ℕ) (f g h answer a b c : List ℕ) (found : Gcd) : Type 0 where
+  pub good-f : badList f ≡ false
+  pub good-g : badList g ≡ false
+  pub words-f : a ≡ wordsOf f
+  pub words-g : b ≡ wordsOf g
+  pub room : length c ≡ gcdRoom h answer
+  pub says : gcdReply found ≡ reply (lowest (gcdRefusals p a b c)) (gcdValues F a b)
 
-    pub product-done : answer ≡ Done → (F : PrimeField) {c′ out′ : List ℕ}
-        → c′ ≡ written (lowest (productRefusals p a b c)) (product F a b) c → out′ ≡ bytesOf c′
-        → (0 ≡ outcomeNumber (lowest (productRows p f g out)))
-        × (out′ ≡ written (lowest (productRows p f g out)) (bytesOf (product F (wordsOf f) (wordsOf g))) out)
-    product-done d F w o = (
-      sym (ap outcomeNumber (product-completes d)),
-      wrote (product F (wordsOf f) (wordsOf g)) out c product-same (product-completes d)
-          (w ∙ ap₂ (λ x y. written (lowest (productRefusals p a b c)) (product F x y) c) ea eb) o,
-    )
+module _ {p : ℕ} {f g out a b c : List ℕ} {answer : Outcome} (call : ProductCall p f g out a b c answer) where
+  product-same : lowest (productRefusals p a b c) ≡ lowest (productRows p f g out)
+  product-same =
+      ap₂ (λ x y. lowest (productRefusals p x y c)) (call .words-f) (call .words-g)
+      ∙ product-rows p f g out c (call .good-f) (call .good-g) (call .room)
 
-    pub product-refused : {why : Refusal} → answer ≡ Refused why → {n : ℕ} → n ≡ number why → (new : List ℕ)
-        → (n ≡ outcomeNumber (lowest (productRows p f g out))) × (out ≡ written (lowest (productRows p f g out)) new out)
-    product-refused {why} r e new =
-        let h = refused-reply why (lowest (productRefusals p a b c)) [] (sym (ap outcomeReply r) ∙ says) in
-        (e ∙ h .0 ∙ ap outcomeNumber product-same, h .1 new out ∙ ap (λ o. written o new out) product-same)
+  product-completes : answer ≡ Done → lowest (productRows p f g out) ≡ Done
+  product-completes d =
+      sym product-same ∙ done-reply (lowest (productRefusals p a b c)) [] [] (sym (ap outcomeReply d) ∙ call .says) .0
 
-module _ (p : ℕ) (g f q r a b c d : List ℕ) (eg : badList g ≡ false) (ef : badList f ≡ false) (ea : a ≡ wordsOf g) (eb : b ≡ wordsOf f)
-    (room-q : length c ≡ roomOf 0 q) (room-r : length d ≡ roomOf maxWords r) (answer : Outcome)
-    (says : outcomeReply answer ≡ reply (lowest (divideRefusals p a b c d)) []) where
+  pub product-fits : answer ≡ Done → length out ≡ 2 * length c
+  product-fits d = rw (call .room) (product-whole p f g out (product-completes d))
+
+  pub product-done : answer ≡ Done → (F : PrimeField) {c′ out′ : List ℕ}
+      → c′ ≡ written (lowest (productRefusals p a b c)) (product F a b) c → out′ ≡ bytesOf c′
+      → (0 ≡ outcomeNumber (lowest (productRows p f g out)))
+      × (out′ ≡ written (lowest (productRows p f g out)) (bytesOf (product F (wordsOf f) (wordsOf g))) out)
+  product-done d F w o = (
+    sym (ap outcomeNumber (product-completes d)),
+    wrote (product F (wordsOf f) (wordsOf g)) out c product-same (product-completes d)
+        (w ∙ ap₂ (λ x y. written (lowest (productRefusals p a b c)) (product F x y) c) (call .words-f) (call .words-g)) o,
+  )
+
+  pub product-refused : {why : Refusal} → answer ≡ Refused why → {n : ℕ} → n ≡ number why → (new : List ℕ)
+      → (n ≡ outcomeNumber (lowest (productRows p f g out))) × (out ≡ written (lowest (productRows p f g out)) new out)
+  product-refused {why} r e new =
+      let h = refused-reply why (lowest (productRefusals p a b c)) [] (sym (ap outcomeReply r) ∙ call .says) in
+      (e ∙ h .0 ∙ ap outcomeNumber product-same, h .1 new out ∙ ap (λ o. written o new out) product-same)
+
+module _ {p : ℕ} {g f q r a b c d : List ℕ} {answer : Outcome} (call : DivisionCall p g f q r a b c d answer) where
   division-same : lowest (divideRefusals p a b c d) ≡ lowest (divisionRows p g f q r)
-  division-same = ap₂ (λ x y. lowest (divideRefusals p x y c d)) ea eb ∙ division-rows p g f q r eg ef c d room-q room-r
+  division-same =
+      ap₂ (λ x y. lowest (divideRefusals p x y c d)) (call .words-g) (call .words-f)
+      ∙ division-rows p g f q r (call .good-g) (call .good-f) c d (call .room-q) (call .room-r)
 
   division-completes : answer ≡ Done → lowest (divisionRows p g f q r) ≡ Done
   division-completes e =
-      sym division-same ∙ done-reply (lowest (divideRefusals p a b c d)) [] [] (sym (ap outcomeReply e) ∙ says) .0
+      sym division-same ∙ done-reply (lowest (divideRefusals p a b c d)) [] [] (sym (ap outcomeReply e) ∙ call .says) .0
 
   pub division-fits : answer ≡ Done → (length q ≡ 2 * length c) × (length r ≡ 2 * length d)
   division-fits e =
-      let h = division-whole p g f q r eg ef (division-completes e) in
-      (rw room-q (h .0), rw room-r (h .1))
+      let h = division-whole p g f q r (call .good-g) (call .good-f) (division-completes e) in
+      (rw (call .room-q) (h .0), rw (call .room-r) (h .1))
 
   pub division-done : answer ≡ Done → (F : PrimeField) {c′ d′ q′ r′ : List ℕ}
       → c′ ≡ written (lowest (divideRefusals p a b c d)) (quotientOf F a b) c
@@ -86,9 +112,9 @@ module _ (p : ℕ) (g f q r a b c d : List ℕ) (eg : badList g ≡ false) (ef :
     sym (ap outcomeNumber (division-completes e)),
     (
       wrote (quotientOf F (wordsOf g) (wordsOf f)) q c division-same (division-completes e)
-          (wc ∙ ap₂ (λ x y. written (lowest (divideRefusals p a b c d)) (quotientOf F x y) c) ea eb) oq,
+          (wc ∙ ap₂ (λ x y. written (lowest (divideRefusals p a b c d)) (quotientOf F x y) c) (call .words-g) (call .words-f)) oq,
       wrote (remainderOf F (wordsOf g) (wordsOf f)) r d division-same (division-completes e)
-          (wd ∙ ap₂ (λ x y. written (lowest (divideRefusals p a b c d)) (remainderOf F x y) d) ea eb) or,
+          (wd ∙ ap₂ (λ x y. written (lowest (divideRefusals p a b c d)) (remainderOf F x y) d) (call .words-g) (call .words-f)) or,
     ),
   )
 
@@ -96,20 +122,20 @@ module _ (p : ℕ) (g f q r a b c d : List ℕ) (eg : badList g ≡ false) (ef :
       → (n ≡ outcomeNumber (lowest (divisionRows p g f q r))) × ((q ≡ written (lowest (divisionRows p g f q r)) new-q q)
       × (r ≡ written (lowest (divisionRows p g f q r)) new-r r))
   division-refused {why} w e new-q new-r =
-      let h = refused-reply why (lowest (divideRefusals p a b c d)) [] (sym (ap outcomeReply w) ∙ says) in (
+      let h = refused-reply why (lowest (divideRefusals p a b c d)) [] (sym (ap outcomeReply w) ∙ call .says) in (
         e ∙ h .0 ∙ ap outcomeNumber division-same,
         (h .1 new-q q ∙ ap (λ o. written o new-q q) division-same, h .1 new-r r ∙ ap (λ o. written o new-r r) division-same),
       )
 
-module _ (F : PrimeField) (p : ℕ) (f g h answer a b c : List ℕ) (ef : badList f ≡ false) (eg : badList g ≡ false) (ea : a ≡ wordsOf f)
-    (eb : b ≡ wordsOf g) (room : length c ≡ gcdRoom h answer) (found : Gcd)
-    (says : gcdReply found ≡ reply (lowest (gcdRefusals p a b c)) (gcdValues F a b)) where
+module _ {F : PrimeField} {p : ℕ} {f g h answer a b c : List ℕ} {found : Gcd} (call : GcdCall F p f g h answer a b c found) where
   gcd-same : lowest (gcdRefusals p a b c) ≡ lowest (gcdRows p f g h answer)
-  gcd-same = ap₂ (λ x y. lowest (gcdRefusals p x y c)) ea eb ∙ gcd-rows p f g h answer c ef eg room
+  gcd-same =
+      ap₂ (λ x y. lowest (gcdRefusals p x y c)) (call .words-f) (call .words-g)
+      ∙ gcd-rows p f g h answer c (call .good-f) (call .good-g) (call .room)
 
   module _ {w : NaiveDegree} {power rounds : ℕ} (d : found ≡ G.Done w power rounds) where
     told : (lowest (gcdRefusals p a b c) ≡ Done) × (w .0 ∷ power ∷ rounds ∷ [] ≡ gcdValues F a b)
-    told = done-reply (lowest (gcdRefusals p a b c)) (w .0 ∷ power ∷ rounds ∷ []) (gcdValues F a b) (sym (ap gcdReply d) ∙ says)
+    told = done-reply (lowest (gcdRefusals p a b c)) (w .0 ∷ power ∷ rounds ∷ []) (gcdValues F a b) (sym (ap gcdReply d) ∙ call .says)
 
     gcd-completes : lowest (gcdRows p f g h answer) ≡ Done
     gcd-completes = sym gcd-same ∙ told .0
@@ -117,14 +143,15 @@ module _ (F : PrimeField) (p : ℕ) (f g h answer a b c : List ℕ) (ef : badLis
     pub gcd-fits : (length h ≡ 2 * length c) × (length c ≡ maxWords) × (length answer ≡ 6)
     gcd-fits =
         let e = gcd-whole p f g h answer gcd-completes in
+        let room = call .room in
         let s = both h answer (e .0) (e .1) in
         (omega arith, omega arith, e .1)
 
     pub gcd-small : {c′ : List ℕ} → c′ ≡ written (lowest (gcdRefusals p a b c)) (padded maxWords (gcdOf F a b)) c
         → length c′ ≡ length c → Greatest F a b c′ found → Small (w .0) power rounds
     gcd-small {c′} wc l k =
-        small F a b c′ (rw ea (good-list f ef .1)) (rw eb (good-list g eg .1)) (let s = gcd-fits in omega arith)
-        (λ z. gcd-whole p f g h answer gcd-completes .2 (sym (ap₂ (λ x y. significant x + significant y) ea eb) ∙ z))
+        small F a b c′ (rw (call .words-f) (good-list f (call .good-f) .1)) (rw (call .words-g) (good-list g (call .good-g) .1)) (let s = gcd-fits in omega arith)
+        (λ z. gcd-whole p f g h answer gcd-completes .2 (sym (ap₂ (λ x y. significant x + significant y) (call .words-f) (call .words-g)) ∙ z))
         (rw d at k) (told .1)
 
     pub gcd-done : {c′ h′ answer′ : List ℕ} → c′ ≡ written (lowest (gcdRefusals p a b c)) (padded maxWords (gcdOf F a b)) c
@@ -136,8 +163,8 @@ module _ (F : PrimeField) (p : ℕ) (f g h answer a b c : List ℕ) (ef : badLis
       sym (ap outcomeNumber gcd-completes),
       (
         wrote (padded maxWords (gcdOf F (wordsOf f) (wordsOf g))) h c gcd-same gcd-completes
-            (wc ∙ ap₂ (λ x y. written (lowest (gcdRefusals p a b c)) (padded maxWords (gcdOf F x y)) c) ea eb) oh,
-        oa ∙ ap bytesOf (told .1 ∙ ap₂ (gcdValues F) ea eb)
+            (wc ∙ ap₂ (λ x y. written (lowest (gcdRefusals p a b c)) (padded maxWords (gcdOf F x y)) c) (call .words-f) (call .words-g)) oh,
+        oa ∙ ap bytesOf (told .1 ∙ ap₂ (gcdValues F) (call .words-f) (call .words-g))
             ∙ sym (ap (λ o. written o (bytesOf (gcdValues F (wordsOf f) (wordsOf g))) answer) gcd-completes),
       ),
     )
@@ -146,7 +173,7 @@ module _ (F : PrimeField) (p : ℕ) (f g h answer a b c : List ℕ) (ef : badLis
       → (n ≡ outcomeNumber (lowest (gcdRows p f g h answer))) × ((h ≡ written (lowest (gcdRows p f g h answer)) new-h h)
       × (answer ≡ written (lowest (gcdRows p f g h answer)) new-answer answer))
   gcd-refused {why} w e new-h new-answer =
-      let k = refused-reply why (lowest (gcdRefusals p a b c)) (gcdValues F a b) (sym (ap gcdReply w) ∙ says) in (
+      let k = refused-reply why (lowest (gcdRefusals p a b c)) (gcdValues F a b) (sym (ap gcdReply w) ∙ call .says) in (
         e ∙ k .0 ∙ ap outcomeNumber gcd-same,
         (k .1 new-h h ∙ ap (λ o. written o new-h h) gcd-same, k .1 new-answer answer ∙ ap (λ o. written o new-answer answer) gcd-same),
       )

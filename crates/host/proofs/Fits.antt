@@ -7,11 +7,12 @@ use Prim.Native.Nat.{ℕ, _*_, _/_, _%_, _≤_, _<_}
 use native.Mathlib.Nat.{div-add-mod, mod-lt}
 use native.Mathlib.Omega.{arith}
 use lib.Dec.{eqb, ltb, lit<}
-use lib.ListN.{length}
+use lib.ListN.{length, take}
 use borrow.Author.Tests.{eqb-true, eqb-false, ltb-true, ltb-false, not-false, eq-eqb, ne-eqb, lt-ltb, le-ltb}
 use Rattle.refusal.specs.Limits.{maxWords}
 use Rattle.refusal.proofs.First.{or-false}
 use Rattle.lists.specs.Refused.{wrongLength}
+use Rattle.lists.proofs.Parts.{prefix-length}
 use Rattle.lists.specs.Bytes.{oddBytes, wordCount, wordsOf, length-wordsOf}
 use Rattle.host.specs.Calls.{misfit}
 use Rattle.host.specs.Workers.{badList, roomOf, gcdRoom}
@@ -41,6 +42,10 @@ good-list s e =
 pub good-half : (s : List ℕ) → badList s ≡ false → length s / 2 ≤ maxWords
 unfolding wordCount
 good-half s e = let h = good-list s e in omega (arith, length-wordsOf s)
+
+-- the words of a list, as a part of a buffer of 256
+pub list-part : (s buffer : List ℕ) → badList s ≡ false → length buffer ≡ maxWords → length (take (length s / 2) buffer) ≡ length s / 2
+list-part s buffer e size = prefix-length (length s / 2) maxWords buffer size (good-half s e)
 
 pub misfit-is : (n : ℕ) (s : List ℕ) → misfit n s ≡ not (eqb (length s) (2 * n))
 unfolding misfit
@@ -77,14 +82,19 @@ room-fits never n s short other = rw (length-wordsOf s) (go (oddBytes s) (ltb ma
         rw (ne-eqb never n other, ne-eqb (wordCount s) n (λ q. omega arith))
     go false false e = refl
 
-pub room-short : (never : ℕ) (s : List ℕ) → never ≤ maxWords → roomOf never s ≤ maxWords
+pub room-short : (never : ℕ) (s : List ℕ) → never ≤ maxWords → {k : ℕ} → k ≡ roomOf never s → k ≤ maxWords
 unfolding roomOf
-room-short never s l = go (oddBytes s) (ltb maxWords (wordCount s)) refl
+room-short never s l e = rw e (go (oddBytes s) (ltb maxWords (wordCount s)) refl)
   where
     go : (odd long : Bool) → ltb maxWords (wordCount s) ≡ long → cond (odd || long) never (wordCount s) ≤ maxWords
     go true long e = l
     go false true e = l
     go false false e = ltb-false _ _ e
+
+-- the words of a result, as a part of a buffer of 256
+pub room-part : (never : ℕ) (s buffer : List ℕ) → never ≤ maxWords → {k : ℕ} → k ≡ roomOf never s → length buffer ≡ maxWords
+    → length (take k buffer) ≡ k
+room-part never s buffer l {k} e size = prefix-length k maxWords buffer size (room-short never s l e)
 
 pub gcd-room-fits : (h answer : List ℕ) → not (eqb (gcdRoom h answer) maxWords) ≡ (misfit maxWords h || misfit 3 answer)
 unfolding gcdRoom
@@ -96,13 +106,16 @@ gcd-room-fits h answer = rw (misfit-is maxWords h, misfit-is 3 answer) (go (eqb 
     go false true = refl
     go false false = refl
 
-pub gcd-room-short : (h answer : List ℕ) → gcdRoom h answer ≤ maxWords
+pub gcd-room-short : (h answer : List ℕ) {k : ℕ} → k ≡ gcdRoom h answer → k ≤ maxWords
 unfolding gcdRoom
-gcd-room-short h answer = go (eqb (length h) 512 && eqb (length answer) 6)
+gcd-room-short h answer e = rw e (go (eqb (length h) 512 && eqb (length answer) 6))
   where
     go : (a : Bool) → cond a maxWords 0 ≤ maxWords
     go true = omega arith
     go false = omega arith
+
+pub gcd-room-part : (h answer buffer : List ℕ) {k : ℕ} → k ≡ gcdRoom h answer → length buffer ≡ maxWords → length (take k buffer) ≡ k
+gcd-room-part h answer buffer {k} e size = prefix-length k maxWords buffer size (gcd-room-short h answer e)
 
 -- the tests that the code makes
 pub bad-odd : (s : List ℕ) → length s % 2 ≡ 1 → true ≡ badList s

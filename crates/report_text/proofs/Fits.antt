@@ -61,22 +61,22 @@ pub lines-fit : (lists : List (List ℕ)) (i : ℕ) → i + length lists ≤ 655
 unfolding listLines
 lines-fit [] i l each = omega arith
 lines-fit (c ∷ lists) i l each =
-    let a = list-fits i c (omega arith) (each 0 (omega arith)) in
-    let b = lines-fit lists (suc i) (omega arith) (λ j k. each (suc j) (omega arith)) in
+    let here = list-fits i c (omega arith) (each 0 (omega arith)) in
+    let rest = lines-fit lists (suc i) (omega arith) (λ j k. each (suc j) (omega arith)) in
     rw length-append (omega arith)
 
 fields-fit : (h : List ℕ) → ((k : ℕ) → getD h k 0 < 65536) → length (fields h) ≤ 6 * length h
 fields-fit [] small = omega arith
 fields-fit (x ∷ h) small =
-    let a = digits x (small 0) in
-    let b = fields-fit h (λ k. small (suc k)) in
+    let first = digits x (small 0) in
+    let rest = fields-fit h (λ k. small (suc k)) in
     simp length-append (omega arith)
 
 words-fit : (h : List ℕ) → 0 < length h → ((k : ℕ) → getD h k 0 < 65536) → length (line (map decimal h)) ≤ 6 * length h
 words-fit [] some small = absurd (omega arith)
 words-fit (x ∷ h) some small =
-    let a = digits x (small 0) in
-    let b = fields-fit h (λ k. small (suc k)) in
+    let first = digits x (small 0) in
+    let rest = fields-fit h (λ k. small (suc k)) in
     rw (words-line (x ∷ h) some) (simp length-append (omega arith))
 
 pub gcd-fits : (h : List ℕ) (c : ℕ) → 0 < length h → length h + c ≤ 65536 → ((k : ℕ) → getD h k 0 < 65536)

@@ -1,4 +1,4 @@
--- `album::read_words` meets its contract: the words below k are read.
+-- `album::read_words` meets its contract. The loop's invariant: the words below k are read. The measure is the number of words left.
 -- Assumes nothing.
 use mathlib.Core.Path.{_≡_}
 use Prim.Native.Nat.{_≤_, _-_}

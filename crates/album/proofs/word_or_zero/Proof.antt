@@ -1,4 +1,4 @@
--- `album::word_or_zero` meets its contract.
+-- `album::word_or_zero` meets its contract: a word of the body, or the 0 after it.
 -- Assumes nothing.
 use mathlib.Core.Path.{_∙_}
 use native.Mathlib.Omega.{arith}

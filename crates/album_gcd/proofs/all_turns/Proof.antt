@@ -1,4 +1,5 @@
--- `album_gcd::all_turns` meets its contract: h holds the result after the lists below k.
+-- `album_gcd::all_turns` meets its contract. The loop's invariant: h holds the result after the lists below k, and the two buffers keep
+-- their length. The measure is the number of lists left.
 -- Assumes nothing.
 use mathlib.Core.Path.{_≡_, sym, _∙_, ap}
 use Prim.Native.Nat.{_≤_, _-_}
@@ -27,17 +28,17 @@ count-lists-requires : tie.Need-count-lists-requires Inv-loop μ-loop
 count-lists-requires c κs = search needs
 
 copy-requires : tie.Need-copy-requires Inv-loop μ-loop
-copy-requires c κs = let pre = c .before .before .before .before .before .before .before .pre in pre .1 .0 .1 ∙ sym (pre .1 .0 .2)
+copy-requires c κs = search needs
 
 loop-holds : tie.Need-loop-holds Inv-loop μ-loop
 unfolding F65521
 loop-holds c =
     let pre = c .before .before .before .before .before .before .before .before .before .before .pre in
-    let e = c .before .before .copy .ensures in (
+    let copied = c .before .before .copy .ensures in (
       search needs,
-      pre .1 .0 .0,
-      pre .1 .0 .1,
-      folding-start F65521 _ _ (ap length e ∙ pre .1 .0 .1) (λ k. ap (λ l. getD l k 0) e ∙ pre .1 .1 k),
+      search needs,
+      search needs,
+      folding-start F65521 _ _ (ap length copied ∙ pre .1 .0 .1) (λ k. ap (λ l. getD l k 0) copied ∙ pre .1 .1 k),
     )
 
 read-requires : tie.Need-read-requires Inv-loop μ-loop
@@ -46,7 +47,7 @@ read-requires c κs = search needs
 -- list k, as it is read
 held : (c : tie.After-read Inv-loop μ-loop) → Held 65521 (c .read .last .1 .1 .0) (c .read .result) (listAt (c .before .before .before .before .before .before .before .before .before .before .before .before .before .before .args .album .now) (c .before .before .before .loop .k))
 held c =
-    let n = c .before .before .before .before .before .before .before .before .before .count-lists .ensures in
+    let counted = c .before .before .before .before .before .before .before .before .before .count-lists .ensures in
     read-held 65521 _ _ _ (c .before .before .before .before .before .before .before .before .before .before .before .before .before .before .pre .0) (omega arith) (c .before .before .before .loop .inv .1) (c .read .kept .1 .1 .0) (c .read .ensures .0) (c .read .ensures .1)
 
 slice-reshare-prefix-turn : tie.Need-slice-reshare-prefix-turn Inv-loop μ-loop
@@ -58,14 +59,14 @@ slice-aggregate-turn c = held-count (held (c .before .before .before))
 turn-requires : tie.Need-turn-requires Inv-loop μ-loop
 unfolding F65521
 turn-requires c κs =
-    let w = c .before .before .before .before .before .before .before .before .loop .inv in
-    (held-again (held (c .before .before .before .before .before)) .listed, (held-again (w .3 .held), w .2))
+    let inv = c .before .before .before .before .before .before .before .before .loop .inv in
+    (held-again (held (c .before .before .before .before .before)) .listed, (held-again (inv .3 .held), inv .2))
 
 add-rounds : tie.Need-add-rounds Inv-loop μ-loop
 add-rounds c =
     let few = c .before .before .before .before .before .before .before .before .before .before .before .before .before .before .loop .inv .3 .few in
     let more = c .before .before .before .before .before .turn .ensures .few in
-    let n = c .before .before .before .before .before .before .before .before .before .before .before .before .before .before .before .before .before .before .before .before .count-lists .ensures in
+    let counted = c .before .before .before .before .before .before .before .before .before .before .before .before .before .before .before .before .before .before .before .before .count-lists .ensures in
     omega (arith, passed-obeys 65521 _ (c .before .before .before .before .before .before .before .before .before .before .before .before .before .before .before .before .before .before .before .before .before .before .before .before .before .pre .0) .few)
 
 add-k : tie.Need-add-k Inv-loop μ-loop
@@ -77,7 +78,7 @@ loop-less c = search needs
 loop-again : tie.Need-loop-again Inv-loop μ-loop
 loop-again c =
     let s = c .before .before .before .before .before .before .before .before .before .before .before .before .before .before .before .before .before .before .before .before .before .before .before .before .before .args .album .now in
-    let n = c .before .before .before .before .before .before .before .before .before .before .before .before .before .before .before .before .before .before .before .before .count-lists .ensures in (
+    let counted = c .before .before .before .before .before .before .before .before .before .before .before .before .before .before .before .before .before .before .before .before .count-lists .ensures in (
       omega arith,
       search needs,
       search needs,
@@ -97,7 +98,7 @@ same-length-3 c = held-length (c .before .loop .inv .3 .held) ∙ sym (c .before
 returns : tie.Need-returns Inv-loop μ-loop
 returns c =
     let s = c .before .before .before .before .before .before .before .before .before .before .before .before .args .album .now in
-    let n = c .before .before .before .before .before .before .before .count-lists .ensures in
+    let counted = c .before .before .before .before .before .before .before .count-lists .ensures in
     folding-end F65521 (listsOf s) (c .before .loop .inv .3) (omega (arith, length-lists s))
 
 pub all-turns-spec : {M : Type 1} → statement M

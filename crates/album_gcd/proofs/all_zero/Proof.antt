@@ -1,4 +1,4 @@
--- `album_gcd::all_zero` meets its contract: the lists from i on answer for all.
+-- `album_gcd::all_zero` meets its contract. The loop's invariant: the lists from i on answer for all. The measure is the number of those.
 -- Assumes nothing.
 use mathlib.Core.Path.{_≡_, refl, sym, _∙_, ap}
 use mathlib.Core.List.{[]}
@@ -27,7 +27,7 @@ count-lists-requires : tie.Need-count-lists-requires Inv-loop μ-loop
 count-lists-requires c κs = search needs
 
 loop-holds : tie.Need-loop-holds Inv-loop μ-loop
-loop-holds c = (search needs, c .before .before .before .pre .1, refl)
+loop-holds c = (search needs, search needs, refl)
 
 read-requires : tie.Need-read-requires Inv-loop μ-loop
 read-requires c κs = search needs
@@ -35,7 +35,7 @@ read-requires c κs = search needs
 -- list i, as it is read
 held : (c : tie.After-read Inv-loop μ-loop) → Held 65521 (c .read .last .1 .1 .0) (c .read .result) (listAt (c .before .before .before .before .before .before .before .args .album .now) (c .before .before .before .loop .i))
 held c =
-    let n = c .before .before .before .before .count-lists .ensures in
+    let counted = c .before .before .before .before .count-lists .ensures in
     read-held 65521 _ _ _ (c .before .before .before .before .before .before .before .pre .0) (omega arith) (c .before .before .before .loop .inv .1) (c .read .kept .1 .1 .0) (c .read .ensures .0) (c .read .ensures .1)
 
 slice-reshare-prefix-significant-words :
@@ -53,7 +53,7 @@ found : (c : tie.After-significant-words Inv-loop μ-loop)
     → c .significant-words .result ≡ significant (getD (listsOf (c .before .before .before .before .before .before .before .before .before .before .before .args .album .now)) (c .before .before .before .before .before .before .before .loop .i) [])
 found c =
     let s = c .before .before .before .before .before .before .before .before .before .before .before .args .album .now in
-    let l = c .before .before .before .before .before .before .before .before .count-lists .ensures in
+    let counted = c .before .before .before .before .before .before .before .before .count-lists .ensures in
     c .significant-words .ensures ∙ ap significant (held-take (held (c .before .before .before .before)) ∙ sym (list-at s _ (omega arith)))
 
 same-length : tie.Need-same-length Inv-loop μ-loop
@@ -62,7 +62,7 @@ same-length c = search needs
 returns : tie.Need-returns Inv-loop μ-loop
 returns c =
     let s = c .before .before .before .before .before .before .before .before .before .before .before .before .args .album .now in
-    let l = c .before .before .before .before .before .before .before .before .before .count-lists .ensures in
+    let counted = c .before .before .before .before .before .before .before .before .before .count-lists .ensures in
     sym (c .before .before .before .before .before .before .before .before .loop .inv .2
     ∙ zero-here (listsOf s) _ (omega (arith, length-lists s)) (λ z. c .if1 .taken (found (c .before) ∙ z)))
 
@@ -75,7 +75,7 @@ loop-less c = search needs
 loop-again : tie.Need-loop-again Inv-loop μ-loop
 loop-again c =
     let s = c .before .before .before .before .before .before .before .before .before .before .before .before .args .album .now in
-    let l = c .before .before .before .before .before .before .before .before .before .count-lists .ensures in (
+    let counted = c .before .before .before .before .before .before .before .before .before .count-lists .ensures in (
       omega arith,
       search needs,
       c .before .before .before .before .before .before .before .before .loop .inv .2
@@ -88,7 +88,7 @@ same-length-2 c = search needs
 returns-2 : tie.Need-returns-2 Inv-loop μ-loop
 returns-2 c =
     let s = c .before .before .before .before .before .args .album .now in
-    let l = c .before .before .count-lists .ensures in
+    let counted = c .before .before .count-lists .ensures in
     sym (c .before .loop .inv .2 ∙ zero-end (listsOf s) (c .before .loop .i) (omega (arith, length-lists s)))
 
 pub all-zero-spec : {M : Type 1} → statement M

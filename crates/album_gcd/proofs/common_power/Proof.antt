@@ -1,4 +1,5 @@
--- `album_gcd::common_power` meets its contract: the least power of the lists below j is found.
+-- `album_gcd::common_power` meets its contract. The loop's invariant: `least` is at most the power of each list below j that is not zero,
+-- and is 256 or the power of a list that is not zero. The measure is the number of lists left.
 -- Assumes nothing.
 use mathlib.Core.Path.{_≡_, sym, _∙_}
 use mathlib.Core.List.{[]}
@@ -29,7 +30,7 @@ count-lists-requires : tie.Need-count-lists-requires Inv-loop μ-loop
 count-lists-requires c κs = search needs
 
 loop-holds : tie.Need-loop-holds Inv-loop μ-loop
-loop-holds c = (search needs, c .before .before .before .pre .1, lowest-start _)
+loop-holds c = (search needs, search needs, lowest-start _)
 
 read-requires : tie.Need-read-requires Inv-loop μ-loop
 read-requires c κs = search needs
@@ -37,7 +38,7 @@ read-requires c κs = search needs
 -- list j, as it is read
 held : (c : tie.After-read Inv-loop μ-loop) → Held 65521 (c .read .last .1 .1 .0) (c .read .result) (listAt (c .before .before .before .before .before .before .before .args .album .now) (c .before .before .before .loop .j))
 held c =
-    let n = c .before .before .before .before .count-lists .ensures in
+    let counted = c .before .before .before .before .count-lists .ensures in
     read-held 65521 _ _ _ (c .before .before .before .before .before .before .before .pre .0 .0) (omega arith) (c .before .before .before .loop .inv .1) (c .read .kept .1 .1 .0) (c .read .ensures .0) (c .read .ensures .1)
 
 slice-reshare-prefix-significant-words :
@@ -57,15 +58,14 @@ listed : (c : tie.After-significant-words Inv-loop μ-loop)
     × (0 < c .significant-words .result → c .before .before .before .before .read .result - c .significant-words .result ≡ power (getD (listsOf (c .before .before .before .before .before .before .before .before .before .before .before .args .album .now)) (c .before .before .before .before .before .before .before .loop .j) []))
 listed c =
     let s = c .before .before .before .before .before .before .before .before .before .before .before .args .album .now in
-    let l = c .before .before .before .before .before .before .before .before .count-lists .ensures in
-    let h = held (c .before .before .before .before) in
-    list-power (sym (list-at s _ (omega arith))) h (c .significant-words .ensures)
+    let counted = c .before .before .before .before .before .before .before .before .count-lists .ensures in
+    list-power (sym (list-at s _ (omega arith))) (held (c .before .before .before .before)) (c .significant-words .ensures)
 
 sub-if2 : tie.Need-sub-if2 Inv-loop μ-loop
-sub-if2 c = let l = listed (c .before) .1 in omega arith
+sub-if2 c = let inside = listed (c .before) .1 in omega arith
 
 sub-least : tie.Need-sub-least Inv-loop μ-loop
-sub-least c = let l = listed (c .before .before) .1 in omega arith
+sub-least c = let inside = listed (c .before .before) .1 in omega arith
 
 add-j : tie.Need-add-j Inv-loop μ-loop
 add-j c = search needs
@@ -75,15 +75,15 @@ loop-less c = search needs
 
 loop-again : tie.Need-loop-again Inv-loop μ-loop
 loop-again c =
-    let w = c .before .before .before .before .before .before .before .before .loop .inv .2 in
-    let f = listed (c .before) in (
+    let inv = c .before .before .before .before .before .before .before .before .loop .inv .2 in
+    let list = listed (c .before) in (
       omega arith,
       search needs,
       ⊎-elim
-          (λ g. let l = g .0 .taken in let q = g .1 .taken in lowest-less _ w (omega (arith, f .0)) (g .2 ∙ f .2 (omega arith)) (omega (arith, g .2)))
+          (λ came. let some = came .0 .taken in let less = came .1 .taken in lowest-less _ inv (omega (arith, list .0)) (came .2 ∙ list .2 (omega arith)) (omega (arith, came .2)))
           (⊎-elim
-          (λ g. let l = g .0 .taken in let q = g .1 .left in lowest-keep _ w (g .2) (λ z. omega (arith, f .2 (omega arith))))
-          (λ g. let l = g .0 .left in lowest-keep _ w (g .1) (λ z. absurd (omega (arith, f .0)))))
+          (λ came. let some = came .0 .taken in let more = came .1 .left in lowest-keep _ inv (came .2) (λ z. omega (arith, list .2 (omega arith))))
+          (λ came. let none = came .0 .left in lowest-keep _ inv (came .1) (λ z. absurd (omega (arith, list .0)))))
           (c .if1 .came),
     )
 
@@ -95,7 +95,7 @@ returns c =
     let start = c .before .before .before .before .before in
     let s = start .args .album .now in
     let bytes = c .before .before .before .before .shared-slice-known .given in
-    let l = c .before .before .count-lists .ensures in
+    let counted = c .before .before .count-lists .ensures in
     lowest-end (listsOf s) (c .before .loop .inv .2) (omega (arith, length-lists s)) (nonzero (listsOf s) (start .pre .0 .1))
     (λ j k. passed-each 65521 s (start .pre .0 .0) (λ i. omega (arith, bytes i)) j k .short)
 

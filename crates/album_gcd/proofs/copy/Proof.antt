@@ -1,4 +1,5 @@
--- `album_gcd::copy` meets its contract: the words below i are copied.
+-- `album_gcd::copy` meets its contract. The loop's invariant: the words below i are copied, and the rest is as it was. The measure is the
+-- number of words left.
 -- Assumes nothing.
 use mathlib.Core.Path.{refl, sym, _∙_}
 use Prim.Native.Nat.{_-_}

@@ -19,9 +19,8 @@ enum-told c = search needs
 
 gcd-into-requires : tie.Need-gcd-into-requires
 gcd-into-requires c κs =
-    let pre = c .before .before .before .before .before .before .before .before .before .before .before .before .before .before .pre in
     let fine = judged-fine 65521 _ _ (sym (c .before .before .before .before .before .before .before .judge .ensures) ∙ c .before .before .before .enum-told .given .1) in
-    ((fine .0, fine .1), ((search needs, pre .0 .1, fine .2), pre .1))
+    ((fine .0, fine .1), ((search needs, search needs, fine .2), search needs))
 
 same-length : tie.Need-same-length
 same-length c = search needs

@@ -22,7 +22,7 @@ same-length c = search needs
 
 returns : tie.Need-returns
 unfolding F65521
-returns c = let e = c .before .before .before .before .gcd-in .ensures in (e .answer, (e .writes, e .greatest))
+returns c = let ensures = c .before .before .before .before .gcd-in .ensures in (ensures .answer, (ensures .writes, ensures .greatest))
 
 pub gcd-of-album-spec : {M : Type 1} → statement M
 gcd-of-album-spec =

@@ -24,7 +24,7 @@ passed : (c : tie.After-enum-told) → Passed 65521 (c .before .before .before .
 passed c = sym (c .before .before .judge-album .ensures) ∙ c .enum-told .given .1
 
 all-zero-requires : tie.Need-all-zero-requires
-all-zero-requires c κs = (passed (c .before), c .before .before .before .before .before .before .before .pre)
+all-zero-requires c κs = (passed (c .before), search needs)
 
 same-length : tie.Need-same-length
 same-length c = search needs

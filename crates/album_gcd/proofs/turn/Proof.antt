@@ -6,7 +6,9 @@ use lib.Dec.{leb→le}
 use lib.ListN.{take}
 use borrow.Author.Needs.{needs}
 use Rattle.algebra.specs.PrimeField.{F65521}
+use Rattle.refusal.specs.Limits.{maxWords}
 use Rattle.lists.specs.Degrees.{significant}
+use Rattle.lists.specs.Refused.{Listed}
 use Rattle.gcd.specs.Calls.{gcdReply}
 use Rattle.album.specs.Workers.{Held}
 use Rattle.album.proofs.Held.{held-length}
@@ -28,9 +30,14 @@ copy-requires c κs = let start = c .before .before .before .before .before .bef
 same : (c : tie.After-copy) → take (c .before .before .before .before .before .before .before .before .args .words) (c .copy .last .1 .0) ≡ take (c .before .before .before .before .before .before .before .before .args .words) (c .before .before .before .before .before .before .before .before .args .h .now)
 same c = ap (take (c .before .before .before .before .before .before .before .before .args .words)) (c .copy .ensures)
 
+-- no call refuses the list, and it is not zero
+listed : (c : tie.After-copy) → Listed 65521 maxWords (c .before .before .before .before .before .before .before .before .args .list .now)
+listed c = c .before .before .before .before .before .before .before .before .pre .0
+
 some : (c : tie.After-copy) → ¬ (significant (c .before .before .before .before .before .before .before .before .args .list .now) ≡ 0)
 some c = λ z. c .before .before .before .if1 .left (c .before .before .before .before .significant-words .ensures ∙ z)
 
+-- h holds what is copied
 held : (c : tie.After-copy) → Held 65521 (c .before .before .before .before .before .before .before .before .args .h .now) (c .before .before .before .before .before .before .before .before .args .words) (take (c .before .before .before .before .before .before .before .before .args .words) (c .copy .last .1 .0))
 held c = rw (same c) (c .before .before .before .before .before .before .before .before .pre .1 .0)
 
@@ -49,11 +56,9 @@ enum-known-w c = search needs
 add-t20 : tie.Need-add-t20
 unfolding F65521
 add-t20 c =
-    let start = c .before .before .before .before .before .before .before .before .before .before .before .before .before .before .before .before .before .before .before in
-    let h = held (c .before .before .before .before .before .before .before .before .before .before .before) in
-    let k = some (c .before .before .before .before .before .before .before .before .before .before .before) in
-    let e = ap gcdReply (sym (c .before .before .w .given .1)) ∙ c .before .before .before .before .before .before .gcd-of .ensures .0 in
-    omega (arith, turn-short F65521 (leb→le 256 65521 tt) _ _ h (start .pre .0) k _ _ _ e)
+    let copied = c .before .before .before .before .before .before .before .before .before .before .before in
+    let says = ap gcdReply (sym (c .before .before .w .given .1)) ∙ c .before .before .before .before .before .before .gcd-of .ensures .0 in
+    omega (arith, turn-short F65521 (leb→le 256 65521 tt) _ _ (held copied) (listed copied) (some copied) _ _ _ says)
 
 enum-told : tie.Need-enum-told
 enum-told c = search needs
@@ -67,13 +72,11 @@ same-length-2 c = search needs
 returns-2 : tie.Need-returns-2
 unfolding F65521
 returns-2 c =
-    let start = c .before .before .before .before .before .before .before .before .before .before .before .before .before .before .before .before .before .before .before in
-    let h = held (c .before .before .before .before .before .before .before .before .before .before .before) in
-    let k = some (c .before .before .before .before .before .before .before .before .before .before .before) in
+    let copied = c .before .before .before .before .before .before .before .before .before .before .before in
     let found = c .before .before .before .before .before .before .gcd-of .ensures in
-    let e = ap gcdReply (sym (c .before .before .w .given .1)) ∙ found .0 in
-    turn-as F65521 (same (c .before .before .before .before .before .before .before .before .before .before .before))
-    (turn-with F65521 (leb→le 256 65521 tt) _ _ h (start .pre .0) k _ _ _ e (found .1 .0))
+    let says = ap gcdReply (sym (c .before .before .w .given .1)) ∙ found .0 in
+    turn-as F65521 (same copied)
+    (turn-with F65521 (leb→le 256 65521 tt) _ _ (held copied) (listed copied) (some copied) _ _ _ says (found .1 .0))
 
 same-length-3 : tie.Need-same-length-3
 same-length-3 c = search needs
@@ -84,11 +87,9 @@ same-length-4 c = search needs
 returns-3 : tie.Need-returns-3
 unfolding F65521
 returns-3 c =
-    let start = c .before .before .before .before .before .before .before .before .before .before .before .before .before .before .before .before .before in
-    let h = held (c .before .before .before .before .before .before .before .before .before) in
-    let k = some (c .before .before .before .before .before .before .before .before .before) in
-    let e = ap gcdReply (sym (c .enum-told .given .1)) ∙ c .before .before .before .before .gcd-of .ensures .0 in
-    absurd (turn-never F65521 (leb→le 256 65521 tt) _ _ h (start .pre .0) k (c .enum-told .given .0 .0) e)
+    let copied = c .before .before .before .before .before .before .before .before .before in
+    let says = ap gcdReply (sym (c .enum-told .given .1)) ∙ c .before .before .before .before .gcd-of .ensures .0 in
+    absurd (turn-never F65521 (leb→le 256 65521 tt) _ _ (held copied) (listed copied) (some copied) (c .enum-told .given .0 .0) says)
 
 pub turn-spec : {M : Type 1} → statement M
 turn-spec =

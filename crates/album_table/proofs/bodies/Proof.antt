@@ -1,4 +1,4 @@
--- `album_table::bodies` is safe and ends.
+-- `album_table::bodies` is safe and ends. The loop's invariant: the slice keeps its length. The measure is the number of bytes left.
 -- Assumes nothing.
 use mathlib.Core.Path.{_≡_}
 use Prim.Native.Nat.{_-_}

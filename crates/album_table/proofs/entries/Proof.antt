@@ -1,4 +1,5 @@
--- `album_table::entries` is safe and ends.
+-- `album_table::entries` is safe and ends. The loop's invariant: k, `at` and `step` keep to their bounds, and the slice keeps its length.
+-- The measure is the number of entries left.
 -- Assumes nothing.
 use mathlib.Core.Path.{_≡_}
 use Prim.Native.Nat.{_-_, _≤_}

@@ -1,4 +1,4 @@
--- `album_table::print_first` is safe and ends.
+-- `album_table::print_first` is safe and ends. The loop's invariant: k is at most n. The measure is the number of words left.
 -- Assumes nothing.
 use Prim.Native.Nat.{_-_, _≤_}
 use borrow.Author.Needs.{needs}

@@ -1,8 +1,9 @@
--- `bench_calls::bench_cofactors` meets its contract.
+-- `bench_calls::bench_cofactors` meets its contract: it returns the number of the answer's reply.
 -- Assumes nothing.
-use mathlib.Core.Path.{sym, ap, _∙_}
+use mathlib.Core.Path.{_≡_, sym, ap, _∙_}
 use borrow.Author.Needs.{needs}
 use Rattle.algebra.specs.PrimeField.{F65521}
+use Rattle.refusal.specs.Refusal.{outcomeNumber}
 use Rattle.refusal.specs.Lowest.{lowest}
 use Rattle.field.specs.Field.{p}
 use Rattle.gcd.specs.Calls.{gcdReply, gcdValues}
@@ -13,6 +14,10 @@ use Rattle.bench_calls.proofs.bench_cofactors.Tie as tie
 
 find-cofactors-requires : tie.Need-find-cofactors-requires
 find-cofactors-requires c κs = search needs
+
+-- the number of the answer is that of what the call refuses
+numbered : (c : tie.After-find-cofactors) → gcdReply (c .find-cofactors .result) .number ≡ outcomeNumber (lowest (cofactorRefusals p (c .before .before .before .before .before .before .before .before .before .args .f .now) (c .before .before .before .before .before .before .before .before .before .args .g .now) (c .before .before .before .before .before .before .before .before .before .args .h .now) (c .before .before .before .before .before .before .before .before .before .args .a .now) (c .before .before .before .before .before .before .before .before .before .args .b .now)))
+numbered c = number-is (lowest (cofactorRefusals p (c .before .before .before .before .before .before .before .before .before .args .f .now) (c .before .before .before .before .before .before .before .before .before .args .g .now) (c .before .before .before .before .before .before .before .before .before .args .h .now) (c .before .before .before .before .before .before .before .before .before .args .a .now) (c .before .before .before .before .before .before .before .before .before .args .b .now))) (gcdValues F65521 (c .before .before .before .before .before .before .before .before .before .args .f .now) (c .before .before .before .before .before .before .before .before .before .args .g .now)) (c .find-cofactors .ensures .0)
 
 enum-told : tie.Need-enum-told
 enum-told c = search needs
@@ -34,9 +39,8 @@ same-length-3 c = search needs
 
 returns : tie.Need-returns
 returns c =
-    let args = c .before .before .before .before .before .before .before .before .before .before .before .before .before .before .before .before .before .args in
-    let e = c .before .before .before .before .before .before .before .before .find-cofactors .ensures in
-    (number-is (lowest (cofactorRefusals p (args .f .now) (args .g .now) (args .h .now) (args .a .now) (args .b .now))) (gcdValues F65521 (args .f .now) (args .g .now)) (ap gcdReply (sym (c .enum-told .given .1)) ∙ e .0), (e .1 .0, (e .1 .1 .0, e .1 .1 .1 .0)))
+    let writes = c .before .before .before .before .before .before .before .before .find-cofactors .ensures .1 in
+    (ap (λ r. gcdReply r .number) (sym (c .enum-told .given .1)) ∙ numbered (c .before .before .before .before .before .before .before .before), (writes .0, (writes .1 .0, writes .1 .1 .0)))
 
 same-length-4 : tie.Need-same-length-4
 same-length-4 c = search needs
@@ -49,9 +53,8 @@ same-length-6 c = search needs
 
 returns-2 : tie.Need-returns-2
 returns-2 c =
-    let args = c .before .before .before .before .before .before .before .before .before .before .before .before .before .before .before .before .before .before .before .args in
-    let e = c .before .before .before .before .before .before .before .before .before .before .find-cofactors .ensures in
-    (c .number-of .ensures ∙ number-is (lowest (cofactorRefusals p (args .f .now) (args .g .now) (args .h .now) (args .a .now) (args .b .now))) (gcdValues F65521 (args .f .now) (args .g .now)) (ap gcdReply (sym (c .before .before .answer .given .1)) ∙ e .0), (e .1 .0, (e .1 .1 .0, e .1 .1 .1 .0)))
+    let writes = c .before .before .before .before .before .before .before .before .before .before .find-cofactors .ensures .1 in
+    (c .number-of .ensures ∙ ap (λ r. gcdReply r .number) (sym (c .before .before .answer .given .1)) ∙ numbered (c .before .before .before .before .before .before .before .before .before .before), (writes .0, (writes .1 .0, writes .1 .1 .0)))
 
 pub bench-cofactors-spec : {M : Type 1} → statement M
 bench-cofactors-spec =

@@ -1,5 +1,6 @@
 -- `contents::contents` meets its contract: a walk of its MIR, by hand, with a loop and three calls in it. s is the album, xs the records lent.
--- The borrow of `out` is opened once, before the first call, and closed once, after the loop. In between the row of records is the function's own: after i turns it is `after (now s) xs i`.
+-- The borrow of `out` is opened once, before the first call, and closed once, after the loop. In between the row of records is the
+-- function's own. The loop's invariant: after i turns the row is `after (now s) xs i`. The measure is the number of records left.
 --     Frame, At i      what no turn touches; what stands at the loop's head after i turns.        Inv t      the invariant, where t records are left
 --     more, ends       a turn that writes one record; the turn that leaves the loop, with the rest of the body
 --     loops            the loop, by `Sound/Loop.antt`'s `loop-rule`.        walk      the MIR up to the loop

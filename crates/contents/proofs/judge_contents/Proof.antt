@@ -1,9 +1,9 @@
 -- `contents::judge_contents` meets its contract: the tests stand in the order of the numbers.
 -- Assumes nothing.
 use mathlib.Core.Path.{sym, _∙_}
+use borrow.Author.Needs.{needs}
 use Rattle.layout.specs.Workers.{Passed}
 use Rattle.contents.proofs.Judged.{fit-refused, fit-misfit, fit-done}
-use borrow.Author.Needs.{needs}
 use Rattle.contents.proofs.judge_contents.Statement.{statement}
 use Rattle.contents.proofs.judge_contents.Tie as tie
 

@@ -1,8 +1,8 @@
 -- `contents::record_at` meets its contract.
 -- Assumes nothing.
 use native.Mathlib.Omega.{arith}
-use Rattle.contents.proofs.Records.{record-listed, record-past}
 use borrow.Author.Needs.{needs}
+use Rattle.contents.proofs.Records.{record-listed, record-past}
 use Rattle.contents.proofs.record_at.Statement.{statement}
 use Rattle.contents.proofs.record_at.Tie as tie
 

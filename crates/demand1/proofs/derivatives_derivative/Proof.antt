@@ -1,4 +1,4 @@
--- `demand1::derivatives_derivative` meets its contract.
+-- `demand1::derivatives_derivative` meets its contract: what the call ensures implies demand 1.
 -- Assumes nothing.
 use borrow.Author.Needs.{needs}
 use Rattle.demand1.specs.Demand1Holds.{replies, no-slice, and-slice}
@@ -12,7 +12,7 @@ same-length : tie.Need-same-length
 same-length c = search needs
 
 returns : tie.Need-returns
-returns c = let e = c .before .before .derivative .ensures in replies _ (e .0) (and-slice _ (e .1) no-slice)
+returns c = let ensures = c .before .before .derivative .ensures in replies _ (ensures .0) (and-slice _ (ensures .1) no-slice)
 
 pub derivatives-derivative-spec : {M : Type 1} → statement M
 derivatives-derivative-spec = tie.close (tie.spec derivative-requires same-length returns)

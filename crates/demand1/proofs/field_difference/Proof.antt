@@ -1,4 +1,4 @@
--- `demand1::field_difference` meets its contract.
+-- `demand1::field_difference` meets its contract: what the call ensures implies demand 1.
 -- Assumes nothing.
 use borrow.Author.Needs.{needs}
 use Rattle.demand1.specs.Demand1Holds.{replies, no-slice}

@@ -1,4 +1,4 @@
--- `demand1::find_cofactors` meets its contract.
+-- `demand1::find_cofactors` meets its contract: what the call ensures implies demand 1.
 -- Assumes nothing.
 use borrow.Author.Needs.{needs}
 use Rattle.demand1.specs.Demand1Holds.{replies, no-slice, and-slice}
@@ -18,7 +18,7 @@ same-length-3 : tie.Need-same-length-3
 same-length-3 c = search needs
 
 returns : tie.Need-returns
-returns c = let e = c .before .before .before .before .before .before .find-cofactors .ensures in replies _ (e .0) (and-slice _ (e .1 .0) (and-slice _ (e .1 .1 .0) (and-slice _ (e .1 .1 .1 .0) no-slice)))
+returns c = let ensures = c .before .before .before .before .before .before .find-cofactors .ensures in replies _ (ensures .0) (and-slice _ (ensures .1 .0) (and-slice _ (ensures .1 .1 .0) (and-slice _ (ensures .1 .1 .1 .0) no-slice)))
 
 pub find-cofactors-spec : {M : Type 1} → statement M
 find-cofactors-spec = tie.close (tie.spec find-cofactors-requires same-length same-length-2 same-length-3 returns)

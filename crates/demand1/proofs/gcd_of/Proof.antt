@@ -1,4 +1,4 @@
--- `demand1::gcd_of` meets its contract.
+-- `demand1::gcd_of` meets its contract: what the call ensures implies demand 1.
 -- Assumes nothing.
 use borrow.Author.Needs.{needs}
 use Rattle.demand1.specs.Demand1Holds.{replies, no-slice, and-slice}
@@ -12,7 +12,7 @@ same-length : tie.Need-same-length
 same-length c = search needs
 
 returns : tie.Need-returns
-returns c = let e = c .before .before .gcd-of .ensures in replies _ (e .0) (and-slice _ (e .1 .0) no-slice)
+returns c = let ensures = c .before .before .gcd-of .ensures in replies _ (ensures .0) (and-slice _ (ensures .1 .0) no-slice)
 
 pub gcd-of-spec : {M : Type 1} → statement M
 gcd-of-spec = tie.close (tie.spec gcd-of-requires same-length returns)

@@ -1,4 +1,4 @@
--- `demand1::host_bernstein_gcd` meets its contract.
+-- `demand1::host_bernstein_gcd` meets its contract: what the call ensures implies demand 1.
 -- Assumes nothing.
 use borrow.Author.Needs.{needs}
 use Rattle.demand1.specs.Demand1Holds.{demand1, no-slice, and-slice}
@@ -15,7 +15,7 @@ same-length-2 : tie.Need-same-length-2
 same-length-2 c = search needs
 
 returns : tie.Need-returns
-returns c = let e = c .before .before .before .before .bernstein-gcd .ensures in demand1 _ _ _ (e .0) (and-slice _ (e .1 .0) (and-slice _ (e .1 .1) no-slice))
+returns c = let ensures = c .before .before .before .before .bernstein-gcd .ensures in demand1 _ _ _ (ensures .0) (and-slice _ (ensures .1 .0) (and-slice _ (ensures .1 .1) no-slice))
 
 pub host-bernstein-gcd-spec : {M : Type 1} → statement M
 host-bernstein-gcd-spec = tie.close (tie.spec bernstein-gcd-requires same-length same-length-2 returns)

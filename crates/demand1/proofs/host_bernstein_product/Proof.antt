@@ -1,4 +1,4 @@
--- `demand1::host_bernstein_product` meets its contract.
+-- `demand1::host_bernstein_product` meets its contract: what the call ensures implies demand 1.
 -- Assumes nothing.
 use borrow.Author.Needs.{needs}
 use Rattle.demand1.specs.Demand1Holds.{demand1, no-slice, and-slice}
@@ -12,7 +12,7 @@ same-length : tie.Need-same-length
 same-length c = search needs
 
 returns : tie.Need-returns
-returns c = let e = c .before .before .bernstein-product .ensures in demand1 _ _ _ (e .0) (and-slice _ (e .1) no-slice)
+returns c = let ensures = c .before .before .bernstein-product .ensures in demand1 _ _ _ (ensures .0) (and-slice _ (ensures .1) no-slice)
 
 pub host-bernstein-product-spec : {M : Type 1} → statement M
 host-bernstein-product-spec = tie.close (tie.spec bernstein-product-requires same-length returns)

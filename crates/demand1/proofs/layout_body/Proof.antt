@@ -1,4 +1,4 @@
--- `demand1::layout_body` meets its contract.
+-- `demand1::layout_body` meets its contract: what the call ensures implies demand 1.
 -- Assumes nothing.
 use borrow.Author.Needs.{needs}
 use Rattle.layout.specs.Calls.{bodyOf}

@@ -1,4 +1,4 @@
--- `demand1::sums_sum` meets its contract.
+-- `demand1::sums_sum` meets its contract: what the call ensures implies demand 1.
 -- Assumes nothing.
 use borrow.Author.Needs.{needs}
 use Rattle.demand1.specs.Demand1Holds.{replies, no-slice, and-slice}
@@ -12,7 +12,7 @@ same-length : tie.Need-same-length
 same-length c = search needs
 
 returns : tie.Need-returns
-returns c = let e = c .before .before .sum .ensures in replies _ (e .0) (and-slice _ (e .1) no-slice)
+returns c = let ensures = c .before .before .sum .ensures in replies _ (ensures .0) (and-slice _ (ensures .1) no-slice)
 
 pub sums-sum-spec : {M : Type 1} → statement M
 sums-sum-spec = tie.close (tie.spec sum-requires same-length returns)

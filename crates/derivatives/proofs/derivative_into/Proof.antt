@@ -1,4 +1,4 @@
--- `derivatives::derivative_into` meets its contract.
+-- `derivatives::derivative_into` meets its contract: a constant's derivative is one zero word.
 -- Assumes nothing.
 use native.Mathlib.Omega.{arith}
 use borrow.Author.Needs.{needs}

@@ -1,4 +1,4 @@
--- `derivatives::differences` meets its contract. The loop's invariant: the words below k are written.
+-- `derivatives::differences` meets its contract. The loop's invariant: the words below k are written. The measure is the number of words left.
 -- Assumes nothing.
 use mathlib.Core.Path.{_≡_}
 use Prim.Native.Nat.{_≤_, _-_}

@@ -1,9 +1,13 @@
 -- `derivatives::judge_derivative` meets its contract: the tests stand in the order of the numbers.
 -- Assumes nothing.
-use mathlib.Core.Path.{sym, _∙_}
+use mathlib.Core.Path.{_≡_, sym, _∙_}
+use mathlib.Core.List.{[], _∷_}
 use lib.Dec.{lit<}
 use borrow.Author.Needs.{needs}
 use Rattle.refusal.specs.Limits.{maxWords}
+use Rattle.refusal.specs.Lowest.{lowest}
+use Rattle.refusal.specs.declared.Outcome.the-variants.{Done}
+use Rattle.lists.specs.Refused.{listRefusals}
 use Rattle.lists.proofs.Judged.{one-listed}
 use Rattle.derivatives.proofs.Judged.{derivative-refused, derivative-misfit, derivative-done}
 use Rattle.derivatives.proofs.judge_derivative.Statement.{statement}
@@ -21,21 +25,21 @@ returns c = derivative-refused 65521 _ _ (sym (c .before .before .before .judge-
 enum-told : tie.Need-enum-told
 enum-told c = search needs
 
+-- the list is not refused
+listed : (c : tie.After-enum-told) → lowest (listRefusals 65521 maxWords (c .before .before .before .before .before .args .f .now ∷ [])) ≡ Done
+listed c = sym (c .before .before .judge-list .ensures) ∙ c .enum-told .given .1
+
 sub-larger : tie.Need-sub-larger
-sub-larger c = one-listed 65521 maxWords (lit< tt) _ (sym (c .before .before .judge-list .ensures) ∙ c .enum-told .given .1) .some
+sub-larger c = one-listed 65521 maxWords (lit< tt) _ (listed c) .some
 
 larger-requires : tie.Need-larger-requires
 larger-requires c κs = search needs
 
 returns-2 : tie.Need-returns-2
-returns-2 c =
-    let judged = sym (c .before .before .before .before .judge-list .ensures) ∙ c .before .before .enum-told .given .1 in
-    derivative-misfit 65521 _ _ judged (λ e. c .if1 .taken (e ∙ sym (c .before .larger .ensures)))
+returns-2 c = derivative-misfit 65521 _ _ (listed (c .before .before)) (λ e. c .if1 .taken (e ∙ sym (c .before .larger .ensures)))
 
 returns-3 : tie.Need-returns-3
-returns-3 c =
-    let judged = sym (c .before .before .before .before .judge-list .ensures) ∙ c .before .before .enum-told .given .1 in
-    derivative-done 65521 _ _ judged (c .if1 .left ∙ c .before .larger .ensures)
+returns-3 c = derivative-done 65521 _ _ (listed (c .before .before)) (c .if1 .left ∙ c .before .larger .ensures)
 
 pub judge-derivative-spec : {M : Type 1} → statement M
 judge-derivative-spec =

@@ -1,4 +1,4 @@
--- `extents::trim_in` meets its contract.
+-- `extents::trim_in` meets its contract: the significant words of the scaled form, unscaled.
 -- Assumes nothing.
 use borrow.Author.Needs.{needs}
 use Rattle.algebra.specs.PrimeField.{F65521}

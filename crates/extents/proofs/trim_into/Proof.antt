@@ -10,12 +10,12 @@ array-borrow-prefix-s : tie.Need-array-borrow-prefix-s
 array-borrow-prefix-s c = search needs
 
 slice-aggregate-trim-in : tie.Need-slice-aggregate-trim-in
-slice-aggregate-trim-in c = let l = c .before .before .before .pre .short in simp length-take (omega arith)
+slice-aggregate-trim-in c = let short = c .before .before .before .pre .short in simp length-take (omega arith)
 
 trim-in-requires : tie.Need-trim-in-requires
 trim-in-requires c κs =
     let pre = c .before .before .before .before .pre in
-    let l = pre .short in
+    let short = pre .short in
     (pre, simp length-take (omega arith))
 
 same-length : tie.Need-same-length

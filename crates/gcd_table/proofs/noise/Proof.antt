@@ -1,4 +1,4 @@
--- `gcd_table::noise` is safe and ends.
+-- `gcd_table::noise` is safe and ends. The loop's invariant: the slice keeps its length. The measure is the number of words left.
 -- Assumes nothing.
 use mathlib.Core.Path.{_≡_}
 use Prim.Native.Nat.{_-_}

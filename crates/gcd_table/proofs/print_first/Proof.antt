@@ -1,4 +1,4 @@
--- `gcd_table::print_first` is safe and ends.
+-- `gcd_table::print_first` is safe and ends. The loop's invariant: k is at most n. The measure is the number of words left.
 -- Assumes nothing.
 use Prim.Native.Nat.{_-_, _≤_}
 use borrow.Author.Needs.{needs}

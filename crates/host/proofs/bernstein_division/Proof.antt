@@ -1,4 +1,4 @@
--- `host::bernstein_division` meets its contract.
+-- `host::bernstein_division` meets its contract: bytes that are no list are refused before any word is read.
 -- Assumes nothing.
 use borrow.Author.Needs.{needs}
 use Rattle.host.specs.Workers.{badList}

@@ -1,9 +1,9 @@
--- `host::divide_in` meets its contract.
+-- `host::divide_in` meets its contract: the answer of the engine's function on the words is that of the call on the bytes.
 -- Assumes nothing.
 use native.Mathlib.Omega.{arith}
 use borrow.Author.Needs.{needs}
 use Rattle.algebra.specs.PrimeField.{F65521}
-use Rattle.host.proofs.Calls.{division-fits, division-done, division-refused}
+use Rattle.host.proofs.Calls.{DivisionCall, division-fits, division-done, division-refused}
 use Rattle.host.proofs.divide_in.Statement.{statement}
 use Rattle.host.proofs.divide_in.Tie as tie
 
@@ -16,18 +16,30 @@ read-words-requires-2 c κs = search needs
 divide-requires : tie.Need-divide-requires
 divide-requires c κs = search needs
 
+-- the answer of the engine's function
+called : (c : tie.After-divide)
+    → DivisionCall 65521 (c .before .before .before .before .before .before .before .before .before .before .before .before .before .before .before .before .before .before .before .before .before .args .g .now) (c .before .before .before .before .before .before .before .before .before .before .before .before .before .before .before .before .before .before .before .before .before .args .f .now) (c .before .before .before .before .before .before .before .before .before .before .before .before .before .before .before .before .before .before .before .before .before .args .q .now) (c .before .before .before .before .before .before .before .before .before .before .before .before .before .before .before .before .before .before .before .before .before .args .r .now) (c .before .before .before .before .before .before .before .before .before .before .before .read-words .last .1 .0) (c .before .before .before .before .before .before .before .read-words2 .last .1 .0) (c .before .before .before .before .before .before .before .before .before .before .before .before .before .before .before .before .before .before .before .before .before .args .c .now) (c .before .before .before .before .before .before .before .before .before .before .before .before .before .before .before .before .before .before .before .before .before .args .d .now)
+    (c .divide .result)
+called c =
+    let start = c .before .before .before .before .before .before .before .before .before .before .before .before .before .before .before .before .before .before .before .before .before in
+    record {
+      good-g = start .pre .0 .0;
+      good-f = start .pre .0 .1;
+      words-g = c .before .before .before .before .before .before .before .before .before .before .before .read-words .ensures;
+      words-f = c .before .before .before .before .before .before .before .read-words2 .ensures;
+      room-q = start .pre .1 .2;
+      room-r = start .pre .1 .3;
+      says = c .divide .ensures .0;
+    }
+
 enum-told : tie.Need-enum-told
 enum-told c = search needs
 
 write-words-requires : tie.Need-write-words-requires
-write-words-requires c κs =
-    let start = c .before .before .before .before .before .before .before .before .before .before .before .before .before .before .before .before .before .before .before .before .before .before .before .before .before .before .before .before .before in
-    omega (arith, division-fits 65521 _ _ _ _ _ _ _ _ (start .pre .0 .0) (start .pre .0 .1) (c .before .before .before .before .before .before .before .before .before .before .before .before .before .before .before .before .before .before .before .read-words .ensures) (c .before .before .before .before .before .before .before .before .before .before .before .before .before .before .before .read-words2 .ensures) (start .pre .1 .2) (start .pre .1 .3) _ (c .before .before .before .before .before .before .before .before .divide .ensures .0) (c .before .before .enum-told .given .1) .0)
+write-words-requires c κs = omega (arith, division-fits (called (c .before .before .before .before .before .before .before .before)) (c .before .before .enum-told .given .1) .0)
 
 write-words-requires-2 : tie.Need-write-words-requires-2
-write-words-requires-2 c κs =
-    let start = c .before .before .before .before .before .before .before .before .before .before .before .before .before .before .before .before .before .before .before .before .before .before .before .before .before .before .before .before .before .before .before .before .before .before in
-    omega (arith, division-fits 65521 _ _ _ _ _ _ _ _ (start .pre .0 .0) (start .pre .0 .1) (c .before .before .before .before .before .before .before .before .before .before .before .before .before .before .before .before .before .before .before .before .before .before .before .before .read-words .ensures) (c .before .before .before .before .before .before .before .before .before .before .before .before .before .before .before .before .before .before .before .before .read-words2 .ensures) (start .pre .1 .2) (start .pre .1 .3) _ (c .before .before .before .before .before .before .before .before .before .before .before .before .before .divide .ensures .0) (c .before .before .before .before .before .before .before .enum-told .given .1) .1)
+write-words-requires-2 c κs = omega (arith, division-fits (called (c .before .before .before .before .before .before .before .before .before .before .before .before .before)) (c .before .before .before .before .before .before .before .enum-told .given .1) .1)
 
 enum-known-answer : tie.Need-enum-known-answer
 enum-known-answer c = search needs
@@ -55,9 +67,7 @@ same-length-6 c = omega arith
 
 returns : tie.Need-returns
 returns c =
-    let start = c .before .before .before .before .before .before .before .before .before .before .before .before .before .before .before .before .before .before .before .before .before .before .before .before .before .before .before .before .before .before .before .before .before .before .before .before .before in
-    division-done 65521 _ _ _ _ _ _ _ _ (start .pre .0 .0) (start .pre .0 .1) (c .before .before .before .before .before .before .before .before .before .before .before .before .before .before .before .before .before .before .before .before .before .before .before .before .before .before .before .read-words .ensures) (c .before .before .before .before .before .before .before .before .before .before .before .before .before .before .before .before .before .before .before .before .before .before .before .read-words2 .ensures) (start .pre .1 .2) (start .pre .1 .3) _ (c .before .before .before .before .before .before .before .before .before .before .before .before .before .before .before .before .divide .ensures .0)
-    (c .before .before .before .before .before .before .before .before .before .before .enum-told .given .1) F65521 (c .before .before .before .before .before .before .before .before .before .before .before .before .before .before .before .before .divide .ensures .1 .0) (c .before .before .before .before .before .before .before .before .before .before .before .before .before .before .before .before .divide .ensures .1 .1 .0)
+    division-done (called (c .before .before .before .before .before .before .before .before .before .before .before .before .before .before .before .before)) (c .before .before .before .before .before .before .before .before .before .before .enum-told .given .1) F65521 (c .before .before .before .before .before .before .before .before .before .before .before .before .before .before .before .before .divide .ensures .1 .0) (c .before .before .before .before .before .before .before .before .before .before .before .before .before .before .before .before .divide .ensures .1 .1 .0)
     (c .before .before .before .before .before .before .before .write-words .ensures) (c .before .before .write-words2 .ensures)
 
 same-length-7 : tie.Need-same-length-7
@@ -73,10 +83,7 @@ same-length-10 : tie.Need-same-length-10
 same-length-10 c = search needs
 
 returns-2 : tie.Need-returns-2
-returns-2 c =
-    let start = c .before .before .before .before .before .before .before .before .before .before .before .before .before .before .before .before .before .before .before .before .before .before .before .before .before .before .before .before .before in
-    division-refused 65521 _ _ _ _ _ _ _ _ (start .pre .0 .0) (start .pre .0 .1) (c .before .before .before .before .before .before .before .before .before .before .before .before .before .before .before .before .before .before .before .read-words .ensures) (c .before .before .before .before .before .before .before .before .before .before .before .before .before .before .before .read-words2 .ensures) (start .pre .1 .2) (start .pre .1 .3) _ (c .before .before .before .before .before .before .before .before .divide .ensures .0)
-    (c .before .before .answer .given .1) (c .number-of .ensures) _ _
+returns-2 c = division-refused (called (c .before .before .before .before .before .before .before .before)) (c .before .before .answer .given .1) (c .number-of .ensures) _ _
 
 pub divide-in-spec : {M : Type 1} → statement M
 divide-in-spec =

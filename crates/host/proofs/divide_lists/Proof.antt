@@ -2,11 +2,9 @@
 -- Assumes nothing.
 use mathlib.Core.Path.{refl, sym, _∙_}
 use native.Mathlib.Omega.{arith}
-use lib.Dec.{leb→le}
 use borrow.Author.Needs.{needs}
-use Rattle.lists.proofs.Parts.{prefix-length}
 use Rattle.lists.specs.Bytes.{wordCount}
-use Rattle.host.proofs.Fits.{good-half, room-short}
+use Rattle.host.proofs.Fits.{good-half, list-part, room-short, room-part}
 use Rattle.host.proofs.divide_lists.Statement.{statement}
 use Rattle.host.proofs.divide_lists.Tie as tie
 
@@ -20,25 +18,25 @@ array-borrow-prefix-a : tie.Need-array-borrow-prefix-a
 array-borrow-prefix-a c = omega (arith, good-half _ (c .before .before .before .before .before .before .before .before .pre .0))
 
 slice-aggregate-divide-in : tie.Need-slice-aggregate-divide-in
-slice-aggregate-divide-in c = sym (prefix-length _ 256 _ refl (good-half _ (c .before .before .before .before .before .before .before .before .before .pre .0)))
+slice-aggregate-divide-in c = sym (list-part _ _ (c .before .before .before .before .before .before .before .before .before .pre .0) refl)
 
 array-borrow-prefix-b : tie.Need-array-borrow-prefix-b
 array-borrow-prefix-b c = omega (arith, good-half _ (c .before .before .before .before .before .before .before .before .before .pre .1))
 
 slice-aggregate-divide-in-2 : tie.Need-slice-aggregate-divide-in-2
-slice-aggregate-divide-in-2 c = sym (prefix-length _ 256 _ refl (good-half _ (c .before .before .before .before .before .before .before .before .before .before .pre .1)))
+slice-aggregate-divide-in-2 c = sym (list-part _ _ (c .before .before .before .before .before .before .before .before .before .before .pre .1) refl)
 
 array-borrow-prefix-c : tie.Need-array-borrow-prefix-c
-array-borrow-prefix-c c = rw (c .before .before .before .before .room .ensures) (room-short 0 _ (leb→le 0 256 tt))
+array-borrow-prefix-c c = room-short 0 _ (omega arith) (c .before .before .before .before .room .ensures)
 
 slice-aggregate-divide-in-3 : tie.Need-slice-aggregate-divide-in-3
-slice-aggregate-divide-in-3 c = sym (prefix-length _ 256 _ refl (rw (c .before .before .before .before .before .room .ensures) (room-short 0 _ (leb→le 0 256 tt))))
+slice-aggregate-divide-in-3 c = sym (room-part 0 _ _ (omega arith) (c .before .before .before .before .before .room .ensures) refl)
 
 array-borrow-prefix-d : tie.Need-array-borrow-prefix-d
-array-borrow-prefix-d c = rw (c .before .before .before .room2 .ensures) (room-short 256 _ (leb→le 256 256 tt))
+array-borrow-prefix-d c = room-short 256 _ (omega arith) (c .before .before .before .room2 .ensures)
 
 slice-aggregate-divide-in-4 : tie.Need-slice-aggregate-divide-in-4
-slice-aggregate-divide-in-4 c = sym (prefix-length _ 256 _ refl (rw (c .before .before .before .before .room2 .ensures) (room-short 256 _ (leb→le 256 256 tt))))
+slice-aggregate-divide-in-4 c = sym (room-part 256 _ _ (omega arith) (c .before .before .before .before .room2 .ensures) refl)
 
 divide-in-requires : tie.Need-divide-in-requires
 unfolding wordCount
@@ -46,10 +44,10 @@ divide-in-requires c κs =
     let start = c .before .before .before .before .before .before .before .before .before .before .before .before .before .before in (
       start .pre,
       (
-        prefix-length _ 256 _ refl (good-half _ (start .pre .0)),
-        prefix-length _ 256 _ refl (good-half _ (start .pre .1)),
-        prefix-length _ 256 _ refl (rw (c .before .before .before .before .before .before .before .before .room .ensures) (room-short 0 _ (leb→le 0 256 tt))) ∙ c .before .before .before .before .before .before .before .before .room .ensures,
-        prefix-length _ 256 _ refl (rw (c .before .before .before .before .before .before .room2 .ensures) (room-short 256 _ (leb→le 256 256 tt))) ∙ c .before .before .before .before .before .before .room2 .ensures,
+        list-part _ _ (start .pre .0) refl,
+        list-part _ _ (start .pre .1) refl,
+        room-part 0 _ _ (omega arith) (c .before .before .before .before .before .before .before .before .room .ensures) refl ∙ c .before .before .before .before .before .before .before .before .room .ensures,
+        room-part 256 _ _ (omega arith) (c .before .before .before .before .before .before .room2 .ensures) refl ∙ c .before .before .before .before .before .before .room2 .ensures,
       ),
     )
 

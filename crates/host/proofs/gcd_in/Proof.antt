@@ -1,9 +1,9 @@
--- `host::gcd_in` meets its contract.
+-- `host::gcd_in` meets its contract: the answer of the engine's function on the words is that of the call on the bytes.
 -- Assumes nothing.
 use native.Mathlib.Omega.{arith}
 use borrow.Author.Needs.{needs}
 use Rattle.algebra.specs.PrimeField.{F65521}
-use Rattle.host.proofs.Calls.{gcd-fits, gcd-small, gcd-done, gcd-refused}
+use Rattle.host.proofs.Calls.{GcdCall, gcd-fits, gcd-small, gcd-done, gcd-refused}
 use Rattle.host.proofs.gcd_in.Statement.{statement}
 use Rattle.host.proofs.gcd_in.Tie as tie
 
@@ -16,24 +16,33 @@ read-words-requires-2 c κs = search needs
 gcd-of-requires : tie.Need-gcd-of-requires
 gcd-of-requires c κs = search needs
 
+-- the answer of the engine's function
+called : (c : tie.After-gcd-of)
+    → GcdCall F65521 65521 (c .before .before .before .before .before .before .before .before .before .before .before .before .before .before .before .before .before .before .before .args .f .now) (c .before .before .before .before .before .before .before .before .before .before .before .before .before .before .before .before .before .before .before .args .g .now) (c .before .before .before .before .before .before .before .before .before .before .before .before .before .before .before .before .before .before .before .args .h .now) (c .before .before .before .before .before .before .before .before .before .before .before .before .before .before .before .before .before .before .before .args .answer .now) (c .before .before .before .before .before .before .before .before .before .before .read-words .last .1 .0) (c .before .before .before .before .before .before .read-words2 .last .1 .0) (c .before .before .before .before .before .before .before .before .before .before .before .before .before .before .before .before .before .before .before .args .c .now)
+    (c .gcd-of .result)
+called c =
+    let start = c .before .before .before .before .before .before .before .before .before .before .before .before .before .before .before .before .before .before .before in
+    record {
+      good-f = start .pre .0 .0;
+      good-g = start .pre .0 .1;
+      words-f = c .before .before .before .before .before .before .before .before .before .before .read-words .ensures;
+      words-g = c .before .before .before .before .before .before .read-words2 .ensures;
+      room = start .pre .1 .2;
+      says = c .gcd-of .ensures .0;
+    }
+
 enum-known-found : tie.Need-enum-known-found
 enum-known-found c = search needs
 
 write-words-requires : tie.Need-write-words-requires
-write-words-requires c κs =
-    let start = c .before .before .before .before .before .before .before .before .before .before .before .before .before .before .before .before .before .before .before .before .before .before .before .before .before .before in
-    omega (arith, gcd-fits F65521 65521 _ _ _ _ _ _ _ (start .pre .0 .0) (start .pre .0 .1) (c .before .before .before .before .before .before .before .before .before .before .before .before .before .before .before .before .before .read-words .ensures) (c .before .before .before .before .before .before .before .before .before .before .before .before .before .read-words2 .ensures) (start .pre .1 .2) _ (c .before .before .before .before .before .before .before .gcd-of .ensures .0) (c .before .before .before .found .given .1) .0)
+write-words-requires c κs = omega (arith, gcd-fits (called (c .before .before .before .before .before .before .before)) (c .before .before .before .found .given .1) .0)
 
 write-three-requires : tie.Need-write-three-requires
 write-three-requires c κs =
-    let start = c .before .before .before .before .before .before .before .before .before .before .before .before .before .before .before .before .before .before .before .before .before .before .before .before .before .before .before .before .before .before in
-    let d = c .before .before .before .before .before .before .before .found .given .1 in
-    let small =
-    gcd-small F65521 65521 _ _ _ _ _ _ _ (start .pre .0 .0) (start .pre .0 .1) (c .before .before .before .before .before .before .before .before .before .before .before .before .before .before .before .before .before .before .before .before .before .read-words .ensures) (c .before .before .before .before .before .before .before .before .before .before .before .before .before .before .before .before .before .read-words2 .ensures) (start .pre .1 .2) _ (c .before .before .before .before .before .before .before .before .before .before .before .gcd-of .ensures .0)
-    d (c .before .before .before .before .before .before .before .before .before .before .before .gcd-of .ensures .1 .0) (omega arith) (c .before .before .before .before .before .before .before .before .before .before .before .gcd-of .ensures .1 .1) in
-    let fits =
-    gcd-fits F65521 65521 _ _ _ _ _ _ _ (start .pre .0 .0) (start .pre .0 .1) (c .before .before .before .before .before .before .before .before .before .before .before .before .before .before .before .before .before .before .before .before .before .read-words .ensures) (c .before .before .before .before .before .before .before .before .before .before .before .before .before .before .before .before .before .read-words2 .ensures) (start .pre .1 .2) _ (c .before .before .before .before .before .before .before .before .before .before .before .gcd-of .ensures .0) d in
-    (small .degree, small .power, small .count, fits .2)
+    let done = c .before .before .before .before .before .before .before .found .given .1 in
+    let ensures = c .before .before .before .before .before .before .before .before .before .before .before .gcd-of .ensures .1 in
+    let small = gcd-small (called (c .before .before .before .before .before .before .before .before .before .before .before)) done (ensures .0) (omega arith) (ensures .1) in
+    (small .degree, small .power, small .count, gcd-fits (called (c .before .before .before .before .before .before .before .before .before .before .before)) done .2)
 
 enum-known-found-2 : tie.Need-enum-known-found-2
 enum-known-found-2 c = search needs
@@ -58,9 +67,7 @@ same-length-5 c = search needs
 
 returns : tie.Need-returns
 returns c =
-    let start = c .before .before .before .before .before .before .before .before .before .before .before .before .before .before .before .before .before .before .before .before .before .before .before .before .before .before .before .before .before .before .before .before .before in
-    gcd-done F65521 65521 _ _ _ _ _ _ _ (start .pre .0 .0) (start .pre .0 .1) (c .before .before .before .before .before .before .before .before .before .before .before .before .before .before .before .before .before .before .before .before .before .before .before .before .read-words .ensures) (c .before .before .before .before .before .before .before .before .before .before .before .before .before .before .before .before .before .before .before .before .read-words2 .ensures) (start .pre .1 .2) _ (c .before .before .before .before .before .before .before .before .before .before .before .before .before .before .gcd-of .ensures .0)
-    (c .before .before .before .before .before .before .before .before .before .before .found .given .1) (c .before .before .before .before .before .before .before .before .before .before .before .before .before .before .gcd-of .ensures .1 .0) (c .before .before .before .before .before .before .write-words .ensures) (c .before .before .write-three .ensures)
+    gcd-done (called (c .before .before .before .before .before .before .before .before .before .before .before .before .before .before)) (c .before .before .before .before .before .before .before .before .before .before .found .given .1) (c .before .before .before .before .before .before .before .before .before .before .before .before .before .before .gcd-of .ensures .1 .0) (c .before .before .before .before .before .before .write-words .ensures) (c .before .before .write-three .ensures)
 
 same-length-6 : tie.Need-same-length-6
 same-length-6 c = search needs
@@ -72,10 +79,7 @@ same-length-8 : tie.Need-same-length-8
 same-length-8 c = search needs
 
 returns-2 : tie.Need-returns-2
-returns-2 c =
-    let start = c .before .before .before .before .before .before .before .before .before .before .before .before .before .before .before .before .before .before .before .before .before .before .before .before .before in
-    gcd-refused F65521 65521 _ _ _ _ _ _ _ (start .pre .0 .0) (start .pre .0 .1) (c .before .before .before .before .before .before .before .before .before .before .before .before .before .before .before .before .read-words .ensures) (c .before .before .before .before .before .before .before .before .before .before .before .before .read-words2 .ensures) (start .pre .1 .2) _ (c .before .before .before .before .before .before .gcd-of .ensures .0)
-    (c .before .before .found2 .given .1) (c .number-of .ensures) _ _
+returns-2 c = gcd-refused (called (c .before .before .before .before .before .before)) (c .before .before .found2 .given .1) (c .number-of .ensures) _ _
 
 pub gcd-in-spec : {M : Type 1} → statement M
 gcd-in-spec =

@@ -3,9 +3,8 @@
 use mathlib.Core.Path.{refl, sym, _∙_}
 use native.Mathlib.Omega.{arith}
 use borrow.Author.Needs.{needs}
-use Rattle.lists.proofs.Parts.{prefix-length}
 use Rattle.lists.specs.Bytes.{wordCount}
-use Rattle.host.proofs.Fits.{good-half, gcd-room-short}
+use Rattle.host.proofs.Fits.{good-half, list-part, gcd-room-short, gcd-room-part}
 use Rattle.host.proofs.gcd_lists.Statement.{statement}
 use Rattle.host.proofs.gcd_lists.Tie as tie
 
@@ -16,19 +15,19 @@ array-borrow-prefix-a : tie.Need-array-borrow-prefix-a
 array-borrow-prefix-a c = omega (arith, good-half _ (c .before .before .before .before .before .before .before .pre .0))
 
 slice-aggregate-gcd-in : tie.Need-slice-aggregate-gcd-in
-slice-aggregate-gcd-in c = sym (prefix-length _ 256 _ refl (good-half _ (c .before .before .before .before .before .before .before .before .pre .0)))
+slice-aggregate-gcd-in c = sym (list-part _ _ (c .before .before .before .before .before .before .before .before .pre .0) refl)
 
 array-borrow-prefix-b : tie.Need-array-borrow-prefix-b
 array-borrow-prefix-b c = omega (arith, good-half _ (c .before .before .before .before .before .before .before .before .pre .1))
 
 slice-aggregate-gcd-in-2 : tie.Need-slice-aggregate-gcd-in-2
-slice-aggregate-gcd-in-2 c = sym (prefix-length _ 256 _ refl (good-half _ (c .before .before .before .before .before .before .before .before .before .pre .1)))
+slice-aggregate-gcd-in-2 c = sym (list-part _ _ (c .before .before .before .before .before .before .before .before .before .pre .1) refl)
 
 array-borrow-prefix-c : tie.Need-array-borrow-prefix-c
-array-borrow-prefix-c c = rw (c .before .before .gcd-room .ensures) (gcd-room-short _ _)
+array-borrow-prefix-c c = gcd-room-short _ _ (c .before .before .gcd-room .ensures)
 
 slice-aggregate-gcd-in-3 : tie.Need-slice-aggregate-gcd-in-3
-slice-aggregate-gcd-in-3 c = sym (prefix-length _ 256 _ refl (rw (c .before .before .before .gcd-room .ensures) (gcd-room-short _ _)))
+slice-aggregate-gcd-in-3 c = sym (gcd-room-part _ _ _ (c .before .before .before .gcd-room .ensures) refl)
 
 gcd-in-requires : tie.Need-gcd-in-requires
 unfolding wordCount
@@ -36,9 +35,9 @@ gcd-in-requires c κs =
     let start = c .before .before .before .before .before .before .before .before .before .before .before .before in (
       start .pre,
       (
-        prefix-length _ 256 _ refl (good-half _ (start .pre .0)),
-        prefix-length _ 256 _ refl (good-half _ (start .pre .1)),
-        prefix-length _ 256 _ refl (rw (c .before .before .before .before .before .gcd-room .ensures) (gcd-room-short _ _)) ∙ c .before .before .before .before .before .gcd-room .ensures,
+        list-part _ _ (start .pre .0) refl,
+        list-part _ _ (start .pre .1) refl,
+        gcd-room-part _ _ _ (c .before .before .before .before .before .gcd-room .ensures) refl ∙ c .before .before .before .before .before .gcd-room .ensures,
       ),
     )
 

@@ -1,9 +1,9 @@
--- `host::product_in` meets its contract.
+-- `host::product_in` meets its contract: the answer of the engine's function on the words is that of the call on the bytes.
 -- Assumes nothing.
 use native.Mathlib.Omega.{arith}
 use borrow.Author.Needs.{needs}
 use Rattle.algebra.specs.PrimeField.{F65521}
-use Rattle.host.proofs.Calls.{product-fits, product-done, product-refused}
+use Rattle.host.proofs.Calls.{ProductCall, product-fits, product-done, product-refused}
 use Rattle.host.proofs.product_in.Statement.{statement}
 use Rattle.host.proofs.product_in.Tie as tie
 
@@ -16,13 +16,26 @@ read-words-requires-2 c κs = search needs
 product-requires : tie.Need-product-requires
 product-requires c κs = search needs
 
+-- the answer of the engine's function
+called : (c : tie.After-product)
+    → ProductCall 65521 (c .before .before .before .before .before .before .before .before .before .before .before .before .before .before .before .before .before .before .args .f .now) (c .before .before .before .before .before .before .before .before .before .before .before .before .before .before .before .before .before .before .args .g .now) (c .before .before .before .before .before .before .before .before .before .before .before .before .before .before .before .before .before .before .args .out .now) (c .before .before .before .before .before .before .before .before .before .before .read-words .last .1 .0) (c .before .before .before .before .before .before .read-words2 .last .1 .0) (c .before .before .before .before .before .before .before .before .before .before .before .before .before .before .before .before .before .before .args .c .now)
+    (c .product .result)
+called c =
+    let start = c .before .before .before .before .before .before .before .before .before .before .before .before .before .before .before .before .before .before in
+    record {
+      good-f = start .pre .0 .0;
+      good-g = start .pre .0 .1;
+      words-f = c .before .before .before .before .before .before .before .before .before .before .read-words .ensures;
+      words-g = c .before .before .before .before .before .before .read-words2 .ensures;
+      room = start .pre .1 .2;
+      says = c .product .ensures .0;
+    }
+
 enum-told : tie.Need-enum-told
 enum-told c = search needs
 
 write-words-requires : tie.Need-write-words-requires
-write-words-requires c κs =
-    let start = c .before .before .before .before .before .before .before .before .before .before .before .before .before .before .before .before .before .before .before .before .before .before .before .before in
-    omega (arith, product-fits 65521 _ _ _ _ _ _ (start .pre .0 .0) (start .pre .0 .1) (c .before .before .before .before .before .before .before .before .before .before .before .before .before .before .before .before .read-words .ensures) (c .before .before .before .before .before .before .before .before .before .before .before .before .read-words2 .ensures) (start .pre .1 .2) _ (c .before .before .before .before .before .before .product .ensures .0) (c .before .before .enum-told .given .1))
+write-words-requires c κs = omega (arith, product-fits (called (c .before .before .before .before .before .before)) (c .before .before .enum-told .given .1))
 
 enum-known-answer : tie.Need-enum-known-answer
 enum-known-answer c = search needs
@@ -44,9 +57,7 @@ same-length-4 c = omega arith
 
 returns : tie.Need-returns
 returns c =
-    let start = c .before .before .before .before .before .before .before .before .before .before .before .before .before .before .before .before .before .before .before .before .before .before .before .before .before .before .before in
-    product-done 65521 _ _ _ _ _ _ (start .pre .0 .0) (start .pre .0 .1) (c .before .before .before .before .before .before .before .before .before .before .before .before .before .before .before .before .before .before .before .read-words .ensures) (c .before .before .before .before .before .before .before .before .before .before .before .before .before .before .before .read-words2 .ensures) (start .pre .1 .2) _ (c .before .before .before .before .before .before .before .before .before .product .ensures .0)
-    (c .before .before .before .before .before .enum-told .given .1) F65521 (c .before .before .before .before .before .before .before .before .before .product .ensures .1) (c .before .before .write-words .ensures)
+    product-done (called (c .before .before .before .before .before .before .before .before .before)) (c .before .before .before .before .before .enum-told .given .1) F65521 (c .before .before .before .before .before .before .before .before .before .product .ensures .1) (c .before .before .write-words .ensures)
 
 same-length-5 : tie.Need-same-length-5
 same-length-5 c = search needs
@@ -58,10 +69,7 @@ same-length-7 : tie.Need-same-length-7
 same-length-7 c = search needs
 
 returns-2 : tie.Need-returns-2
-returns-2 c =
-    let start = c .before .before .before .before .before .before .before .before .before .before .before .before .before .before .before .before .before .before .before .before .before .before .before .before in
-    product-refused 65521 _ _ _ _ _ _ (start .pre .0 .0) (start .pre .0 .1) (c .before .before .before .before .before .before .before .before .before .before .before .before .before .before .before .before .read-words .ensures) (c .before .before .before .before .before .before .before .before .before .before .before .before .read-words2 .ensures) (start .pre .1 .2) _ (c .before .before .before .before .before .before .product .ensures .0)
-    (c .before .before .answer .given .1) (c .number-of .ensures) _
+returns-2 c = product-refused (called (c .before .before .before .before .before .before)) (c .before .before .answer .given .1) (c .number-of .ensures) _
 
 pub product-in-spec : {M : Type 1} → statement M
 product-in-spec =

@@ -2,11 +2,9 @@
 -- Assumes nothing.
 use mathlib.Core.Path.{refl, sym, _∙_}
 use native.Mathlib.Omega.{arith}
-use lib.Dec.{leb→le}
 use borrow.Author.Needs.{needs}
-use Rattle.lists.proofs.Parts.{prefix-length}
 use Rattle.lists.specs.Bytes.{wordCount}
-use Rattle.host.proofs.Fits.{good-half, room-short}
+use Rattle.host.proofs.Fits.{good-half, list-part, room-short, room-part}
 use Rattle.host.proofs.product_lists.Statement.{statement}
 use Rattle.host.proofs.product_lists.Tie as tie
 
@@ -17,19 +15,19 @@ array-borrow-prefix-a : tie.Need-array-borrow-prefix-a
 array-borrow-prefix-a c = omega (arith, good-half _ (c .before .before .before .before .before .pre .0))
 
 slice-aggregate-product-in : tie.Need-slice-aggregate-product-in
-slice-aggregate-product-in c = sym (prefix-length _ 256 _ refl (good-half _ (c .before .before .before .before .before .before .pre .0)))
+slice-aggregate-product-in c = sym (list-part _ _ (c .before .before .before .before .before .before .pre .0) refl)
 
 array-borrow-prefix-b : tie.Need-array-borrow-prefix-b
 array-borrow-prefix-b c = omega (arith, good-half _ (c .before .before .before .before .before .before .pre .1))
 
 slice-aggregate-product-in-2 : tie.Need-slice-aggregate-product-in-2
-slice-aggregate-product-in-2 c = sym (prefix-length _ 256 _ refl (good-half _ (c .before .before .before .before .before .before .before .pre .1)))
+slice-aggregate-product-in-2 c = sym (list-part _ _ (c .before .before .before .before .before .before .before .pre .1) refl)
 
 array-borrow-prefix-c : tie.Need-array-borrow-prefix-c
-array-borrow-prefix-c c = rw (c .before .before .room .ensures) (room-short 0 _ (leb→le 0 256 tt))
+array-borrow-prefix-c c = room-short 0 _ (omega arith) (c .before .before .room .ensures)
 
 slice-aggregate-product-in-3 : tie.Need-slice-aggregate-product-in-3
-slice-aggregate-product-in-3 c = sym (prefix-length _ 256 _ refl (rw (c .before .before .before .room .ensures) (room-short 0 _ (leb→le 0 256 tt))))
+slice-aggregate-product-in-3 c = sym (room-part 0 _ _ (omega arith) (c .before .before .before .room .ensures) refl)
 
 product-in-requires : tie.Need-product-in-requires
 unfolding wordCount
@@ -37,9 +35,9 @@ product-in-requires c κs =
     let start = c .before .before .before .before .before .before .before .before .before in (
       start .pre,
       (
-        prefix-length _ 256 _ refl (good-half _ (start .pre .0)),
-        prefix-length _ 256 _ refl (good-half _ (start .pre .1)),
-        prefix-length _ 256 _ refl (rw (c .before .before .before .before .room .ensures) (room-short 0 _ (leb→le 0 256 tt))) ∙ c .before .before .before .before .room .ensures,
+        list-part _ _ (start .pre .0) refl,
+        list-part _ _ (start .pre .1) refl,
+        room-part 0 _ _ (omega arith) (c .before .before .before .before .room .ensures) refl ∙ c .before .before .before .before .room .ensures,
       ),
     )
 

@@ -1,4 +1,5 @@
--- `host::read_words` meets its contract: the words below k are read.
+-- `host::read_words` meets its contract. The loop's invariant: the words below k are read, and the bytes of all words are there. The
+-- measure is the number of words left.
 -- Assumes nothing.
 use mathlib.Core.Path.{_≡_, sym, _∙_}
 use Prim.Native.Nat.{_*_, _-_, _≤_}
@@ -6,9 +7,8 @@ use native.Mathlib.Omega.{arith}
 use lib.ListN.{length, length-set}
 use borrow.Author.Needs.{needs}
 use Rattle.lists.proofs.Filled.{Filled, fill-start, fill-step, fill-end}
-use Rattle.lists.specs.Bytes.{wordsOf, length-wordsOf}
+use Rattle.lists.specs.Bytes.{wordsOf, length-wordsOf, getD-wordsOf}
 use Rattle.host.proofs.Words.{words-in}
-use Rattle.lists.specs.Bytes.{getD-wordsOf}
 use Rattle.host.proofs.read_words.Statement.{statement}
 use Rattle.host.proofs.read_words.Tie as tie
 

@@ -1,4 +1,5 @@
--- `host::write_words` meets its contract: the bytes of the words below k are written.
+-- `host::write_words` meets its contract. The loop's invariant: the bytes of the words below k are written. The measure is the number of
+-- words left.
 -- Assumes nothing.
 use mathlib.Core.Path.{_≡_}
 use Prim.Native.Nat.{_*_, _-_, _≤_}
@@ -18,7 +19,7 @@ abbrev μ-loop : tie.MeasureT-loop
 μ-loop words bytes₀ k₀ bytes k = length words - k
 
 loop-holds : tie.Need-loop-holds Inv-loop μ-loop
-loop-holds c = (search needs, c .before .before .pre, fill-start _ _)
+loop-holds c = (search needs, search needs, fill-start _ _)
 
 mul-low : tie.Need-mul-low Inv-loop μ-loop
 mul-low c = search needs

@@ -3,6 +3,7 @@
 use mathlib.Core.Path.{_≡_, sym, _∙_}
 use Prim.Native.Nat.{_<_}
 use native.Mathlib.Omega.{arith}
+use borrow.Author.Needs.{needs}
 use Rattle.refusal.specs.Lowest.{lowest}
 use Rattle.refusal.specs.declared.Outcome.the-variants.{Done}
 use Rattle.layout.specs.Calls.{checkRefusals}
@@ -10,7 +11,6 @@ use Rattle.layout.specs.Layout.{count}
 use Rattle.layout.specs.Workers.{Obeys}
 use Rattle.layout.specs.Places.{entry-inside, body-inside}
 use Rattle.layout.proofs.Judged.{call-fine, body-done, body-refused}
-use borrow.Author.Needs.{needs}
 use Rattle.layout.proofs.body.Statement.{statement}
 use Rattle.layout.proofs.body.Tie as tie
 

@@ -1,8 +1,8 @@
 -- `layout::check` meets its contract.
 -- Assumes nothing.
 use mathlib.Core.Path.{ap}
-use Rattle.refusal.specs.Refusal.{outcomeReply}
 use borrow.Author.Needs.{needs}
+use Rattle.refusal.specs.Refusal.{outcomeReply}
 use Rattle.layout.proofs.check.Statement.{statement}
 use Rattle.layout.proofs.check.Tie as tie
 

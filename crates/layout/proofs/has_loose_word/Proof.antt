@@ -1,10 +1,11 @@
--- `layout::has_loose_word` meets its contract: the words that are left answer for all lists.
+-- `layout::has_loose_word` meets its contract. The loop's invariant: the words from `at` on answer for all lists. The measure is the number
+-- of bytes from `at` on.
 -- Assumes nothing.
 use Prim.Native.Nat.{_-_}
 use native.Mathlib.Omega.{arith}
 use lib.ListN.{length}
-use Rattle.layout.proofs.Loose.{Left, left-start, left-here, left-on, left-end}
 use borrow.Author.Needs.{needs}
+use Rattle.layout.proofs.Loose.{Left, left-start, left-here, left-on, left-end}
 use Rattle.layout.proofs.has_loose_word.Statement.{statement}
 use Rattle.layout.proofs.has_loose_word.Tie as tie
 

@@ -1,11 +1,11 @@
 -- `layout::judge_album` meets its contract: the tests stand in the order of the numbers.
 -- Assumes nothing.
 use mathlib.Core.Path.{_≡_, sym, _∙_}
+use borrow.Author.Needs.{needs}
 use Rattle.refusal.specs.Lowest.{lowest}
 use Rattle.refusal.specs.declared.Outcome.the-variants.{Done}
 use Rattle.layout.specs.Workers.{layoutRefusals}
 use Rattle.layout.proofs.Judged.{layout-obeys, album-refused, album-loose, album-done}
-use borrow.Author.Needs.{needs}
 use Rattle.layout.proofs.judge_album.Statement.{statement}
 use Rattle.layout.proofs.judge_album.Tie as tie
 

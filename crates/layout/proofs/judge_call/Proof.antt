@@ -2,11 +2,11 @@
 -- Assumes nothing.
 use mathlib.Core.Path.{_≡_, sym, _∙_}
 use native.Mathlib.Omega.{arith}
+use borrow.Author.Needs.{needs}
 use Rattle.refusal.specs.Lowest.{lowest}
 use Rattle.refusal.specs.declared.Outcome.the-variants.{Done}
 use Rattle.layout.specs.Workers.{layoutRefusals}
 use Rattle.layout.proofs.Judged.{layout-obeys, call-refused, call-index, call-loose, call-done}
-use borrow.Author.Needs.{needs}
 use Rattle.layout.proofs.judge_call.Statement.{statement}
 use Rattle.layout.proofs.judge_call.Tie as tie
 

@@ -1,5 +1,6 @@
--- `layout::judge_layout` meets its contract. The loop's invariant: the first k entries name the places where the bodies start, and the
--- next body starts at `at`.
+-- `layout::judge_layout` meets its contract. The loop's invariant: n is the number of lists, at most 16, and the table of contents lies in
+-- the album; the first k entries name the places where the bodies start, and the next body starts at `at`. The measure is the number of
+-- entries left.
 -- Assumes nothing.
 use mathlib.Core.Path.{_≡_, subst}
 use mathlib.Core.Bool.{true}
@@ -8,10 +9,10 @@ use Prim.Native.Nat.{ℕ, _+_, _*_, _-_, _≤_}
 use native.Mathlib.Numerals.{add-one}
 use native.Mathlib.Omega.{arith}
 use lib.ListN.{length}
+use borrow.Author.Needs.{needs}
 use Rattle.layout.specs.Layout.{count, entryAt, startAt, offsetsAgree}
 use Rattle.layout.specs.Places.{start-next, start-low, agree-next}
 use Rattle.layout.proofs.Judged.{layout-empty, layout-none, layout-many, layout-size, layout-place, layout-done}
-use borrow.Author.Needs.{needs}
 use Rattle.layout.proofs.judge_layout.Statement.{statement}
 use Rattle.layout.proofs.judge_layout.Tie as tie
 

@@ -1,4 +1,4 @@
--- `report::main` meets its contract: the text lies in its array.
+-- `report::main` is safe: the text lies in its array.
 -- Assumes nothing.
 use mathlib.Core.Path.{sym}
 use Prim.Native.Nat.{_≤_}
@@ -30,9 +30,9 @@ write-report-requires c κs = search needs
 enum-known-k : tie.Need-enum-known-k
 enum-known-k c = search needs
 
--- the text's length is at most the array's
+-- the text is no longer than the array
 inside : (c : tie.After-k) → c .k .given .0 .0 ≤ length (c .before .before .before .write-report .last .1 .0)
-inside c = let e = c .before .before .before .write-report .ensures in text-inside _ _ (c .k .given .1) (e .0) (e .1)
+inside c = let ensures = c .before .before .before .write-report .ensures in text-inside _ _ (c .k .given .1) (ensures .0) (ensures .1)
 
 array-share-prefix-text : tie.Need-array-share-prefix-text
 array-share-prefix-text c = inside (c .before)

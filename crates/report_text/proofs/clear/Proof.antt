@@ -1,4 +1,5 @@
--- `report_text::clear` meets its contract: the bytes from `from` up to i are zeros.
+-- `report_text::clear` meets its contract. The loop's invariant: the bytes from `from` up to i are zeros, and those before are as they
+-- were. The measure is the number of bytes from i on.
 -- Assumes nothing.
 use Prim.Native.Nat.{_-_, _≤_}
 use native.Mathlib.Omega.{arith}

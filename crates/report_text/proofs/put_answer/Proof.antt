@@ -29,39 +29,43 @@ given : (c : tie.After-w)
     (c .before .before .before .before .gcd-of-album .last .1 .0) (c .w .given .0 .0 .0) (c .w .given .0 .1 .0)
 unfolding F65521
 given c =
-    let e = c .before .before .before .before .gcd-of-album .ensures in
-    answered F65521 _ _ (c .before .before .before .before .before .before .before .before .before .pre .0 .0) (c .before .before .before .before .before .before .before .before .before .pre .0 .1) (c .w .given .1) (e .0) (e .1 .0) (e .1 .1)
+    let pre = c .before .before .before .before .before .before .before .before .before .pre .0 in
+    let ensures = c .before .before .before .before .gcd-of-album .ensures in
+    answered F65521 _ _ (pre .0) (pre .1) (c .w .given .1) (ensures .0) (ensures .1 .0) (ensures .1 .1)
 
+-- h's slice keeps its length
 whole : (c : tie.After-w) → length (c .before .before .before .before .gcd-of-album .last .1 .0) ≡ maxWords
 whole c = c .before .before .before .before .gcd-of-album .kept .1 .0 ∙ c .before .before .before .before .before .before .before .before .before .pre .0 .1
 
+-- the common power is below the number of words
 small : (c : tie.After-w) → c .w .given .0 .1 .0 < maxWords
 small c =
-    let s = c .before .before .before .before .before .before .before .before .before .args .album .now in
+    let start = c .before .before .before .before .before .before .before .before .before in
+    let s = start .args .album .now in
     let bytes = c .before .before .before .before .before .before .before .before .shared-slice-known .given in
-    let a = given c in
-    let l =
-    common-power-short (listsOf s) maxWords (omega arith) (a .some)
-    (λ j k. passed-each 65521 s (c .before .before .before .before .before .before .before .before .before .pre .0 .0) (λ i. omega (arith, bytes i)) j k .short) in
-    omega (arith, a .power)
+    let answer = given c in
+    let short =
+    common-power-short (listsOf s) maxWords (omega arith) (answer .some)
+    (λ j k. passed-each 65521 s (start .pre .0 .0) (λ i. omega (arith, bytes i)) j k .short) in
+    omega (arith, answer .power)
 
 add-put-gcd : tie.Need-add-put-gcd
-add-put-gcd c = let a = given (c .before .before) in omega (arith, a .words, a .short, whole (c .before .before))
+add-put-gcd c = let answer = given (c .before .before) in omega (arith, answer .words, answer .short, whole (c .before .before))
 
 slice-reshare-prefix-put-gcd : tie.Need-slice-reshare-prefix-put-gcd
-slice-reshare-prefix-put-gcd c = let a = given (c .before .before) in omega (arith, a .words, a .short)
+slice-reshare-prefix-put-gcd c = let answer = given (c .before .before) in omega (arith, answer .words, answer .short)
 
 slice-aggregate-put-gcd : tie.Need-slice-aggregate-put-gcd
-slice-aggregate-put-gcd c = let a = given (c .before .before .before) in sym (ap length (a .list) ∙ a .words)
+slice-aggregate-put-gcd c = let answer = given (c .before .before .before) in sym (ap length (answer .list) ∙ answer .words)
 
 put-gcd-requires : tie.Need-put-gcd-requires
 put-gcd-requires c κs =
-    let a = given (c .before .before .before .before) in
-    let l = ap length (a .list) in
-    let n = whole (c .before .before .before .before) in
-    let t = ap (λ h. length (gcdLines h (c .before .before .before .before .w .given .0 .1 .0))) (a .list) in
-    let fits = answer-fits a n (small (c .before .before .before .before)) (λ k. omega (arith, c .before .before .before .before .before .before .slice-known3 .given k)) in (
-      (omega (arith, a .words), omega (arith, a .short), small (c .before .before .before .before)),
+    let found = c .before .before .before .before in
+    let answer = given found in
+    let words = ap length (answer .list) in
+    let text = ap (λ h. length (gcdLines h (found .w .given .0 .1 .0))) (answer .list) in
+    let fits = answer-fits answer (whole found) (small found) (λ k. omega (arith, c .before .before .before .before .before .before .slice-known3 .given k)) in (
+      (omega (arith, answer .words), omega (arith, answer .short, whole found), small found),
       record { fits = omega (arith, c .before .before .before .before .before .before .before .before .before .before .before .before .before .pre .1) },
     )
 
@@ -88,7 +92,9 @@ same-length-4 c = search needs
 
 returns-2 : tie.Need-returns-2
 unfolding F65521
-returns-2 c = put-is (refused-answer F65521 _ _ (c .before .before .before .before .before .before .before .before .before .before .before .before .before .before .pre .0 .0) (c .before .before .before .before .before .before .before .before .before .before .before .before .before .before .pre .0 .1) (c .before .before .before .before .before .why .given .1) (c .before .before .before .before .before .before .before .before .before .gcd-of-album .ensures .0)) refl (c .before .before .put-refused .ensures)
+returns-2 c =
+    let pre = c .before .before .before .before .before .before .before .before .before .before .before .before .before .before .pre .0 in
+    put-is (refused-answer F65521 _ _ (pre .0) (pre .1) (c .before .before .before .before .before .why .given .1) (c .before .before .before .before .before .before .before .before .before .gcd-of-album .ensures .0)) refl (c .before .before .put-refused .ensures)
 
 pub put-answer-spec : {M : Type 1} → statement M
 put-answer-spec =

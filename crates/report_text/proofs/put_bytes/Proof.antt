@@ -1,4 +1,4 @@
--- `report_text::put_bytes` meets its contract: the first i bytes are put.
+-- `report_text::put_bytes` meets its contract. The loop's invariant: the first i bytes are put. The measure is the number of those left.
 -- Assumes nothing.
 use mathlib.Core.Path.{refl}
 use Prim.Native.Nat.{_+_, _-_, _≤_}

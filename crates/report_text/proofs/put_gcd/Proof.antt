@@ -1,15 +1,27 @@
--- `report_text::put_gcd` meets its contract.
+-- `report_text::put_gcd` meets its contract: the parts of the two lines, one after the other.
 -- Assumes nothing.
 use mathlib.Core.Path.{refl, sym}
-use mathlib.Core.List.{[], _∷_}
-use native.Mathlib.Omega.{arith}
+use mathlib.Core.List.{List, [], _∷_, _++_, map}
+use Prim.Native.Nat.{ℕ, _+_}
 use borrow.Author.Needs.{needs}
 use Rattle.lists.specs.Degrees.{naiveDegree}
+use Rattle.report_text.specs.Text.{decimal, line}
 use Rattle.report_text.specs.Report.{⟨gcd⟩}
+use Rattle.report_text.specs.Workers.{Room}
 use Rattle.report_text.proofs.Puts.{put-is, put-then, room-is, room-first, room-then}
 use Rattle.report_text.proofs.Lines.{gcd-lines}
 use Rattle.report_text.proofs.put_gcd.Statement.{statement}
 use Rattle.report_text.proofs.put_gcd.Tie as tie
+
+-- the text after the power, after the naive degree, and after the name
+abbrev afterPower : List ℕ → List ℕ
+afterPower h = (10 ∷ []) ++ line (map decimal h)
+
+abbrev afterDegree : List ℕ → ℕ → List ℕ
+afterDegree h c = (32 ∷ decimal c) ++ afterPower h
+
+abbrev afterName : List ℕ → ℕ → List ℕ
+afterName h c = (32 ∷ decimal (naiveDegree h + c)) ++ afterDegree h c
 
 slice-aggregate-put-bytes : tie.Need-slice-aggregate-put-bytes
 slice-aggregate-put-bytes c = search needs
@@ -17,27 +29,37 @@ slice-aggregate-put-bytes c = search needs
 put-bytes-requires : tie.Need-put-bytes-requires
 put-bytes-requires c κs = room-first ⟨gcd⟩ _ (room-is (gcd-lines (c .before .before .before .before .args .h .now) (c .before .before .before .before .args .c)) (c .before .before .before .before .pre .1))
 
+-- the room of each
+name-room : (c : tie.After-put-bytes)
+    → Room (afterName (c .before .before .before .before .before .args .h .now) (c .before .before .before .before .before .args .c)) (c .put-bytes .result) (c .put-bytes .last .1 .1 .0)
+name-room c = room-then (room-is (gcd-lines (c .before .before .before .before .before .args .h .now) (c .before .before .before .before .before .args .c)) (c .before .before .before .before .before .pre .1)) (c .put-bytes .ensures)
+
+degree-room : (c : tie.After-put-field)
+    → Room (afterDegree (c .before .before .before .before .before .before .before .before .before .args .h .now) (c .before .before .before .before .before .before .before .before .before .args .c)) (c .put-field .result) (c .put-field .last .1 .1 .0)
+unfolding naiveDegree
+degree-room c = room-then (name-room (c .before .before .before .before)) (c .put-field .ensures)
+
+power-room : (c : tie.After-put-field2) → Room (afterPower (c .before .before .before .before .before .before .before .before .before .before .before .before .before .args .h .now)) (c .put-field2 .result) (c .put-field2 .last .1 .1 .0)
+power-room c = room-then (degree-room (c .before .before .before .before)) (c .put-field2 .ensures)
+
 sub-put-field : tie.Need-sub-put-field
-sub-put-field c = omega (arith, c .before .before .before .before .before .before .before .pre .0 .0)
+sub-put-field c = search needs
 
 add-put-field : tie.Need-add-put-field
-add-put-field c = let pre = c .before .before .before .before .before .before .before .pre .0 in omega arith
+add-put-field c = search needs
 
 put-field-requires : tie.Need-put-field-requires
 unfolding naiveDegree
-put-field-requires c κs = room-first _ _ (room-then (room-is (gcd-lines (c .before .before .before .before .before .before .before .before .args .h .now) (c .before .before .before .before .before .before .before .before .args .c)) (c .before .before .before .before .before .before .before .before .pre .1)) (c .before .before .before .put-bytes .ensures))
+put-field-requires c κs = room-first _ _ (name-room (c .before .before .before))
 
 put-field-requires-2 : tie.Need-put-field-requires-2
-unfolding naiveDegree
-put-field-requires-2 c κs = room-first _ _ (room-then (room-then (room-is (gcd-lines (c .before .before .before .before .before .before .before .before .before .before .before .before .args .h .now) (c .before .before .before .before .before .before .before .before .before .before .before .before .args .c)) (c .before .before .before .before .before .before .before .before .before .before .before .before .pre .1)) (c .before .before .before .before .before .before .before .put-bytes .ensures)) (c .before .before .before .put-field .ensures))
+put-field-requires-2 c κs = room-first _ _ (degree-room (c .before .before .before))
 
 put-requires : tie.Need-put-requires
-unfolding naiveDegree
-put-requires c κs = room-first (10 ∷ []) _ (room-then (room-then (room-then (room-is (gcd-lines (c .before .before .before .before .before .before .before .before .before .before .before .before .before .before .before .before .args .h .now) (c .before .before .before .before .before .before .before .before .before .before .before .before .before .before .before .before .args .c)) (c .before .before .before .before .before .before .before .before .before .before .before .before .before .before .before .before .pre .1)) (c .before .before .before .before .before .before .before .before .before .before .before .put-bytes .ensures)) (c .before .before .before .before .before .before .before .put-field .ensures)) (c .before .before .before .put-field2 .ensures))
+put-requires c κs = room-first (10 ∷ []) _ (power-room (c .before .before .before))
 
 put-words-requires : tie.Need-put-words-requires
-unfolding naiveDegree
-put-words-requires c κs = (c .before .before .before .before .before .before .before .before .before .before .before .before .before .before .before .before .before .before .before .before .pre .0 .0, (room-then (room-then (room-then (room-then (room-is (gcd-lines (c .before .before .before .before .before .before .before .before .before .before .before .before .before .before .before .before .before .before .before .before .args .h .now) (c .before .before .before .before .before .before .before .before .before .before .before .before .before .before .before .before .before .before .before .before .args .c)) (c .before .before .before .before .before .before .before .before .before .before .before .before .before .before .before .before .before .before .before .before .pre .1)) (c .before .before .before .before .before .before .before .before .before .before .before .before .before .before .before .put-bytes .ensures)) (c .before .before .before .before .before .before .before .before .before .before .before .put-field .ensures)) (c .before .before .before .before .before .before .before .put-field2 .ensures)) (c .before .before .before .put .ensures)))
+put-words-requires c κs = (search needs, room-then (power-room (c .before .before .before .before .before .before .before)) (c .before .before .before .put .ensures))
 
 same-length : tie.Need-same-length
 same-length c = search needs

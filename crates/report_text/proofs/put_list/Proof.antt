@@ -1,9 +1,12 @@
--- `report_text::put_list` meets its contract.
+-- `report_text::put_list` meets its contract: the list's number, its naive degree, and the end of its line.
 -- Assumes nothing.
 use mathlib.Core.Path.{refl, sym}
+use mathlib.Core.List.{_∷_, _++_}
 use native.Mathlib.Omega.{arith}
 use borrow.Author.Needs.{needs}
 use Rattle.lists.specs.Degrees.{naiveDegree}
+use Rattle.report_text.specs.Text.{decimal}
+use Rattle.report_text.specs.Workers.{Room, lineEnd}
 use Rattle.report_text.proofs.Puts.{put-is, put-then, room-is, room-first, room-then}
 use Rattle.report_text.proofs.Lines.{list-line}
 use Rattle.report_text.proofs.put_list.Statement.{statement}
@@ -15,13 +18,18 @@ put-number-requires c κs = room-first _ _ (room-is (list-line _ _) (c .before .
 sub-put-field : tie.Need-sub-put-field
 sub-put-field c = omega arith
 
+-- the room after the number of the list
+number-room : (c : tie.After-put-number)
+    → Room ((32 ∷ decimal (naiveDegree (c .before .before .before .before .args .list .now))) ++ lineEnd (c .before .before .before .before .args .list .now)) (c .put-number .result) (c .put-number .last .1 .1 .0)
+number-room c = room-then (room-is (list-line _ _) (c .before .before .before .before .pre .1)) (c .put-number .ensures)
+
 put-field-requires : tie.Need-put-field-requires
 unfolding naiveDegree
-put-field-requires c κs = room-first _ _ (room-then (room-is (list-line _ _) (c .before .before .before .before .before .before .before .pre .1)) (c .before .before .before .put-number .ensures))
+put-field-requires c κs = room-first _ _ (number-room (c .before .before .before))
 
 put-extent-requires : tie.Need-put-extent-requires
 unfolding naiveDegree
-put-extent-requires c κs = room-then (room-then (room-is (list-line _ _) (c .before .before .before .before .before .before .before .before .before .before .before .pre .1)) (c .before .before .before .before .before .before .before .put-number .ensures)) (c .before .before .before .put-field .ensures)
+put-extent-requires c κs = room-then (number-room (c .before .before .before .before .before .before .before)) (c .before .before .before .put-field .ensures)
 
 same-length : tie.Need-same-length
 same-length c = search needs

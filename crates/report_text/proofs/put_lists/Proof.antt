@@ -1,4 +1,5 @@
--- `report_text::put_lists` meets its contract: the lines of the lists below i are put.
+-- `report_text::put_lists` meets its contract. The loop's invariant: the lines of the lists below i are put, and the room for a list keeps
+-- its length. The measure is the number of lists left.
 -- Assumes nothing.
 use mathlib.Core.Path.{_≡_, refl, sym, _∙_, ap}
 use mathlib.Core.List.{[]}
@@ -31,7 +32,7 @@ cast-n : tie.Need-cast-n Inv-loop μ-loop
 cast-n c = omega (arith, c .shared-slice-known2 .given 0)
 
 loop-holds : tie.Need-loop-holds Inv-loop μ-loop
-loop-holds c = (omega arith, c .before .before .before .before .pre .0 .1, left-start)
+loop-holds c = (omega arith, search needs, left-start)
 
 read-requires : tie.Need-read-requires Inv-loop μ-loop
 read-requires c κs = search needs
@@ -49,10 +50,10 @@ slice-aggregate-put-list c = held-count (held (c .before .before .before))
 put-list-requires : tie.Need-put-list-requires Inv-loop μ-loop
 put-list-requires c κs =
     let s = c .before .before .before .before .before .before .before .before .before .before .before .before .args .album .now in
-    let e = held (c .before .before .before .before) in
-    let l = length-lists s in (
-      omega (arith, ap length (held-take e), e .listed .some),
-      room-is (ap (listLine _) (list-at s _ (omega arith) ∙ sym (held-take e)))
+    let list = held (c .before .before .before .before) in
+    let counted = length-lists s in (
+      omega (arith, ap length (held-take list), list .listed .some),
+      room-is (ap (listLine _) (list-at s _ (omega arith) ∙ sym (held-take list)))
           (left-room _ _ (lines-next (listsOf s) _ (omega arith)) (c .before .before .before .before .before .before .before .loop .inv .2) (c .before .before .before .before .before .before .before .before .before .before .before .before .pre .1)),
     )
 
@@ -65,16 +66,16 @@ loop-less c = omega arith
 loop-again : tie.Need-loop-again Inv-loop μ-loop
 loop-again c =
     let s = c .before .before .before .before .before .before .before .before .before .before .before .before .before .before .before .args .album .now in
-    let e = held (c .before .before .before .before .before .before .before) in
-    let l = length-lists s in (
+    let list = held (c .before .before .before .before .before .before .before) in
+    let counted = length-lists s in (
       omega arith,
-      held-length e,
+      held-length list,
       left-next _ _ (lines-next (listsOf s) _ (omega arith)) (c .before .before .before .before .before .before .before .before .before .before .loop .inv .2)
-          (put-is (ap (listLine _) (held-take e ∙ sym (list-at s _ (omega arith)))) refl (c .before .before .put-list .ensures)),
+          (put-is (ap (listLine _) (held-take list ∙ sym (list-at s _ (omega arith)))) refl (c .before .before .put-list .ensures)),
     )
 
 same-length : tie.Need-same-length Inv-loop μ-loop
-same-length c = c .before .loop .inv .1 ∙ sym (c .before .before .before .before .before .before .pre .0 .1)
+same-length c = search needs
 
 same-length-2 : tie.Need-same-length-2 Inv-loop μ-loop
 same-length-2 c = search needs
@@ -82,7 +83,7 @@ same-length-2 c = search needs
 returns : tie.Need-returns Inv-loop μ-loop
 returns c =
     let s = c .before .before .before .before .before .before .args .album .now in
-    let l = length-lists s in
+    let counted = length-lists s in
     left-end (left-next [] [] (lines-end (listsOf s) (c .before .loop .i) (omega arith)) (c .before .loop .inv .2) (put-none _ _))
 
 pub put-lists-spec : {M : Type 1} → statement M

@@ -1,6 +1,6 @@
 -- `report_text::put_refused` meets its contract.
 -- Assumes nothing.
-use mathlib.Core.Path.{refl, sym, ap}
+use mathlib.Core.Path.{_≡_, refl, sym, ap}
 use mathlib.Core.List.{[], _∷_}
 use borrow.Author.Needs.{needs}
 use Rattle.report_text.specs.Text.{decimal, line}
@@ -18,16 +18,19 @@ number-of-requires c κs = search needs
 cast-put-named : tie.Need-cast-put-named
 cast-put-named c = search needs
 
-put-named-requires : tie.Need-put-named-requires
+-- the line by the number that the call gives
+numbered : (c : tie.After-number-of) → line (⟨refused⟩ ∷ decimal (c .number-of .result) ∷ []) ≡ refusedLine (c .before .before .before .args .why)
 unfolding refusedLine
-put-named-requires c κs = room-is (sym (ap (λ n. line (⟨refused⟩ ∷ decimal n ∷ [])) (c .before .number-of .ensures))) (c .before .before .before .before .pre)
+numbered c = ap (λ n. line (⟨refused⟩ ∷ decimal n ∷ [])) (c .number-of .ensures)
+
+put-named-requires : tie.Need-put-named-requires
+put-named-requires c κs = room-is (sym (numbered (c .before))) (c .before .before .before .before .pre)
 
 same-length : tie.Need-same-length
 same-length c = search needs
 
 returns : tie.Need-returns
-unfolding refusedLine
-returns c = put-is (ap (λ n. line (⟨refused⟩ ∷ decimal n ∷ [])) (c .before .before .before .before .number-of .ensures)) refl (c .before .before .put-named .ensures)
+returns c = put-is (numbered (c .before .before .before .before)) refl (c .before .before .put-named .ensures)
 
 pub put-refused-spec : {M : Type 1} → statement M
 put-refused-spec =

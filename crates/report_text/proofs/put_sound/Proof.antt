@@ -1,4 +1,4 @@
--- `report_text::put_sound` meets its contract.
+-- `report_text::put_sound` meets its contract: the first line, those of the lists, and the answer, for which the slice has room.
 -- Assumes nothing.
 use native.Mathlib.Omega.{arith}
 use borrow.Author.Needs.{needs}
@@ -18,13 +18,19 @@ cast-put-named : tie.Need-cast-put-named
 cast-put-named c = omega (arith, c .shared-slice-known2 .given 0)
 
 put-named-requires : tie.Need-put-named-requires
-put-named-requires c κs = first-room 65521 (c .before .before .before .before .before .before .before .args .album .now) (c .before .before .before .before .before .before .before .pre .0) (λ i. omega (arith, c .before .before .before .before .before .before .shared-slice-known .given i)) (c .before .before .before .before .before .before .before .pre .1 .2)
+put-named-requires c κs =
+    let start = c .before .before .before .before .before .before .before in
+    first-room 65521 (start .args .album .now) (start .pre .0) (λ i. omega (arith, c .before .before .before .before .before .before .shared-slice-known .given i)) (start .pre .1 .2)
 
 put-lists-requires : tie.Need-put-lists-requires
-put-lists-requires c κs = ((c .before .before .before .before .before .before .before .before .before .before .before .before .pre .0, c .before .before .before .before .before .before .before .before .before .before .before .before .pre .1 .0), lists-room 65521 (c .before .before .before .before .before .before .before .before .before .before .before .before .args .album .now) (c .before .before .before .before .before .before .before .before .before .before .before .before .pre .0) (λ i. omega (arith, c .before .before .before .before .before .before .before .before .before .before .before .shared-slice-known .given i)) (c .before .before .before .before .before .before .before .before .before .before .before .before .pre .1 .2) (c .before .before .before .before .put-named .ensures))
+put-lists-requires c κs =
+    let start = c .before .before .before .before .before .before .before .before .before .before .before .before in
+    (search needs, lists-room 65521 (start .args .album .now) (start .pre .0) (λ i. omega (arith, c .before .before .before .before .before .before .before .before .before .before .before .shared-slice-known .given i)) (start .pre .1 .2) (c .before .before .before .before .put-named .ensures))
 
 put-answer-requires : tie.Need-put-answer-requires
-put-answer-requires c κs = ((c .before .before .before .before .before .before .before .before .before .before .before .before .before .before .before .before .before .before .before .pre .0, c .before .before .before .before .before .before .before .before .before .before .before .before .before .before .before .before .before .before .before .pre .1 .1), answer-room 65521 (c .before .before .before .before .before .before .before .before .before .before .before .before .before .before .before .before .before .before .before .args .album .now) (c .before .before .before .before .before .before .before .before .before .before .before .before .before .before .before .before .before .before .before .pre .0) (λ i. omega (arith, c .before .before .before .before .before .before .before .before .before .before .before .before .before .before .before .before .before .before .shared-slice-known .given i)) (c .before .before .before .before .before .before .before .before .before .before .before .before .before .before .before .before .before .before .before .pre .1 .2) (c .before .before .before .before .before .before .before .before .before .before .before .put-named .ensures) (c .before .before .before .before .before .before .put-lists .ensures))
+put-answer-requires c κs =
+    let start = c .before .before .before .before .before .before .before .before .before .before .before .before .before .before .before .before .before .before .before in
+    (search needs, answer-room 65521 (start .args .album .now) (start .pre .0) (λ i. omega (arith, c .before .before .before .before .before .before .before .before .before .before .before .before .before .before .before .before .before .before .shared-slice-known .given i)) (start .pre .1 .2) (c .before .before .before .before .before .before .before .before .before .before .before .put-named .ensures) (c .before .before .before .before .before .before .put-lists .ensures))
 
 same-length : tie.Need-same-length
 same-length c = search needs

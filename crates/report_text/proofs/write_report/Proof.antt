@@ -1,6 +1,5 @@
 -- `report_text::write_report` meets its contract: zeros follow the text.
 -- Assumes nothing.
-use mathlib.Core.Path.{refl}
 use native.Mathlib.Omega.{arith}
 use borrow.Author.Needs.{needs}
 use Rattle.report_text.proofs.Puts.{put-inside}
@@ -18,7 +17,7 @@ slice-aggregate-report-in-2 : tie.Need-slice-aggregate-report-in-2
 slice-aggregate-report-in-2 c = search needs
 
 report-in-requires : tie.Need-report-in-requires
-report-in-requires c κs = (refl, refl, c .before .before .before .if1 .left)
+report-in-requires c κs = search needs
 
 clear-requires : tie.Need-clear-requires
 clear-requires c κs = put-inside (c .before .before .before .before .before .report-in .ensures) (omega arith)

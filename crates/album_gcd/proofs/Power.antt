@@ -9,17 +9,13 @@ use native.Mathlib.Decide.{ℕ-discrete, decLt}
 use native.Mathlib.Omega.{arith}
 use lib.ListN.{getD, length, take, List·getD-eq-default}
 use Rattle.refusal.specs.Limits.{maxWords}
-use Rattle.lists.specs.Degrees.{naiveDegree, significant, extent, power}
-use Rattle.lists.specs.Extents.{significant-le}
+use Rattle.lists.specs.Degrees.{significant, power}
+use Rattle.lists.specs.Extents.{significant-le, power-is}
 use Rattle.euclid.specs.Gcds.{commonPower}
 use Rattle.euclid.specs.Powers.{significant-nil, commonPower-le, commonPower-attained}
 use Rattle.album.specs.Workers.{Held}
 use Rattle.album.proofs.Held.{held-take}
 use Rattle.album_gcd.proofs.Zeros.{Nonzero}
-
-power-is : (c : List ℕ) → 0 < significant c → power c ≡ length c - significant c
-unfolding power naiveDegree extent
-power-is c h = let l = significant-le c in omega arith
 
 -- a list c in a slice, with k the number of its significant words
 pub list-power : {p n k : ℕ} {x c d : List ℕ} → c ≡ d → Held p x n c → k ≡ significant (take n x)
@@ -27,7 +23,7 @@ pub list-power : {p n k : ℕ} {x c d : List ℕ} → c ≡ d → Held p x n c �
 list-power {p} {n} {k} {x} {c} {d} e h q =
     let v : k ≡ significant d = q ∙ ap significant (held-take h ∙ e) in
     let w : n ≡ length d = h .words ∙ ap length e in
-    (v, omega (arith, significant-le d), λ l. omega (arith, power-is d (omega arith)))
+    (v, omega (arith, significant-le d), λ l. omega (arith, power-is d (λ z. omega arith)))
 
 module _ (lists : List (List ℕ)) where
   -- the power of a list that is not zero
@@ -80,7 +76,7 @@ module _ (lists : List (List ℕ)) where
           let c = commonPower-attained lists (one .index) (one .some) in
           let some = c .some in
           let s = short (c .index) (inside (c .index) some) in
-          omega (arith, c .is, power-is (getD lists (c .index) []) some)
+          omega (arith, c .is, power-is (getD lists (c .index) []) (λ z. omega arith))
 
       go : (a ≡ maxWords) ⊎ Found a → a ≡ commonPower lists
       go (inl e) = absurd (let k = small in let m = least in omega arith)

@@ -6,38 +6,24 @@ use mathlib.Core.List.{List, [], _∷_}
 use Prim.Native.Nat.{ℕ, _+_, _≤_, _<_}
 use native.Mathlib.Decide.{decLt}
 use native.Mathlib.Omega.{arith}
-use lib.Dec.{T, leb, leb→le}
 use lib.ListN.{length, getD, List·getD-eq-default}
 use Rattle.algebra.specs.PrimeField.{PrimeField}
 use Rattle.refusal.specs.Limits.{maxWords}
 use Rattle.refusal.specs.Refusal.{number, outcomeNumber, reply, written}
 use Rattle.refusal.specs.declared.Refusal.{Refusal}
-use Rattle.refusal.specs.declared.Refusal.the-variants.{Count, Contents, Index, Length, LooseWord, Over, Backwards, Vanishes, AllZero, Misfit, NoInverse}
+use Rattle.refusal.specs.declared.Refusal.the-variants.{Length}
 use Rattle.refusal.specs.declared.Outcome.{Outcome}
 use Rattle.refusal.specs.declared.Outcome.the-variants.{Done, Refused}
-use Rattle.refusal.proofs.Answers.{kept}
-use Rattle.lists.specs.Degrees.{naiveDegree, significant, power}
-use Rattle.lists.specs.Extents.{significant-le}
+use Rattle.refusal.proofs.Answers.{number-range, kept}
+use Rattle.lists.specs.Degrees.{significant, power}
+use Rattle.lists.specs.Extents.{significant-le, power-le}
 use Rattle.euclid.specs.Gcds.{commonPower}
 use Rattle.euclid.specs.Powers.{commonPower-le}
 use Rattle.gcd.specs.Calls.{gcdValues, GreatestSo}
 use Rattle.lists.specs.Bytes.{bytesOf}
 
-positive : (why : Refusal) → T (leb 1 (number why))
-positive Count = tt
-positive Contents = tt
-positive Index = tt
-positive Length = tt
-positive LooseWord = tt
-positive Over = tt
-positive Backwards = tt
-positive Vanishes = tt
-positive AllZero = tt
-positive Misfit = tt
-positive NoInverse = tt
-
 never-zero : (why : Refusal) → 0 ≡ number why → ⊥
-never-zero why e = let l = leb→le 1 (number why) (positive why) in omega arith
+never-zero why e = omega (arith, number-range why)
 
 pub done-reply : (found : Outcome) (v values : List ℕ) → reply Done v ≡ reply found values → (found ≡ Done) × (v ≡ values)
 done-reply Done v values e = (refl, ap (λ r. r .values) e)
@@ -81,16 +67,12 @@ pub record Small (w c rounds : ℕ) : Type 0 where
   pub count : rounds < 65536
 
 module _ (F : PrimeField) (f g slice : List ℕ) (short-f : length f ≤ maxWords) (short-g : length g ≤ maxWords) where
-  power-small : (c : List ℕ) → length c ≤ maxWords → power c ≤ maxWords
-  unfolding power naiveDegree
-  power-small c l = omega arith
-
   common-small : ¬ (significant f + significant g ≡ 0) → commonPower (f ∷ g ∷ []) ≤ maxWords
   common-small some = go (decLt 0 (significant f))
     where
       go : Dec (0 < significant f) → commonPower (f ∷ g ∷ []) ≤ maxWords
-      go (yes l) = omega (arith, commonPower-le (f ∷ g ∷ []) 0 l, power-small f short-f)
-      go (no l) = omega (arith, commonPower-le (f ∷ g ∷ []) 1 (omega arith), power-small g short-g)
+      go (yes l) = omega (arith, commonPower-le (f ∷ g ∷ []) 0 l, power-le f, short-f)
+      go (no l) = omega (arith, commonPower-le (f ∷ g ∷ []) 1 (omega arith), power-le g, short-g)
 
   degree-small : {w c rounds : ℕ} → length slice ≡ maxWords → GreatestSo F f g slice w c rounds → w < maxWords
   degree-small {w} e h = go (decLt w maxWords)

@@ -8,7 +8,7 @@ use native.Mathlib.Omega.{arith}
 use lib.ListN.{length, getD, length-append}
 use Rattle.refusal.specs.Refusal.{number}
 use Rattle.refusal.specs.declared.Refusal.{Refusal}
-use Rattle.refusal.specs.declared.Refusal.the-variants.{Count, Contents, Index, Length, LooseWord, Over, Backwards, Vanishes, AllZero, Misfit, NoInverse}
+use Rattle.refusal.proofs.Answers.{number-range}
 use Rattle.lists.specs.Degrees.{naiveDegree, significant}
 use Rattle.lists.specs.Extents.{significant-le}
 use Rattle.report_text.specs.Text.{decimal, line}
@@ -24,22 +24,9 @@ digits n l = decimal-short 4 n (omega arith)
 pub named-fits : (name : List ℕ) (n : ℕ) → n < 65536 → length (line (name ∷ decimal n ∷ [])) ≤ length name + 7
 named-fits name n l = rw (named-line name n) (simp length-append (omega (arith, digits n l)))
 
-number-small : (why : Refusal) → number why < 65536
-number-small Count = omega arith
-number-small Contents = omega arith
-number-small Index = omega arith
-number-small Length = omega arith
-number-small LooseWord = omega arith
-number-small Over = omega arith
-number-small Backwards = omega arith
-number-small Vanishes = omega arith
-number-small AllZero = omega arith
-number-small Misfit = omega arith
-number-small NoInverse = omega arith
-
 pub refused-fits : (why : Refusal) → length (refusedLine why) ≤ 14
 unfolding refusedLine
-refused-fits why = named-fits ⟨refused⟩ (number why) (number-small why)
+refused-fits why = named-fits ⟨refused⟩ (number why) (omega (arith, number-range why))
 
 end-fits : (c : List ℕ) → length c ≤ 65536 → length (lineEnd c) ≤ 13
 end-fits c l = go (ℕ-discrete (significant c) 0)

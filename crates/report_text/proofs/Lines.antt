@@ -12,7 +12,7 @@ use lib.ListN.{length, getD, drop, drop-of-length-le}
 use lib.Seq.{drop-cons}
 use borrow.Author.Tests.{eq-eqb, ne-eqb}
 use Rattle.lists.specs.Degrees.{naiveDegree, significant, extent, power}
-use Rattle.lists.specs.Extents.{significant-le}
+use Rattle.lists.specs.Extents.{power-is}
 use Rattle.report_text.specs.Text.{decimal, line}
 use Rattle.report_text.specs.Report.{⟨gcd⟩, ⟨-⟩, listLine, listLines, gcdLines}
 use Rattle.report_text.specs.Workers.{lineEnd}
@@ -27,13 +27,9 @@ module _ (c : List ℕ) {used : ℕ} (e : used ≡ significant c) where
   unfolding lineEnd line
   end-zero z = rw (eq-eqb (significant c) 0 (sym e ∙ z))
 
-  power-is : ¬ (used ≡ 0) → power c ≡ length c - used
-  unfolding power naiveDegree extent
-  power-is f = let l = significant-le c in omega arith
-
   pub end-nonzero : ¬ (used ≡ 0) → lineEnd c ≡ (32 ∷ decimal (used - 1)) ++ ((32 ∷ decimal (length c - used)) ++ (10 ∷ []))
   unfolding lineEnd line extent
-  end-nonzero f = rw (ne-eqb (significant c) 0 (λ z. f (e ∙ z)), power-is f, ← e)
+  end-nonzero f = rw (ne-eqb (significant c) 0 (λ z. f (e ∙ z)), power-is c (λ z. f (e ∙ z)), ← e)
 
 pub list-line : (i : ℕ) (c : List ℕ) → listLine i c ≡ decimal i ++ ((32 ∷ decimal (naiveDegree c)) ++ lineEnd c)
 unfolding listLine lineEnd line

@@ -17,7 +17,7 @@ use Rattle.refusal.specs.declared.Refusal.{Refusal}
 use Rattle.refusal.specs.declared.Refusal.the-variants.{AllZero}
 use Rattle.refusal.specs.declared.Outcome.the-variants.{Done, Refused}
 use Rattle.lists.specs.declared.NaiveDegree.{NaiveDegree}
-use Rattle.lists.specs.Degrees.{naiveDegree, extent, power}
+use Rattle.lists.specs.Degrees.{naiveDegree, power}
 use Rattle.euclid.specs.Gcds.{commonPower, padded}
 use Rattle.euclid.specs.Loops.{padded-inside, getD-padded}
 use Rattle.euclid.specs.Powers.{commonPower-attained}
@@ -44,16 +44,12 @@ pub record Answer (lists : List (List ℕ)) (h slice : List ℕ) (w c : ℕ) : T
   pub power : c ≡ commonPower lists
 
 -- a power is below the number of words
-power-short : (c : List ℕ) (most : ℕ) → 0 < most → length c ≤ most → power c < most
-unfolding power naiveDegree extent
-power-short c most l s = omega arith
-
 pub common-power-short : (lists : List (List ℕ)) (most : ℕ) → 0 < most → allZero lists ≡ false
     → ((j : ℕ) → j < length lists → length (getD lists j []) ≤ most) → commonPower lists < most
 common-power-short lists most l e each =
     let one = nonzero lists e in
     let a = commonPower-attained lists (one .index) (one .some) in
-    rw (a .is) (power-short (getD lists (a .index) []) most l (go (a .index) (decLt (a .index) (length lists))))
+    rw (a .is) (omega (arith, power-le (getD lists (a .index) []), go (a .index) (decLt (a .index) (length lists))))
   where
     go : (i : ℕ) → Dec (i < length lists) → length (getD lists i []) ≤ most
     go i (yes k) = each i k

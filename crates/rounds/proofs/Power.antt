@@ -6,13 +6,9 @@ use Prim.Native.Nat.{ℕ, _-_, _≤_, _<_, min}
 use native.Mathlib.Omega.{arith}
 use lib.ListN.{length}
 use borrow.Author.Tests.{eq-eqb, ne-eqb}
-use Rattle.lists.specs.Degrees.{naiveDegree, significant, extent, power}
-use Rattle.lists.specs.Extents.{significant-le}
+use Rattle.lists.specs.Degrees.{significant}
+use Rattle.lists.specs.Extents.{power-is}
 use Rattle.euclid.specs.Gcds.{powers, least, commonPower}
-
-power-is : (c : List ℕ) → ¬ (significant c ≡ 0) → power c ≡ length c - significant c
-unfolding power naiveDegree extent
-power-is c h = let l = significant-le c in omega arith
 
 least-left : (a b : ℕ) → a < b → a ≡ min a b
 least-left a b l = omega arith

@@ -1,4 +1,4 @@
--- `convolution::halving` meets its contract.
+-- `convolution::halving` meets its contract: what passes its tests is `Halving`, and the products that it compares fit.
 -- Assumes nothing.
 use Prim.Native.Nat.{_+_, _*_, _/_}
 use native.Mathlib.Omega.{arith}

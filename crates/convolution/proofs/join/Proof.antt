@@ -1,4 +1,4 @@
--- `convolution::join` meets its contract.
+-- `convolution::join` meets its contract: what `cross` leaves is small enough for `add_cross`.
 -- Assumes nothing.
 use native.Mathlib.Omega.{arith}
 use Rattle.convolution.proofs.Joining.{cross-small, joined}

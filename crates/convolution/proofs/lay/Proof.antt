@@ -1,4 +1,4 @@
--- `convolution::lay` meets its contract.
+-- `convolution::lay` meets its contract, where the factors stay whole and where they are cut.
 -- Assumes nothing.
 use Prim.Native.Nat.{_+_, _*_}
 use native.Mathlib.Omega.{arith}

@@ -1,4 +1,5 @@
--- `convolution::multiply` meets its contract: block after block.
+-- `convolution::multiply` meets its contract. The loop's invariant: the first t blocks of s are the sums of their rows, and s is 0 after
+-- them. The measure is count - t.
 -- Assumes nothing.
 use mathlib.Core.Path.{_≡_}
 use Prim.Native.Nat.{_+_, _*_, _≤_, _-_}

@@ -1,4 +1,5 @@
--- `convolution::multiply_lists` meets its contract.
+-- `convolution::multiply_lists` meets its contract: the blocks that the plan names fit the buffers, and their products, joined, are the
+-- whole product.
 -- Assumes nothing.
 use native.Mathlib.Omega.{arith}
 use Rattle.convolution.proofs.Cuts.{cut-few}

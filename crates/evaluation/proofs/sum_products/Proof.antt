@@ -1,4 +1,5 @@
 -- `evaluation::sum_products` meets its contract. The loop's invariant: `sum` has the first j products, and is at most j times the largest.
+-- The measure is how many products are left.
 -- Assumes nothing.
 use mathlib.Core.Path.{_≡_, sym, ap, _∙_}
 use Prim.Native.Nat.{_*_, _≤_, _-_}

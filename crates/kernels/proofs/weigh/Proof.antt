@@ -1,4 +1,4 @@
--- `kernels::weigh` meets its contract. The loop's invariant: the words below k are written.
+-- `kernels::weigh` meets its contract. The loop's invariant: the words below k are written. The measure is n - k.
 -- Assumes nothing.
 use mathlib.Core.Path.{_≡_, sym, _∙_}
 use Prim.Native.Nat.{_≤_, _-_}

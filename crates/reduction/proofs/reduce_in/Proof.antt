@@ -1,5 +1,5 @@
--- `reduction::reduce_in` meets its contract. The loop's invariant: what k steps leave, and the digits before those that are stored, are what
--- the whole division has.
+-- `reduction::reduce_in` meets its contract. The loop's invariant: k more steps leave what the whole division leaves, and their digits,
+-- before those in q from k on, are all its digits. The measure is k.
 -- Assumes nothing.
 use mathlib.Core.Path.{_≡_, refl, sym, _∙_}
 use mathlib.Core.List.{_++_}

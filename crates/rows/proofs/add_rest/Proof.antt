@@ -1,4 +1,5 @@
--- `rows::add_rest` meets its contract. The loop's invariant: the words below i are those of the row, and the rest is as it was.
+-- `rows::add_rest` meets its contract. The loop's invariant: the words below i are those of the row, and the rest is as it was. The measure
+-- is n - i.
 -- Assumes nothing.
 use Prim.Native.Nat.{_≤_, _-_}
 use native.Mathlib.Omega.{arith}

@@ -1,5 +1,5 @@
--- `rows::montgomery_row` meets its contract. The loop's invariant: g and s are the constants of m, the words below j are those of the
--- row, and the rest is as it was.
+-- `rows::montgomery_row` meets its contract. The loop's invariant: g and s are the constants of m, the words below j are those of the row,
+-- and the rest is as it was. The measure is n - j.
 -- Assumes nothing.
 use Prim.Native.Nat.{_≤_, _-_}
 use native.Mathlib.Omega.{arith}

@@ -1,4 +1,5 @@
--- `wide_rows::add_all` meets its contract.
+-- `wide_rows::add_all` meets its contract. The loop's invariant: s has the first g groups of eight rows. The measure is how many groups are
+-- left.
 -- Assumes nothing.
 use mathlib.Core.Path.{_≡_}
 use Prim.Native.Nat.{_/_, _≤_, _-_}

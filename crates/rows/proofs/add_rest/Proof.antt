@@ -49,11 +49,10 @@ loop-less : tie.Need-loop-less Inv-loop μ-loop
 loop-less c = search needs
 
 loop-again : tie.Need-loop-again Inv-loop μ-loop
-loop-again c =
-    let n = c .before .before .before .before .before .smaller .ensures in (
-      search needs,
-      next 65521 _ _ _ _ _ (omega arith) (omega arith) (c .before .before .before .before .loop .inv .1) (c .add-mul .ensures),
-    )
+loop-again c = (
+  search needs,
+  next 65521 _ _ _ _ _ (omega arith) (omega arith) (c .before .before .before .before .loop .inv .1) (c .add-mul .ensures),
+)
 
 same-length : tie.Need-same-length Inv-loop μ-loop
 same-length c = search needs

@@ -14,7 +14,6 @@ use Rattle.lists.specs.Words.{ZeroFrom}
 use Rattle.rows.specs.Rows.{rowFrom}
 use Rattle.rows.proofs.RowWords.{row-cut, length-rowFrom, rowFrom-at, rowFrom-above, rowFrom-below}
 use Rattle.reduction.specs.Reduction.{negated, lessProductTo, lessProduct}
-use Rattle.reduction.proofs.Steps.{length-lessProduct}
 
 module _ (p : ℕ) (pos : 0 < p) (c : ℕ) {t : List ℕ} (zt : ZeroFrom c t) where
   rowFrom-cut : (k : ℕ) (x : List ℕ) (m : ℕ) → ((j : ℕ) → getD x j 0 < p) → rowFrom p k x m (take c t) ≡ rowFrom p k x m t

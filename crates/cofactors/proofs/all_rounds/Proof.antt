@@ -1,7 +1,7 @@
 -- `cofactors::all_rounds` meets its contract. The loop's invariant: the rounds have led from the first rows to these, the parts x of
 -- which have nu and nv significant words. The measure is nv.
 -- Assumes nothing.
-use mathlib.Core.Path.{_≡_, refl, sym, _∙_}
+use mathlib.Core.Path.{_≡_, sym, _∙_}
 use Prim.Native.Nat.{_+_}
 use native.Mathlib.Omega.{arith}
 use lib.ListN.{length, length-take}
@@ -60,7 +60,7 @@ significant-words-requires-2 : tie.Need-significant-words-requires-2 Inv-loop μ
 significant-words-requires-2 c κs = search needs
 
 loop-holds : tie.Need-loop-holds Inv-loop μ-loop
-loop-holds c = (c .before .before .before .before .before .before .before .pre .0, refl, c .before .before .significant-words .ensures, c .significant-words2 .ensures)
+loop-holds c = search needs
 
 same-length : tie.Need-same-length Inv-loop μ-loop
 same-length c = search needs

@@ -24,7 +24,7 @@ slice-reshare-prefix-significant-words : tie.Need-slice-reshare-prefix-significa
 slice-reshare-prefix-significant-words c = search needs
 
 slice-aggregate-significant-words : tie.Need-slice-aggregate-significant-words
-slice-aggregate-significant-words c = simp length-take (omega arith)
+slice-aggregate-significant-words c = search needs
 
 significant-words-requires : tie.Need-significant-words-requires
 significant-words-requires c κs = search needs

@@ -23,7 +23,7 @@ mul-add-eight : tie.Need-mul-add-eight Inv-loop μ-loop
 mul-add-eight c = search needs
 
 add-eight-requires : tie.Need-add-eight-requires Inv-loop μ-loop
-add-eight-requires c κs = (omega arith, omega arith, omega arith)
+add-eight-requires c κs = search needs
 
 add-g : tie.Need-add-g Inv-loop μ-loop
 add-g c = search needs

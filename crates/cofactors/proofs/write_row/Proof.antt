@@ -18,7 +18,7 @@ low c =
     let most = significant-le (take 256 (c .before .before .before .before .before .before .args .row .now)) in
     let size = c .before .before .before .before .before .before .pre .0 .buffer .size in
     let some = c .before .before .before .before .before .before .pre .0 .some in
-    (omega (arith, c .significant-words .ensures), omega (arith, c .significant-words .ensures), c .before .before .before .before .before .before .pre .0 .size)
+    (omega arith, omega arith, c .before .before .before .before .before .before .pre .0 .size)
 
 slice-reshare-prefix-significant-words : tie.Need-slice-reshare-prefix-significant-words
 slice-reshare-prefix-significant-words c = search needs
@@ -79,7 +79,7 @@ same-length-4 c = search needs
 
 returns : tie.Need-returns
 returns c = row-written F65521 256 (c .before .before .before .before .before .before .before .before .before .before .before .before .before .before .before .before .before .before .before .before .before .before .before .before .before .args .row .now) (c .before .before .before .before .before .before .before .before .before .before .before .before .before .before .before .before .before .before .before .before .before .before .before .before .before .pre .0) _ _ (c .before .before .before .before .before .before .before .before .before .before .before .before .before .before .before .before .before .before .before .significant-words .ensures) (c .before .before .before .before .before .before .before .before .before .before .before .before .before .before .before .before .before .inverse-or-zero .ensures) (c .before .before .before .before .before .before .before .before .before .before .before .before .before .before .before .before .before .before .before .before .before .before .before .before .before .args .h .now) _ _ _ (c .before .before .before .before .before .before .before .before .before .before .before .before .before .before .before .before .before .before .before .before .before .before .before .before .before .pre .1 .0)
-    (front-kept 256 (c .before .before .before .before .before .before .before .before .before .before .before .before .before .before .before .before .before .before .before .before .before .before .before .before .before .args .row .now) (c .before .before .before .before .before .before .before .before .before .before .before .before .before .write-pair .last .0 ++ drop (length (c .before .before .before .before .before .before .before .before .before .before .before .before .before .before .before .before .before .before .before .before .before .before .before .before .before .args .row .now) - 256) (drop 256 (c .before .before .before .before .before .before .before .before .before .before .before .before .before .before .before .before .before .before .before .before .before .before .before .before .before .args .row .now))) (omega (arith, c .before .before .before .before .before .before .before .before .before .before .before .before .before .before .before .before .before .before .before .before .before .before .before .before .before .pre .0 .size))) (omega arith) (c .before .before .before .before .write-list .ensures .1) (c .before .before .before .before .before .before .before .before .before .before .before .before .before .write-pair .ensures .0) (c .before .before .before .before .before .before .before .before .before .before .before .before .before .write-pair .ensures .1)
+    (front-kept 256 (c .before .before .before .before .before .before .before .before .before .before .before .before .before .before .before .before .before .before .before .before .before .before .before .before .before .args .row .now) (c .before .before .before .before .before .before .before .before .before .before .before .before .before .write-pair .last .0 ++ drop (length (c .before .before .before .before .before .before .before .before .before .before .before .before .before .before .before .before .before .before .before .before .before .before .before .before .before .args .row .now) - 256) (drop 256 (c .before .before .before .before .before .before .before .before .before .before .before .before .before .before .before .before .before .before .before .before .before .before .before .before .before .args .row .now))) (omega arith)) (omega arith) (c .before .before .before .before .write-list .ensures .1) (c .before .before .before .before .before .before .before .before .before .before .before .before .before .write-pair .ensures .0) (c .before .before .before .before .before .before .before .before .before .before .before .before .before .write-pair .ensures .1)
 
 pub write-row-spec : {M : Type 1} → statement M
 write-row-spec =

@@ -49,7 +49,7 @@ loop-again c =
     let args = c .before .before .before .before .before .before .before .args in
     let loop = c .before .before .before .before .loop in
     let next = products-next (args .s .now) (args .k) (args .u .now) (loop .j) (loop .inv .1) (c .add-product .ensures .0) in
-    (search needs, next, omega (arith, c .add-product .ensures .1))
+    (search needs, next, omega arith)
 
 returns : tie.Need-returns Inv-loop μ-loop
 returns c =

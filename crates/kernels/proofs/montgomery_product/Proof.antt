@@ -14,11 +14,11 @@ use Rattle.kernels.proofs.montgomery_product.Tie as tie
 high-small : (c : tie.After-high-half2) → c .before .before .before .high-half .result < c .before .before .before .before .args .p
 high-small c =
     let start = c .before .before .before .before in
-    rw (c .before .before .before .high-half .ensures) (high-below (start .args .x) (start .fits .x .fits) (le-of-lt (start .pre)) (omega (arith, start .pre)))
+    rw (c .before .before .before .high-half .ensures) (high-below (start .args .x) (start .fits .x .fits) (le-of-lt (start .pre)) (omega arith))
 
 less-small : (c : tie.After-high-half2) → c .high-half2 .result < c .before .before .before .before .args .p
 less-small c =
-    rw (c .high-half2 .ensures) (high-below (c .before .low-half2 .result) (omega (arith, c .before .low-half2 .ensures)) (le-refl _) (omega (arith, c .before .before .before .before .pre)))
+    rw (c .high-half2 .ensures) (high-below (c .before .low-half2 .result) (omega arith) (le-refl _) (omega arith))
 
 -- their difference
 is-product : (c : tie.After-high-half2) →

@@ -1,7 +1,7 @@
 -- `cofactors::all_rounds` meets its contract. The loop's invariant: the rounds have led from the first rows to these, the parts x of
 -- which have nu and nv significant words. The measure is nv.
 -- Assumes nothing.
-use mathlib.Core.Path.{_≡_, refl, sym, _∙_}
+use mathlib.Core.Path.{_≡_, sym, _∙_}
 use Prim.Native.Nat.{_+_}
 use native.Mathlib.Omega.{arith}
 use lib.ListN.{length, length-take}
@@ -41,26 +41,26 @@ second c =
 
 slice-reshare-prefix-significant-words :
     tie.Need-slice-reshare-prefix-significant-words Inv-loop μ-loop
-slice-reshare-prefix-significant-words c = let l = c .before .before .before .pre .0 .size-u in search needs
+slice-reshare-prefix-significant-words c = let size = c .before .before .before .pre .0 .size-u in search needs
 
 slice-aggregate-significant-words : tie.Need-slice-aggregate-significant-words Inv-loop μ-loop
-slice-aggregate-significant-words c = let l = c .before .before .before .before .pre .0 .size-u in simp length-take (omega arith)
+slice-aggregate-significant-words c = let size = c .before .before .before .before .pre .0 .size-u in simp length-take (omega arith)
 
 significant-words-requires : tie.Need-significant-words-requires Inv-loop μ-loop
 significant-words-requires c κs = search needs
 
 slice-reshare-prefix-significant-words-2 :
     tie.Need-slice-reshare-prefix-significant-words-2 Inv-loop μ-loop
-slice-reshare-prefix-significant-words-2 c = let l = c .before .before .before .before .before .pre .0 .size-v in search needs
+slice-reshare-prefix-significant-words-2 c = let size = c .before .before .before .before .before .pre .0 .size-v in search needs
 
 slice-aggregate-significant-words-2 : tie.Need-slice-aggregate-significant-words-2 Inv-loop μ-loop
-slice-aggregate-significant-words-2 c = let l = c .before .before .before .before .before .before .pre .0 .size-v in simp length-take (omega arith)
+slice-aggregate-significant-words-2 c = let size = c .before .before .before .before .before .before .pre .0 .size-v in simp length-take (omega arith)
 
 significant-words-requires-2 : tie.Need-significant-words-requires-2 Inv-loop μ-loop
 significant-words-requires-2 c κs = search needs
 
 loop-holds : tie.Need-loop-holds Inv-loop μ-loop
-loop-holds c = (c .before .before .before .before .before .before .before .pre .0, refl, c .before .before .significant-words .ensures, c .significant-words2 .ensures)
+loop-holds c = search needs
 
 same-length : tie.Need-same-length Inv-loop μ-loop
 same-length c = search needs
@@ -82,7 +82,7 @@ turn-requires c κs =
     ((i .0 .size-u, i .0 .size-v, i .1 ∙ c .before .before .before .before .before .before .before .before .before .before .before .before .pre .1), (i .0 .turning .left, (i .0 .turning .right, ((i .2, i .3, omega arith), carried-cut F65521 maxWords _ _ _ _ _ (i .0)))))
 
 add-rounds : tie.Need-add-rounds Inv-loop μ-loop
-add-rounds c = let l = first (c .before .before .before .before) .few in search needs
+add-rounds c = let few = first (c .before .before .before .before) .few in search needs
 
 same-length-4 : tie.Need-same-length-4 Inv-loop μ-loop
 same-length-4 c = search needs
@@ -105,12 +105,12 @@ turn-requires-2 c κs =
     ((i .size-u, i .size-v, omega arith), (i .turning .left, (i .turning .right, ((c .before .before .before .before .before .before .before .before .before .before .before .before .before .loop .inv .3, t .turn .ensures .0, omega arith), carried-cut F65521 maxWords _ _ _ _ _ i))))
 
 add-rounds-2 : tie.Need-add-rounds-2 Inv-loop μ-loop
-add-rounds-2 c = let l = first (c .before .before .before .before .before .before .before .before .before .before .before .before .before) .few in search needs
+add-rounds-2 c = let few = first (c .before .before .before .before .before .before .before .before .before .before .before .before .before) .few in search needs
 
 loop-less : tie.Need-loop-less Inv-loop μ-loop
 loop-less c =
-    let a = first (c .before .before .before .before .before .before .before .before .before .before .before .before .before) .smaller in
-    let b = second (c .before .before .before .before) .smaller in
+    let less-u = first (c .before .before .before .before .before .before .before .before .before .before .before .before .before) .smaller in
+    let less-v = second (c .before .before .before .before) .smaller in
     omega arith
 
 loop-again : tie.Need-loop-again Inv-loop μ-loop

@@ -7,7 +7,7 @@ use Rattle.cofactors.proofs.cofactors_in.Statement.{statement}
 use Rattle.cofactors.proofs.cofactors_in.Tie as tie
 
 find-last-requires : tie.Need-find-last-requires
-find-last-requires c κs = let pre = c .before .before .before .before .before .before .before .before .before .before .before .pre in (pre .0, (pre .1 .1 .0, (pre .1 .1 .1 .0, pre .1 .1 .1 .1)))
+find-last-requires c κs = search needs
 
 write-last-requires : tie.Need-write-last-requires
 write-last-requires c κs = (last-row F65521 (c .before .before .before .before .before .before .before .before .before .before .before .find-last .ensures), slices-short F65521 (c .before .before .before .before .before .before .before .before .before .before .before .before .before .before .before .before .before .before .before .before .before .before .before .pre .0) (c .before .before .before .before .before .before .before .before .before .before .before .before .before .before .before .before .before .before .before .before .before .before .before .pre .1 .0))

@@ -28,7 +28,7 @@ same-length-3 : tie.Need-same-length-3
 same-length-3 c = search needs
 
 returns : tie.Need-returns
-returns c = c .before .before .before .before .before .before .before .before .before .cofactors-in .ensures
+returns c = search needs
 
 pub cofactors-into-spec : {M : Type 1} → statement M
 cofactors-into-spec =

@@ -48,9 +48,9 @@ same-length-3 c = search needs
 returns : tie.Need-returns
 returns c =
     let start = c .before .before .before .before .before .before .before .before .before .before .before .before in
-    let e = sym (c .before .before .before .judge-cofactors .ensures) ∙ c .before .answer .given .1 in
-    let z = refused F65521 (start .args .f .now) (start .args .g .now) (start .args .h .now) e in
-    (z .0, (z .1, (kept (cofactorA F65521 (start .args .f .now) (start .args .g .now)) (start .args .a .now) e, (kept (cofactorB F65521 (start .args .f .now) (start .args .g .now)) (start .args .b .now) e, (tt, tt)))))
+    let found = sym (c .before .before .before .judge-cofactors .ensures) ∙ c .before .answer .given .1 in
+    let of-gcd = refused F65521 (start .args .f .now) (start .args .g .now) (start .args .h .now) found in
+    (of-gcd .0, (of-gcd .1, (kept (cofactorA F65521 (start .args .f .now) (start .args .g .now)) (start .args .a .now) found, (kept (cofactorB F65521 (start .args .f .now) (start .args .g .now)) (start .args .b .now) found, (tt, tt)))))
 
 same-length-4 : tie.Need-same-length-4
 same-length-4 c = search needs
@@ -64,9 +64,9 @@ same-length-6 c = search needs
 returns-2 : tie.Need-returns-2
 returns-2 c =
     let start = c .before .before .before .before .before .before .before .before .before .before .before .before .before .before .before .before .before .before .before .before .before in
-    let e = sym (c .before .before .before .before .before .before .before .before .before .before .before .before .judge-cofactors .ensures) ∙ c .before .before .before .before .before .before .before .before .before .before .enum-told .given .1 in
-    let z = cofactors-answered F65521 (start .args .f .now) (start .args .g .now) (start .args .h .now) (start .args .a .now) (start .args .b .now) e (found-ready _ _ _ _ _ e .0) (c .before .before .before .before .before .before .cofactors-into .ensures) in
-    (z .0, (z .1, (z .2, (z .3, (z .4, z .5)))))
+    let found = sym (c .before .before .before .before .before .before .before .before .before .before .before .before .judge-cofactors .ensures) ∙ c .before .before .before .before .before .before .before .before .before .before .enum-told .given .1 in
+    let all = cofactors-answered F65521 (start .args .f .now) (start .args .g .now) (start .args .h .now) (start .args .a .now) (start .args .b .now) found (found-ready _ _ _ _ _ found .0) (c .before .before .before .before .before .before .cofactors-into .ensures) in
+    (all .0, (all .1, (all .2, (all .3, (all .4, all .5)))))
 
 pub find-cofactors-spec : {M : Type 1} → statement M
 find-cofactors-spec =

@@ -10,10 +10,10 @@ use Rattle.cofactors.proofs.find_last.Statement.{statement}
 use Rattle.cofactors.proofs.find_last.Tie as tie
 
 start-row-requires : tie.Need-start-row-requires
-start-row-requires c κs = let pre = c .before .before .before .before .before .before .pre in ((pre .0 .short-g, pre .1 .0 .0), ((omega arith, omega (arith, pre .1 .0 .0)), pre .1 .1 .0))
+start-row-requires c κs = let pre = c .before .before .before .before .before .before .pre in ((pre .0 .short-g, pre .1 .0 .0), ((omega arith, omega arith), pre .1 .1 .0))
 
 start-row-requires-2 : tie.Need-start-row-requires-2
-start-row-requires-2 c κs = let pre = c .before .before .before .before .before .before .before .before .before .before .pre in ((pre .0 .short-f, pre .1 .0 .1), ((omega arith, omega (arith, pre .1 .0 .1)), pre .1 .1 .1))
+start-row-requires-2 c κs = let pre = c .before .before .before .before .before .before .before .before .before .before .pre in ((pre .0 .short-f, pre .1 .0 .1), ((omega arith, omega arith), pre .1 .1 .1))
 
 all-rounds-requires : tie.Need-all-rounds-requires
 all-rounds-requires c κs = (carried-start F65521 maxWords (omega arith) (c .before .before .before .before .before .before .before .before .before .start-row .ensures) (c .before .before .before .before .before .start-row2 .ensures), c .before .before .before .before .before .before .before .before .before .before .before .before .before .before .before .before .pre .1 .0 .2)

@@ -14,37 +14,43 @@ use Rattle.cofactors.proofs.Turns.{turn-steps, turn-left, turn-row}
 use Rattle.cofactors.proofs.turn.Statement.{statement}
 use Rattle.cofactors.proofs.turn.Tie as tie
 
+-- the significant words of the parts x stand in the rows
+few-u : (s : tie.Start) → s .args .nu ≤ 256
+few-u s = omega (arith, significant-le (partX 256 (s .args .u .now)), s .pre .1 .0 .size)
+
+few-v : (s : tie.Start) → s .args .nv ≤ 256
+few-v s = omega (arith, significant-le (partX 256 (s .args .v .now)), s .pre .1 .1 .0 .size)
+
 -- the quotient has at most 256 words
 few : (c : tie.After-round) → c .round .result ≤ 256
 unfolding F65521
 few c =
-    let a = c .before .before .before .before .before .before .before .args in
     let pre = c .before .before .before .before .before .before .before .pre in
-    turn-steps F65521 256 (a .u .now) (a .v .now) (a .q .now) (a .nu) (a .nv) (pre .0 .0) (pre .0 .2) (pre .1 .0) (pre .1 .1 .0) (pre .1 .1 .1 .0 .0) (pre .1 .1 .1 .0 .1) (pre .1 .1 .1 .0 .2) (c .round .ensures .0)
+    turn-steps F65521 256 _ _ _ _ _ (pre .0 .0) (pre .0 .2) (pre .1 .0) (pre .1 .1 .0) (pre .1 .1 .1 .0 .0) (pre .1 .1 .1 .0 .1) (pre .1 .1 .1 .0 .2) (c .round .ensures .0)
 
 -- the part of u has its length again
 long : (c : tie.After-round) → length (c .round .last .0) ≡ c .before .before .before .before .before .before .before .args .nu
 long c =
     let s = c .before .before .before .before .before .before .before in
-    c .round .kept .0 ∙ length-take-le (s .args .nu) (s .args .u .now) (omega (arith, significant-le (partX 256 (s .args .u .now)), s .pre .1 .0 .size))
+    c .round .kept .0 ∙ length-take-le (s .args .nu) (s .args .u .now) (omega (arith, few-u s))
 
 slice-relend-prefix-round : tie.Need-slice-relend-prefix-round
-slice-relend-prefix-round c = let s = c .before .before .before in omega (arith, significant-le (partX 256 (s .args .u .now)), s .pre .1 .0 .size)
+slice-relend-prefix-round c = omega (arith, few-u (c .before .before .before))
 
 slice-aggregate-round : tie.Need-slice-aggregate-round
-slice-aggregate-round c = let s = c .before .before .before .before in simp length-take (omega (arith, significant-le (partX 256 (s .args .u .now)), s .pre .1 .0 .size))
+slice-aggregate-round c = simp length-take (omega (arith, few-u (c .before .before .before .before)))
 
 slice-aggregate-round-2 : tie.Need-slice-aggregate-round-2
-slice-aggregate-round-2 c = let s = c .before .before .before .before .before in simp length-take (omega (arith, significant-le (partX 256 (s .args .v .now)), s .pre .1 .1 .0 .size))
+slice-aggregate-round-2 c = simp length-take (omega (arith, few-v (c .before .before .before .before .before)))
 
 round-requires : tie.Need-round-requires
 round-requires c κs = search needs
 
 slice-reshare-prefix-significant-words : tie.Need-slice-reshare-prefix-significant-words
-slice-reshare-prefix-significant-words c = let s = c .before .before .before .before .before .before .before .before .before .before .before in omega (arith, significant-le (partX 256 (s .args .u .now)), s .pre .1 .0 .size)
+slice-reshare-prefix-significant-words c = omega (arith, few-u (c .before .before .before .before .before .before .before .before .before .before .before))
 
 slice-aggregate-significant-words : tie.Need-slice-aggregate-significant-words
-slice-aggregate-significant-words c = let s = c .before .before .before .before .before .before .before .before .before .before .before .before in simp length-take (omega (arith, significant-le (partX 256 (s .args .u .now)), s .pre .1 .0 .size))
+slice-aggregate-significant-words c = simp length-take (omega (arith, few-u (c .before .before .before .before .before .before .before .before .before .before .before .before)))
 
 significant-words-requires : tie.Need-significant-words-requires
 significant-words-requires c κs = search needs
@@ -59,10 +65,10 @@ part-take-off-end : tie.Need-part-take-off-end
 part-take-off-end c = search needs
 
 slice-reshare-prefix-take-off : tie.Need-slice-reshare-prefix-take-off
-slice-reshare-prefix-take-off c = let l = few (c .before .before .before .before .before .before .before) in search needs
+slice-reshare-prefix-take-off c = let steps = few (c .before .before .before .before .before .before .before) in search needs
 
 slice-aggregate-take-off : tie.Need-slice-aggregate-take-off
-slice-aggregate-take-off c = let l = few (c .before .before .before .before .before .before .before .before) in simp length-take (omega arith)
+slice-aggregate-take-off c = let steps = few (c .before .before .before .before .before .before .before .before) in simp length-take (omega arith)
 
 sub-take-off-2 : tie.Need-sub-take-off-2
 sub-take-off-2 c = search needs
@@ -76,14 +82,14 @@ part-take-off-end-2 c = search needs
 words-read-requires : tie.Need-words-read-requires
 words-read-requires c κs =
     let s = c .before .before .before .before .before .before .before .before .before .before .before .before .before .before .before .before in
-    (omega (arith, significant-le (partX 256 (s .args .u .now)), s .pre .1 .0 .size), omega (arith, significant-le (partX 256 (s .args .v .now)), s .pre .1 .1 .0 .size), omega arith)
+    (omega (arith, few-u s), omega (arith, few-v s), omega arith)
 
 take-off-requires : tie.Need-take-off-requires
 take-off-requires c κs =
-    let l = few (c .before .before .before .before .before .before .before .before .before .before) in
-    let e = long (c .before .before .before .before .before .before .before .before .before .before) in
+    let steps = few (c .before .before .before .before .before .before .before .before .before .before) in
+    let size = long (c .before .before .before .before .before .before .before .before .before .before) in
     let s = c .before .before .before .before .before .before .before .before .before .before .before .before .before .before .before .before .before in
-    (simp (length-take, length-drop, length-append) (omega (arith, significant-le (partX 256 (s .args .u .now)), s .pre .1 .0 .size)), simp (length-take, length-drop) (omega arith), simp length-take (omega arith), omega arith)
+    (simp (length-take, length-drop, length-append) (omega (arith, few-u s)), simp (length-take, length-drop) (omega arith), simp length-take (omega arith), omega arith)
 
 same-length : tie.Need-same-length
 same-length c = search needs
@@ -94,11 +100,10 @@ same-length-2 c = search needs
 returns : tie.Need-returns
 unfolding F65521
 returns c =
-    let a = c .before .before .before .before .before .before .before .before .before .before .before .before .before .before .before .before .before .before .before .before .args in
     let pre = c .before .before .before .before .before .before .before .before .before .before .before .before .before .before .before .before .before .before .before .before .pre in
     let r = c .before .before .before .before .before .before .before .before .before .before .before .before .before .round in
-    let row = turn-row F65521 256 (a .u .now) (a .v .now) (a .q .now) (a .nu) (a .nv) (pre .0 .0) (pre .0 .2) (pre .1 .0) (pre .1 .1 .0) (pre .1 .1 .1 .0 .0) (pre .1 .1 .1 .0 .1) (pre .1 .1 .1 .0 .2) (r .ensures .0) (r .ensures .1 .1) (r .ensures .1 .0) (c .before .before .before .words-read .result) (c .before .before .before .words-read .ensures .0) (c .before .before .before .words-read .ensures .1) (pre .1 .1 .1 .1) (c .before .before .take-off .ensures) in
-    let left = turn-left F65521 256 (a .u .now) (a .v .now) (a .q .now) (a .nu) (a .nv) (pre .0 .0) (pre .0 .2) (pre .1 .0) (pre .1 .1 .0) (pre .1 .1 .1 .0 .0) (pre .1 .1 .1 .0 .1) (pre .1 .1 .1 .0 .2) (r .ensures .0) (r .ensures .1 .1) (r .ensures .1 .0) (long (c .before .before .before .before .before .before .before .before .before .before .before .before .before)) in
+    let row = turn-row F65521 256 _ _ _ _ _ (pre .0 .0) (pre .0 .2) (pre .1 .0) (pre .1 .1 .0) (pre .1 .1 .1 .0 .0) (pre .1 .1 .1 .0 .1) (pre .1 .1 .1 .0 .2) (r .ensures .0) (r .ensures .1 .1) (r .ensures .1 .0) (c .before .before .before .words-read .result) (c .before .before .before .words-read .ensures .0) (c .before .before .before .words-read .ensures .1) (pre .1 .1 .1 .1) (c .before .before .take-off .ensures) in
+    let left = turn-left F65521 256 _ _ _ _ _ (pre .0 .0) (pre .0 .2) (pre .1 .0) (pre .1 .1 .0) (pre .1 .1 .1 .0 .0) (pre .1 .1 .1 .0 .1) (pre .1 .1 .1 .0 .2) (r .ensures .0) (r .ensures .1 .1) (r .ensures .1 .0) (long (c .before .before .before .before .before .before .before .before .before .before .before .before .before)) in
     (c .before .before .before .before .before .before .before .significant-words .ensures ∙ left ∙ ap (λ l. significant (take 256 l)) (sym row), row)
 
 pub turn-spec : {M : Type 1} → statement M

@@ -15,16 +15,16 @@ use Rattle.cofactors.proofs.write_row.Tie as tie
 -- the last word of x stands in the row
 low : (c : tie.After-significant-words) → (c .significant-words .result ≤ 256) × (1 ≤ c .significant-words .result) × (length (c .before .before .before .before .before .before .args .row .now) ≡ 768)
 low c =
-    let l = significant-le (take 256 (c .before .before .before .before .before .before .args .row .now)) in
-    let e = c .before .before .before .before .before .before .pre .0 .buffer .size in
-    let s = c .before .before .before .before .before .before .pre .0 .some in
-    (omega (arith, c .significant-words .ensures), omega (arith, c .significant-words .ensures), c .before .before .before .before .before .before .pre .0 .size)
+    let most = significant-le (take 256 (c .before .before .before .before .before .before .args .row .now)) in
+    let size = c .before .before .before .before .before .before .pre .0 .buffer .size in
+    let some = c .before .before .before .before .before .before .pre .0 .some in
+    (omega arith, omega arith, c .before .before .before .before .before .before .pre .0 .size)
 
 slice-reshare-prefix-significant-words : tie.Need-slice-reshare-prefix-significant-words
 slice-reshare-prefix-significant-words c = search needs
 
 slice-aggregate-significant-words : tie.Need-slice-aggregate-significant-words
-slice-aggregate-significant-words c = simp length-take (omega arith)
+slice-aggregate-significant-words c = search needs
 
 significant-words-requires : tie.Need-significant-words-requires
 significant-words-requires c κs = search needs
@@ -33,10 +33,10 @@ sub-inverse-or-zero : tie.Need-sub-inverse-or-zero
 sub-inverse-or-zero c = search needs
 
 mul-inverse-or-zero : tie.Need-mul-inverse-or-zero
-mul-inverse-or-zero c = let l = low (c) in search needs
+mul-inverse-or-zero c = let last = low c in search needs
 
 slice-read-inverse-or-zero : tie.Need-slice-read-inverse-or-zero
-slice-read-inverse-or-zero c = let l = low (c .before) in search needs
+slice-read-inverse-or-zero c = let last = low (c .before) in search needs
 
 inverse-or-zero-requires : tie.Need-inverse-or-zero-requires
 inverse-or-zero-requires c κs = search needs
@@ -79,7 +79,7 @@ same-length-4 c = search needs
 
 returns : tie.Need-returns
 returns c = row-written F65521 256 (c .before .before .before .before .before .before .before .before .before .before .before .before .before .before .before .before .before .before .before .before .before .before .before .before .before .args .row .now) (c .before .before .before .before .before .before .before .before .before .before .before .before .before .before .before .before .before .before .before .before .before .before .before .before .before .pre .0) _ _ (c .before .before .before .before .before .before .before .before .before .before .before .before .before .before .before .before .before .before .before .significant-words .ensures) (c .before .before .before .before .before .before .before .before .before .before .before .before .before .before .before .before .before .inverse-or-zero .ensures) (c .before .before .before .before .before .before .before .before .before .before .before .before .before .before .before .before .before .before .before .before .before .before .before .before .before .args .h .now) _ _ _ (c .before .before .before .before .before .before .before .before .before .before .before .before .before .before .before .before .before .before .before .before .before .before .before .before .before .pre .1 .0)
-    (front-kept 256 (c .before .before .before .before .before .before .before .before .before .before .before .before .before .before .before .before .before .before .before .before .before .before .before .before .before .args .row .now) (c .before .before .before .before .before .before .before .before .before .before .before .before .before .write-pair .last .0 ++ drop (length (c .before .before .before .before .before .before .before .before .before .before .before .before .before .before .before .before .before .before .before .before .before .before .before .before .before .args .row .now) - 256) (drop 256 (c .before .before .before .before .before .before .before .before .before .before .before .before .before .before .before .before .before .before .before .before .before .before .before .before .before .args .row .now))) (let s = c .before .before .before .before .before .before .before .before .before .before .before .before .before .before .before .before .before .before .before .before .before .before .before .before .before .pre .0 .size in omega arith)) (omega arith) (c .before .before .before .before .write-list .ensures .1) (c .before .before .before .before .before .before .before .before .before .before .before .before .before .write-pair .ensures .0) (c .before .before .before .before .before .before .before .before .before .before .before .before .before .write-pair .ensures .1)
+    (front-kept 256 (c .before .before .before .before .before .before .before .before .before .before .before .before .before .before .before .before .before .before .before .before .before .before .before .before .before .args .row .now) (c .before .before .before .before .before .before .before .before .before .before .before .before .before .write-pair .last .0 ++ drop (length (c .before .before .before .before .before .before .before .before .before .before .before .before .before .before .before .before .before .before .before .before .before .before .before .before .before .args .row .now) - 256) (drop 256 (c .before .before .before .before .before .before .before .before .before .before .before .before .before .before .before .before .before .before .before .before .before .before .before .before .before .args .row .now))) (omega arith)) (omega arith) (c .before .before .before .before .write-list .ensures .1) (c .before .before .before .before .before .before .before .before .before .before .before .before .before .write-pair .ensures .0) (c .before .before .before .before .before .before .before .before .before .before .before .before .before .write-pair .ensures .1)
 
 pub write-row-spec : {M : Type 1} → statement M
 write-row-spec =

@@ -1,4 +1,5 @@
--- `convolution::add_cross` meets its contract.
+-- `convolution::add_cross` meets its contract. The loop's invariant: k words from h on have those of the third block added, the others are
+-- what they were. The measure is 2 h - k.
 -- Assumes nothing.
 use mathlib.Core.Path.{_≡_}
 use Prim.Native.Nat.{_*_, _≤_, _-_}

@@ -1,4 +1,5 @@
--- `convolution::add_halves` meets its contract.
+-- `convolution::add_halves` meets its contract. The loop's invariant: k words of the third block are the sums of those of the first two, the
+-- others are what they were. The measure is d - k.
 -- Assumes nothing.
 use mathlib.Core.Path.{_≡_}
 use Prim.Native.Nat.{_*_, _≤_, _-_}

@@ -1,4 +1,4 @@
--- `convolution::convolve` meets its contract.
+-- `convolution::convolve` meets its contract: its tests are `convolveFits`.
 -- Assumes nothing.
 use Prim.Native.Nat.{_+_}
 use native.Mathlib.Omega.{arith}

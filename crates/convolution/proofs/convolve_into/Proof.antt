@@ -1,4 +1,4 @@
--- `convolution::convolve_into` meets its contract.
+-- `convolution::convolve_into` meets its contract: it lends arrays of zeros.
 -- Assumes nothing.
 use mathlib.Core.Path.{refl}
 use borrow.Author.Needs.{needs}

@@ -1,4 +1,5 @@
--- `convolution::cross` meets its contract.
+-- `convolution::cross` meets its contract. The loop's invariant: k words of the third block have those of the first two taken off, the
+-- others are what they were. The measure is 2 h - k.
 -- Assumes nothing.
 use mathlib.Core.Path.{_≡_}
 use Prim.Native.Nat.{_*_, _≤_, _-_}

@@ -1,4 +1,4 @@
--- `convolution::halve_second` meets its contract.
+-- `convolution::halve_second` meets its contract: the words of the halves are below 2^16, so that their sums fit; the law is `second-halves`.
 -- Assumes nothing.
 use Prim.Native.Nat.{_+_}
 use native.Mathlib.Omega.{arith}

@@ -1,6 +1,6 @@
--- `convolution::halving` meets its contract.
+-- `convolution::halving` meets its contract: what passes its tests is `Halving`, and the products that it compares fit.
 -- Assumes nothing.
-use Prim.Native.Nat.{_+_, _*_, _/_}
+use Prim.Native.Nat.{_+_, _*_, _/_, _≤_}
 use native.Mathlib.Omega.{arith}
 use Rattle.convolution.proofs.Cuts.{small}
 use borrow.Author.Needs.{needs}
@@ -43,11 +43,15 @@ mul-if4-2 c = search needs
 add-if4-3 : tie.Need-add-if4-3
 add-if4-3 c = search needs
 
+-- the words that the groups of the halves reach
+reached : (c : tie.Else3) → 24 * ((c .before .before .before .args .n + 15) / 16) * ((c .before .before .before .args .n + 15) / 16 + 1) ≤ 90000
+reached c = small (omega arith) (omega arith)
+
 mul-if4-3 : tie.Need-mul-if4-3
-mul-if4-3 c = omega (arith, small {x = 24 * ((c .before .before .before .args .n + 15) / 16)} {y = (c .before .before .before .args .n + 15) / 16 + 1} (omega arith) (omega arith))
+mul-if4-3 c = omega (arith, reached c)
 
 add-if4-4 : tie.Need-add-if4-4
-add-if4-4 c = omega (arith, small {x = 24 * ((c .before .before .before .args .n + 15) / 16)} {y = (c .before .before .before .args .n + 15) / 16 + 1} (omega arith) (omega arith))
+add-if4-4 c = omega (arith, reached c)
 
 returns-4 : tie.Need-returns-4
 returns-4 c = search needs

@@ -1,4 +1,4 @@
--- `convolution::join` meets its contract.
+-- `convolution::join` meets its contract: what `cross` leaves is small enough for `add_cross`.
 -- Assumes nothing.
 use native.Mathlib.Omega.{arith}
 use Rattle.convolution.proofs.Joining.{cross-small, joined}
@@ -10,7 +10,7 @@ mul-cross : tie.Need-mul-cross
 mul-cross c = search needs
 
 cross-requires : tie.Need-cross-requires
-cross-requires c κs = (omega arith, c .before .before .pre .1, c .before .before .pre .2)
+cross-requires c κs = search needs
 
 mul-add-cross : tie.Need-mul-add-cross
 mul-add-cross c = search needs

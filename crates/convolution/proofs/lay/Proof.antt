@@ -1,4 +1,4 @@
--- `convolution::lay` meets its contract.
+-- `convolution::lay` meets its contract, where the factors stay whole and where they are cut.
 -- Assumes nothing.
 use Prim.Native.Nat.{_+_, _*_}
 use native.Mathlib.Omega.{arith}
@@ -41,7 +41,7 @@ halve-second-requires : tie.Need-halve-second-requires
 halve-second-requires c κs =
     let start = c .before .before .before .before .before .before .before .before .before .before .before .before .before .before in
     let cut = start .pre .0 .2 .fits (omega arith) in
-    (cut .2, omega (arith, cut), omega (arith, cut), omega (arith, cut), start .pre .1 .3)
+    (cut .2, omega arith, omega arith, omega arith, start .pre .1 .3)
 
 same-length-3 : tie.Need-same-length-3
 same-length-3 c = search needs

@@ -1,4 +1,5 @@
--- `convolution::multiply` meets its contract: block after block.
+-- `convolution::multiply` meets its contract. The loop's invariant: the first t blocks of s are the sums of their rows, and s is 0 after
+-- them. The measure is count - t.
 -- Assumes nothing.
 use mathlib.Core.Path.{_≡_}
 use Prim.Native.Nat.{_+_, _*_, _≤_, _-_}
@@ -48,9 +49,9 @@ multiply-block-requires c κs =
     let g = start .args .g in
     let v = start .args .v in
     let t = c .before .before .loop .t in
-    let l = c .before .loop-test .taken in (
-      (block-fits (8 * g) l (fits .size-x), block-fits (v + 15) l (fits .size-y), omega (arith, block-fits (8 * g + v) l (fits .size-s)), record { at = c .before .before .loop .inv .2 .todo }),
-      (fits .factors t l, fits .strip t l),
+    let more = c .before .loop-test .taken in (
+      (block-fits (8 * g) more (fits .size-x), block-fits (v + 15) more (fits .size-y), omega (arith, block-fits (8 * g + v) more (fits .size-s)), record { at = c .before .before .loop .inv .2 .todo }),
+      (fits .factors t more, fits .strip t more),
     )
 
 add-t : tie.Need-add-t Inv-loop μ-loop

@@ -1,11 +1,21 @@
--- `convolution::multiply_lists` meets its contract.
+-- `convolution::multiply_lists` meets its contract: the blocks that the plan names fit the buffers, and their products, joined, are the
+-- whole product.
 -- Assumes nothing.
+use Prim.Native.Nat.{ℕ, _<_}
 use native.Mathlib.Omega.{arith}
+use lib.ListN.{getD}
 use Rattle.convolution.proofs.Cuts.{cut-few}
 use Rattle.convolution.proofs.Whole.{blocks-fit, small-is, enough-is, whole-is}
 use borrow.Author.Needs.{needs}
 use Rattle.convolution.proofs.multiply_lists.Statement.{statement}
 use Rattle.convolution.proofs.multiply_lists.Tie as tie
+
+-- the lists have words of 16 bits
+word-a : (c : tie.After-shared-slice-known) (k : ℕ) → getD (c .before .args .a .now) k 0 < 65536
+word-a c k = omega (arith, c .shared-slice-known .given k)
+
+word-b : (c : tie.After-shared-slice-known2) (k : ℕ) → getD (c .before .before .args .b .now) k 0 < 65536
+word-b c k = omega (arith, c .shared-slice-known2 .given k)
 
 halving-requires : tie.Need-halving-requires
 halving-requires c κs = search needs
@@ -19,24 +29,24 @@ plan-of-requires c κs = (cut-few (c .before .before .before .before .before .be
 multiply-requires : tie.Need-multiply-requires
 multiply-requires c κs =
     let start = c .before .before .before .before .before .before .before .before .before .before .before .before .before .before .before .before .before in
-    let known-a = c .before .before .before .before .before .before .before .before .before .before .before .before .before .before .before .before .shared-slice-known .given in
-    let known-b = c .before .before .before .before .before .before .before .before .before .before .before .before .before .before .before .shared-slice-known2 .given in
+    let words-a = word-a (c .before .before .before .before .before .before .before .before .before .before .before .before .before .before .before .before) in
+    let words-b = word-b (c .before .before .before .before .before .before .before .before .before .before .before .before .before .before .before) in
     let plan = c .before .before .before .plan-of .ensures in (
-      blocks-fit _ _ (λ k. omega (arith, known-a k)) (λ k. omega (arith, known-b k)) _ _ _ _ _ _ _ (c .before .before .before .before .before .before .before .before .before .before .before .halving .ensures) (c .before .before .before .before .before .before .before .before .lay .ensures)
+      blocks-fit _ _ words-a words-b _ _ _ _ _ _ _ (c .before .before .before .before .before .before .before .before .before .before .before .halving .ensures) (c .before .before .before .before .before .before .before .before .lay .ensures)
           (plan .0) (plan .1) (plan .2) (omega arith) (omega arith) (omega arith) (omega arith) (omega arith),
       start .pre .1 .1 .2,
     )
 
 join-requires : tie.Need-join-requires
 join-requires c κs =
-    let known-a = c .before .before .before .before .before .before .before .before .before .before .before .before .before .before .before .before .before .before .before .before .shared-slice-known .given in
-    let known-b = c .before .before .before .before .before .before .before .before .before .before .before .before .before .before .before .before .before .before .before .shared-slice-known2 .given in
+    let words-a = word-a (c .before .before .before .before .before .before .before .before .before .before .before .before .before .before .before .before .before .before .before .before) in
+    let words-b = word-b (c .before .before .before .before .before .before .before .before .before .before .before .before .before .before .before .before .before .before .before) in
     let plan = c .before .before .before .before .before .before .before .plan-of .ensures in
     let cut = c .before .before .before .before .before .before .before .before .before .before .before .before .before .before .before .halving .ensures in (
       omega (arith, cut-few cut),
-      small-is _ _ (λ k. omega (arith, known-a k)) (λ k. omega (arith, known-b k)) _ _ _ _ _ _ _ cut (c .before .before .before .before .before .before .before .before .before .before .before .before .lay .ensures) (plan .0) (plan .1)
+      small-is _ _ words-a words-b _ _ _ _ _ _ _ cut (c .before .before .before .before .before .before .before .before .before .before .before .before .lay .ensures) (plan .0) (plan .1)
           (plan .2) (c .before .before .before .multiply .ensures),
-      enough-is _ _ (λ k. omega (arith, known-a k)) (λ k. omega (arith, known-b k)) _ _ _ _ _ _ _ cut (c .before .before .before .before .before .before .before .before .before .before .before .before .lay .ensures) (plan .0) (plan .1)
+      enough-is _ _ words-a words-b _ _ _ _ _ _ _ cut (c .before .before .before .before .before .before .before .before .before .before .before .before .lay .ensures) (plan .0) (plan .1)
           (plan .2) (c .before .before .before .multiply .ensures),
     )
 
@@ -51,10 +61,10 @@ same-length-3 c = search needs
 
 returns : tie.Need-returns
 returns c =
-    let known-a = c .before .before .before .before .before .before .before .before .before .before .before .before .before .before .before .before .before .before .before .before .before .before .before .shared-slice-known .given in
-    let known-b = c .before .before .before .before .before .before .before .before .before .before .before .before .before .before .before .before .before .before .before .before .before .before .shared-slice-known2 .given in
+    let words-a = word-a (c .before .before .before .before .before .before .before .before .before .before .before .before .before .before .before .before .before .before .before .before .before .before .before) in
+    let words-b = word-b (c .before .before .before .before .before .before .before .before .before .before .before .before .before .before .before .before .before .before .before .before .before .before) in
     let plan = c .before .before .before .before .before .before .before .before .before .before .plan-of .ensures in
-    whole-is _ _ (λ k. omega (arith, known-a k)) (λ k. omega (arith, known-b k)) _ _ _ _ _ _ _ (c .before .before .before .before .before .before .before .before .before .before .before .before .before .before .before .before .before .before .halving .ensures) (c .before .before .before .before .before .before .before .before .before .before .before .before .before .before .before .lay .ensures)
+    whole-is _ _ words-a words-b _ _ _ _ _ _ _ (c .before .before .before .before .before .before .before .before .before .before .before .before .before .before .before .before .before .before .halving .ensures) (c .before .before .before .before .before .before .before .before .before .before .before .before .before .before .before .lay .ensures)
     (plan .0) (plan .1) (plan .2) (c .before .before .before .before .before .before .multiply .ensures) (c .before .before .join .ensures)
 
 pub multiply-lists-spec : {M : Type 1} → statement M

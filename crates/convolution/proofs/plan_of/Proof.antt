@@ -1,4 +1,4 @@
--- `convolution::plan_of` meets its contract.
+-- `convolution::plan_of` meets its contract, where g is 0 and where it is not.
 -- Assumes nothing.
 use native.Mathlib.Omega.{arith}
 use borrow.Author.Tests.{eq-eqb, ne-eqb}

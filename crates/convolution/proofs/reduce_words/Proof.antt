@@ -1,4 +1,4 @@
--- `convolution::reduce_words` meets its contract.
+-- `convolution::reduce_words` meets its contract. The loop's invariant: the words below k are written. The measure is how many are not.
 -- Assumes nothing.
 use mathlib.Core.Path.{_≡_, _∙_, sym}
 use Prim.Native.Nat.{_≤_, _-_}

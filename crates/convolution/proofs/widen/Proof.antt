@@ -1,7 +1,7 @@
--- `convolution::widen` meets its contract.
+-- `convolution::widen` meets its contract. The loop's invariant: k words of the list stand in s from d on, the others are what they were.
+-- The measure is n - k.
 -- Assumes nothing.
-use mathlib.Core.Path.{_≡_}
-use mathlib.Core.Path.{refl}
+use mathlib.Core.Path.{_≡_, refl}
 use Prim.Native.Nat.{_+_, _≤_, _-_}
 use native.Mathlib.Omega.{arith}
 use lib.ListN.{length, getD, length-set}

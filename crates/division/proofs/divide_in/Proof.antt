@@ -1,4 +1,4 @@
--- `division::divide_in` meets its contract.
+-- `division::divide_in` meets its contract: the quotient and the remainder of the scaled forms, unscaled again.
 -- Assumes nothing.
 use mathlib.Core.Path.{_∙_}
 use Rattle.algebra.specs.PrimeField.{F65521, p-is}

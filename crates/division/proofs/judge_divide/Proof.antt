@@ -1,7 +1,14 @@
 -- `division::judge_divide` meets its contract: the tests stand in the order of the numbers.
 -- Assumes nothing.
-use mathlib.Core.Path.{sym, _∙_}
+use mathlib.Core.Path.{_≡_, sym, _∙_}
+use mathlib.Core.List.{[], _∷_}
+use Prim.Native.Nat.{_<_}
 use lib.Dec.{lit<}
+use lib.ListN.{length}
+use Rattle.refusal.specs.Limits.{maxWords}
+use Rattle.refusal.specs.Lowest.{lowest}
+use Rattle.refusal.specs.declared.Outcome.the-variants.{Done}
+use Rattle.lists.specs.Refused.{listRefusals}
 use Rattle.division.proofs.Judged.{divide-refused, divisor-some, divide-backwards, divide-vanishes, divide-misfit-q, divide-misfit-r, divide-done}
 use borrow.Author.Needs.{needs}
 use Rattle.division.proofs.judge_divide.Statement.{statement}
@@ -19,20 +26,28 @@ returns c = divide-refused 65521 (lit< tt) _ _ _ _ (sym (c .before .before .befo
 enum-told : tie.Need-enum-told
 enum-told c = search needs
 
+-- past the first test the lists are not refused
+listed :
+    (c : tie.After-enum-told) → lowest (listRefusals 65521 maxWords (c .before .before .before .before .before .before .before .args .g .now ∷ c .before .before .before .before .before .before .before .args .f .now ∷ [])) ≡ Done
+listed c = sym (c .before .before .judge-lists .ensures) ∙ c .enum-told .given .1
+
+some : (c : tie.After-enum-told) → 0 < length (c .before .before .before .before .before .before .before .args .f .now)
+some c = divisor-some 65521 (lit< tt) _ _ (listed c)
+
 returns-2 : tie.Need-returns-2
-returns-2 c = divide-backwards 65521 (lit< tt) _ _ _ _ (sym (c .before .before .before .judge-lists .ensures) ∙ c .before .enum-told .given .1) (c .if1 .taken)
+returns-2 c = divide-backwards 65521 (lit< tt) _ _ _ _ (listed (c .before)) (c .if1 .taken)
 
 sub-if2 : tie.Need-sub-if2
-sub-if2 c = let s = divisor-some 65521 (lit< tt) _ _ (sym (c .before .before .before .judge-lists .ensures) ∙ c .before .enum-told .given .1) in search needs
+sub-if2 c = let divisor = some (c .before) in search needs
 
 mul-if2 : tie.Need-mul-if2
 mul-if2 c = search needs
 
 shared-slice-read-if2 : tie.Need-shared-slice-read-if2
-shared-slice-read-if2 c = let s = divisor-some 65521 (lit< tt) _ _ (sym (c .before .before .before .before .judge-lists .ensures) ∙ c .before .before .enum-told .given .1) in search needs
+shared-slice-read-if2 c = let divisor = some (c .before .before) in search needs
 
 returns-3 : tie.Need-returns-3
-returns-3 c = divide-vanishes 65521 (lit< tt) _ _ _ _ (sym (c .before .before .before .before .before .judge-lists .ensures) ∙ c .before .before .before .enum-told .given .1) (c .before .before .if1 .left) (c .if2 .taken)
+returns-3 c = divide-vanishes 65521 (lit< tt) _ _ _ _ (listed (c .before .before .before)) (c .before .before .if1 .left) (c .if2 .taken)
 
 sub-if3 : tie.Need-sub-if3
 sub-if3 c = search needs
@@ -41,16 +56,16 @@ add-if3 : tie.Need-add-if3
 add-if3 c = search needs
 
 returns-4 : tie.Need-returns-4
-returns-4 c = divide-misfit-q 65521 (lit< tt) _ _ _ _ (sym (c .before .before .before .before .before .before .judge-lists .ensures) ∙ c .before .before .before .before .enum-told .given .1) (c .before .before .before .if1 .left) (c .before .if2 .left) (c .if3 .taken)
+returns-4 c = divide-misfit-q 65521 (lit< tt) _ _ _ _ (listed (c .before .before .before .before)) (c .before .before .before .if1 .left) (c .before .if2 .left) (c .if3 .taken)
 
 sub-if4 : tie.Need-sub-if4
-sub-if4 c = let s = divisor-some 65521 (lit< tt) _ _ (sym (c .before .before .before .before .before .before .judge-lists .ensures) ∙ c .before .before .before .before .enum-told .given .1) in search needs
+sub-if4 c = let divisor = some (c .before .before .before .before) in search needs
 
 returns-5 : tie.Need-returns-5
-returns-5 c = divide-misfit-r 65521 (lit< tt) _ _ _ _ (sym (c .before .before .before .before .before .before .before .judge-lists .ensures) ∙ c .before .before .before .before .before .enum-told .given .1) (c .before .before .before .before .if1 .left) (c .before .before .if2 .left) (c .before .if3 .left) (c .if4 .taken)
+returns-5 c = divide-misfit-r 65521 (lit< tt) _ _ _ _ (listed (c .before .before .before .before .before)) (c .before .before .before .before .if1 .left) (c .before .before .if2 .left) (c .before .if3 .left) (c .if4 .taken)
 
 returns-6 : tie.Need-returns-6
-returns-6 c = divide-done 65521 (lit< tt) _ _ _ _ (sym (c .before .before .before .before .before .before .before .judge-lists .ensures) ∙ c .before .before .before .before .before .enum-told .given .1) (c .before .before .before .before .if1 .left) (c .before .before .if2 .left) (c .before .if3 .left) (c .if4 .left)
+returns-6 c = divide-done 65521 (lit< tt) _ _ _ _ (listed (c .before .before .before .before .before)) (c .before .before .before .before .if1 .left) (c .before .before .if2 .left) (c .before .if3 .left) (c .if4 .left)
 
 pub judge-divide-spec : {M : Type 1} → statement M
 judge-divide-spec =

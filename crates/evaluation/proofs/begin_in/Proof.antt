@@ -1,4 +1,4 @@
--- `evaluation::begin_in` meets its contract.
+-- `evaluation::begin_in` meets its contract: the sums of the groups, at x^8 and y^8, are the sum over their words.
 -- Assumes nothing.
 use mathlib.Core.Path.{_∙_, ap}
 use borrow.Author.Needs.{needs}

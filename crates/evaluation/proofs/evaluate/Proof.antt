@@ -1,4 +1,4 @@
--- `evaluation::evaluate` meets its contract.
+-- `evaluation::evaluate` meets its contract: it answers what its judge found, and the value where nothing is refused.
 -- Assumes nothing.
 use mathlib.Core.Path.{sym, ap, _∙_}
 use mathlib.Core.List.{[], _∷_}

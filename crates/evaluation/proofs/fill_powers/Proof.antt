@@ -1,4 +1,5 @@
--- `evaluation::fill_powers` meets its contract. The loop's invariant: the words below j are written, and `power` is x^j.
+-- `evaluation::fill_powers` meets its contract. The loop's invariant: the words below j are written, and `power` is x^j. The measure is how
+-- many words are not written.
 -- Assumes nothing.
 use mathlib.Core.Path.{_≡_, sym, ap, _∙_}
 use Prim.Native.Nat.{_≤_, _-_}

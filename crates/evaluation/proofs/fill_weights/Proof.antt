@@ -1,4 +1,4 @@
--- `evaluation::fill_weights` meets its contract. The loop's invariant: the words below j are written.
+-- `evaluation::fill_weights` meets its contract. The loop's invariant: the words below j are written. The measure is n - j.
 -- Assumes nothing.
 use mathlib.Core.Path.{_≡_, sym, _∙_}
 use Prim.Native.Nat.{_≤_, _-_}

@@ -1,5 +1,5 @@
--- `evaluation::homogeneous` meets its contract. The loop's invariant: `sum` stands for the sum of the first k terms, as if the list had k words,
--- and `power` for x^k.
+-- `evaluation::homogeneous` meets its contract. The loop's invariant: `sum` stands for the sum of the first k terms, as if the list had k
+-- words, and `power` for x^k. The measure is how many words are left.
 -- Assumes nothing.
 use Prim.Native.Nat.{_≤_, _-_}
 use native.Mathlib.Omega.{arith}

@@ -1,4 +1,5 @@
--- `evaluation::sum_groups` meets its contract. The loop's invariant: the sum over the first i groups, and x^i.
+-- `evaluation::sum_groups` meets its contract. The loop's invariant: `sum` stands for the sum over the first i groups, as if there were i,
+-- and `power` for x^i. The measure is n - i.
 -- Assumes nothing.
 use mathlib.Core.Path.{_≡_, subst}
 use Prim.Native.Nat.{_≤_, _-_, _/_}

@@ -1,4 +1,5 @@
 -- `evaluation::sum_products` meets its contract. The loop's invariant: `sum` has the first j products, and is at most j times the largest.
+-- The measure is how many products are left.
 -- Assumes nothing.
 use mathlib.Core.Path.{_≡_, sym, ap, _∙_}
 use Prim.Native.Nat.{_*_, _≤_, _-_}
@@ -48,7 +49,7 @@ loop-again c =
     let args = c .before .before .before .before .before .before .before .args in
     let loop = c .before .before .before .before .loop in
     let next = products-next (args .s .now) (args .k) (args .u .now) (loop .j) (loop .inv .1) (c .add-product .ensures .0) in
-    (search needs, next, omega (arith, c .add-product .ensures .1))
+    (search needs, next, omega arith)
 
 returns : tie.Need-returns Inv-loop μ-loop
 returns c =

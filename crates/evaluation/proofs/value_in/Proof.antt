@@ -1,4 +1,4 @@
--- `evaluation::value_in` meets its contract.
+-- `evaluation::value_in` meets its contract: the value of the scaled form at x and 1 - x.
 -- Assumes nothing.
 use mathlib.Core.Path.{_∙_}
 use borrow.Author.Needs.{needs}

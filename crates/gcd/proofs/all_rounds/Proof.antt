@@ -44,8 +44,8 @@ same-length-3 c = search needs
 returns : tie.Need-returns Inv-loop μ-loop
 returns c =
     let t = c .before .loop .inv in
-    let z = sym (t .3) ∙ c .if1 .taken in
-    (turning-count F65521 maxWords _ _ _ _ _ (t .0) z, turning-last F65521 maxWords _ _ _ _ _ (t .0) z)
+    let zero = sym (t .3) ∙ c .if1 .taken in
+    (turning-count F65521 maxWords _ _ _ _ _ (t .0) zero, turning-last F65521 maxWords _ _ _ _ _ (t .0) zero)
 
 -- x by y
 first : (c : tie.After-turn Inv-loop μ-loop)
@@ -68,7 +68,7 @@ turn-requires : tie.Need-turn-requires Inv-loop μ-loop
 turn-requires c κs = search needs
 
 add-rounds : tie.Need-add-rounds Inv-loop μ-loop
-add-rounds c = let l = first (c .before .before .before .before) .few in search needs
+add-rounds c = let few = first (c .before .before .before .before) .few in search needs
 
 same-length-4 : tie.Need-same-length-4 Inv-loop μ-loop
 same-length-4 c = search needs
@@ -82,19 +82,19 @@ same-length-6 c = search needs
 returns-2 : tie.Need-returns-2 Inv-loop μ-loop
 returns-2 c =
     let t = first (c .before .before .before .before .before) .next in
-    let z = sym (c .before .before .before .before .before .turn .ensures .0) ∙ c .if2 .taken in
-    (turning-count F65521 maxWords _ _ _ _ _ t z, turning-last F65521 maxWords _ _ _ _ _ t z)
+    let zero = sym (c .before .before .before .before .before .turn .ensures .0) ∙ c .if2 .taken in
+    (turning-count F65521 maxWords _ _ _ _ _ t zero, turning-last F65521 maxWords _ _ _ _ _ t zero)
 
 turn-requires-2 : tie.Need-turn-requires-2 Inv-loop μ-loop
 turn-requires-2 c κs = search needs
 
 add-rounds-2 : tie.Need-add-rounds-2 Inv-loop μ-loop
-add-rounds-2 c = let l = first (c .before .before .before .before .before .before .before .before .before .before .before .before .before) .few in search needs
+add-rounds-2 c = let few = first (c .before .before .before .before .before .before .before .before .before .before .before .before .before) .few in search needs
 
 loop-less : tie.Need-loop-less Inv-loop μ-loop
 loop-less c =
-    let a = first (c .before .before .before .before .before .before .before .before .before .before .before .before .before) .smaller in
-    let b = second (c .before .before .before .before) .smaller in
+    let less-x = first (c .before .before .before .before .before .before .before .before .before .before .before .before .before) .smaller in
+    let less-y = second (c .before .before .before .before) .smaller in
     omega arith
 
 loop-again : tie.Need-loop-again Inv-loop μ-loop

@@ -1,4 +1,4 @@
--- `gcd::both_zero` meets its contract.
+-- `gcd::both_zero` meets its contract: both lists are zero where their significant words add up to 0.
 -- Assumes nothing.
 use mathlib.Core.Path.{_≡_, sym, ap}
 use Prim.Native.Nat.{_+_}

@@ -1,4 +1,4 @@
--- `gcd::gcd_in` meets its contract.
+-- `gcd::gcd_in` meets its contract: the list and the numbers are those of the definition.
 -- Assumes nothing.
 use mathlib.Core.Path.{_∙_, ap}
 use native.Mathlib.Omega.{arith}

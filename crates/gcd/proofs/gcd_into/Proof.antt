@@ -25,7 +25,7 @@ same-length : tie.Need-same-length
 same-length c = search needs
 
 returns : tie.Need-returns
-returns c = c .before .before .before .before .before .gcd-in .ensures
+returns c = search needs
 
 pub gcd-into-spec : {M : Type 1} → statement M
 gcd-into-spec =

@@ -40,9 +40,9 @@ same-length c = search needs
 returns : tie.Need-returns
 returns c =
     let start = c .before .before .before .before .before .before .before .before in
-    let e = sym (c .before .before .before .judge-gcd .ensures) ∙ c .before .answer .given .1 in
-    let a = refused F65521 (start .args .f .now) (start .args .g .now) (start .args .h .now) e in
-    (a .0, (a .1, tt))
+    let found = sym (c .before .before .before .judge-gcd .ensures) ∙ c .before .answer .given .1 in
+    let all = refused F65521 (start .args .f .now) (start .args .g .now) (start .args .h .now) found in
+    (all .0, (all .1, tt))
 
 same-length-2 : tie.Need-same-length-2
 same-length-2 c = search needs
@@ -50,10 +50,10 @@ same-length-2 c = search needs
 returns-2 : tie.Need-returns-2
 returns-2 c =
     let start = c .before .before .before .before .before .before .before .before .before .before .before in
-    let e = sym (c .before .before .before .before .before .before .judge-gcd .ensures) ∙ c .before .before .before .before .enum-told .given .1 in
-    let found = c .before .before .gcd-into .ensures in
-    let a = answered F65521 (start .args .f .now) (start .args .g .now) (start .args .h .now) e (found-ready _ _ _ e .0) (found .0) (found .1) in
-    (a .0, (a .1, a .2))
+    let found = sym (c .before .before .before .before .before .before .judge-gcd .ensures) ∙ c .before .before .before .before .enum-told .given .1 in
+    let gcd = c .before .before .gcd-into .ensures in
+    let all = answered F65521 (start .args .f .now) (start .args .g .now) (start .args .h .now) found (found-ready _ _ _ found .0) (gcd .0) (gcd .1) in
+    (all .0, (all .1, all .2))
 
 pub gcd-of-spec : {M : Type 1} → statement M
 gcd-of-spec =

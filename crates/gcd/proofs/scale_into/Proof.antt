@@ -1,4 +1,4 @@
--- `gcd::scale_into` meets its contract.
+-- `gcd::scale_into` meets its contract: a buffer of zeros then holds the scaled form.
 -- Assumes nothing.
 use native.Mathlib.Omega.{arith}
 use lib.ListN.{length-take}

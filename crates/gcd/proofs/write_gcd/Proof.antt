@@ -16,10 +16,10 @@ sub-inverse-or-zero : tie.Need-sub-inverse-or-zero
 sub-inverse-or-zero c = search needs
 
 mul-inverse-or-zero : tie.Need-mul-inverse-or-zero
-mul-inverse-or-zero c = let l = significant-le (c .before .before .before .before .args .last .now) in search needs
+mul-inverse-or-zero c = let most = significant-le (c .before .before .before .before .args .last .now) in search needs
 
 slice-read-inverse-or-zero : tie.Need-slice-read-inverse-or-zero
-slice-read-inverse-or-zero c = let l = significant-le (c .before .before .before .before .before .args .last .now) in search needs
+slice-read-inverse-or-zero c = let most = significant-le (c .before .before .before .before .before .args .last .now) in search needs
 
 inverse-or-zero-requires : tie.Need-inverse-or-zero-requires
 inverse-or-zero-requires c κs = search needs

@@ -1,4 +1,4 @@
--- `gcd::write_last` meets its contract.
+-- `gcd::write_last` meets its contract: by cases on the buffer.
 -- Assumes nothing.
 use borrow.Author.Needs.{needs}
 use Rattle.gcd.proofs.write_last.Statement.{statement}

@@ -13,9 +13,9 @@ use lib.Signed.{remZ}
 use mir.Syntax.{w32}
 use mir.Val.{toZ, ofZ}
 use Rattle.algebra.specs.PrimeField.{F65521, p-is, prime65521}
-use Rattle.inverses.proofs.Answers.{inverse-loose, inverse-zero, Found, answered}
+use Rattle.inverses.proofs.Answers.{inverse-loose, inverse-zero, Found, Answered, answered}
 use Rattle.inverses.proofs.Entries.{entry-inverts}
-use Rattle.inverses.proofs.Euclid.{Steps, started, divided, falling, Stepped, stepped, last-is-one, inverse-of-rest, Ended, ended, Low, low, Out, high}
+use Rattle.inverses.proofs.Euclid.{Steps, Leaves, started, divided, falling, Stepped, stepped, last-is-one, inverse-of-rest, Ended, ended, Low, low, Out, high}
 use Rattle.inverses.proofs.inverse.Statement.{statement}
 use Rattle.inverses.proofs.inverse.Tie as tie
 
@@ -40,6 +40,7 @@ div-q c = omega arith
 rem-r2 : tie.Need-rem-r2 Inv-loop μ-loop
 rem-r2 c = omega arith
 
+-- one of Euclid's steps
 turn :
     (c : tie.In-loop Inv-loop μ-loop)
     → Stepped 65521 (c .before .before .before .before .args .a) (c .before .loop .r1)
@@ -79,9 +80,11 @@ some c e =
 returns-3 : tie.Need-returns-3 Inv-loop μ-loop
 returns-3 c = absurd (some (c .before) (c .if3 .taken))
 
+-- it has an entry in the table
 in-table : (c : tie.Else3 Inv-loop μ-loop) → (0 < c .before .before .loop .r1) × (c .before .before .loop .r1 ≤ 256)
 in-table c = (omega (arith, some (c .before)), omega (arith, c .before .loop-test .left))
 
+-- what the last cofactor leaves modulo p
 finish :
     (c : tie.Else3 Inv-loop μ-loop)
     → Ended 65521 prime65521 (c .before .before .loop .r1) (c .before .before .before .before .before .args .a) (c .before .before .loop .t1)
@@ -107,6 +110,7 @@ array-read-inv c = search needs
 abbrev left : ℕ → ℤ
 left t = toZ w32 (ofZ w32 (remZ (toZ w32 t) (pos 65521)))
 
+-- the remainder of the cofactor, negative and brought back, and not negative
 lower :
     (c : tie.Then4 Inv-loop μ-loop)
     → Low 65521 prime65521 (c .before .before .before .before .loop .r1) (c .before .before .before .before .before .before .before .args .a) (left (c .before .before .before .before .loop .t1))
@@ -138,19 +142,20 @@ entry c =
     let t = in-table (c .before) in
     entry-inverts F65521 p-is 256 (c .before .before .before .loop .r1) (c .table .ensures) (omega arith) (t .0) (t .1)
 
+-- what is left of the cofactor, times r1's entry, is the inverse
+inverse-is :
+    (c : tie.After-table Inv-loop μ-loop) {rest w : ℕ} → Leaves 65521 (c .before .before .before .before .before .before .args .a) (c .before .before .before .loop .r1) rest
+    → w ≡ (rest * getD (c .table .result) (c .before .before .before .loop .r1) 0) % 65521 → Answered F65521 65521 (c .before .before .before .before .before .before .args .a) w
+inverse-is c {rest} {w} left product =
+    let a : ℕ = c .before .before .before .before .before .before .args .a in
+    let found = inverse-of-rest 65521 (omega arith) a _ _ _ left (entry c) in
+    answered F65521 p-is a w (omega arith) (omega arith) (subst (λ (b : ℕ). Found 65521 a b) (sym product) found)
+
 returns-4 : tie.Need-returns-4 Inv-loop μ-loop
-returns-4 c =
-    let a : ℕ = c .before .before .before .before .before .before .before .before .args .a in
-    let found = inverse-of-rest 65521 (omega arith) a _ _ _ (lower (c .before) .done .is) (entry (c .before .before)) in
-    let r = answered F65521 p-is a (c .mul .result) (omega arith) (omega arith) (subst (λ (b : ℕ). Found 65521 a b) (sym (c .mul .ensures)) found) in
-    (r .answer, r .inverts)
+returns-4 c = let all = inverse-is (c .before .before) (lower (c .before) .done .is) (c .mul .ensures) in (all .answer, all .inverts)
 
 returns-5 : tie.Need-returns-5 Inv-loop μ-loop
-returns-5 c =
-    let a : ℕ = c .before .before .before .before .before .before .before .before .args .a in
-    let found = inverse-of-rest 65521 (omega arith) a _ _ _ (higher (c .before) .is) (entry (c .before .before)) in
-    let r = answered F65521 p-is a (c .mul2 .result) (omega arith) (omega arith) (subst (λ (b : ℕ). Found 65521 a b) (sym (c .mul2 .ensures)) found) in
-    (r .answer, r .inverts)
+returns-5 c = let all = inverse-is (c .before .before) (higher (c .before) .is) (c .mul2 .ensures) in (all .answer, all .inverts)
 
 pub inverse-spec : {M : Type 1} → statement M
 inverse-spec =

@@ -11,16 +11,14 @@ use Rattle.kernels.proofs.montgomery_product.Statement.{statement}
 use Rattle.kernels.proofs.montgomery_product.Tie as tie
 
 -- both high halves are below p
-high-small : (c : tie.After-high-half2) → c .before .before .before .before .args .y < c .before .before .before .before .args .p
-    → c .before .before .before .high-half .result < c .before .before .before .before .args .p
-high-small c l =
-    let a = c .before .before .before .before in
-    rw (c .before .before .before .high-half .ensures) (high-below (a .args .x) (a .fits .x .fits) (le-of-lt l) (omega arith))
+high-small : (c : tie.After-high-half2) → c .before .before .before .high-half .result < c .before .before .before .before .args .p
+high-small c =
+    let start = c .before .before .before .before in
+    rw (c .before .before .before .high-half .ensures) (high-below (start .args .x) (start .fits .x .fits) (le-of-lt (start .pre)) (omega arith))
 
-less-small : (c : tie.After-high-half2) → c .before .before .before .before .args .y < c .before .before .before .before .args .p
-    → c .high-half2 .result < c .before .before .before .before .args .p
-less-small c l =
-    rw (c .high-half2 .ensures) (high-below (c .before .low-half2 .result) (omega (arith, c .before .low-half2 .ensures)) (le-refl _) (omega arith))
+less-small : (c : tie.After-high-half2) → c .high-half2 .result < c .before .before .before .before .args .p
+less-small c =
+    rw (c .high-half2 .ensures) (high-below (c .before .low-half2 .result) (omega arith) (le-refl _) (omega arith))
 
 -- their difference
 is-product : (c : tie.After-high-half2) →
@@ -59,22 +57,20 @@ wrapping-add-u16-requires c κs = search needs
 returns : tie.Need-returns
 returns c =
     let at = c .before .before .before .before .before in
-    let l = at .before .before .before .before .pre in
     let d = c .before .before .before .before .wrapping-sub-u16 in
     let u = c .before .before .before .wrapping-sub-u162 in
     let v = c .before .before .wrapping-sub-u163 in
-    below-zero _ _ _ _ _ _ (high-small at l) (less-small at l) (at .before .before .before .before .fits .p .fits)
+    below-zero _ _ _ _ _ _ (high-small at) (less-small at) (at .before .before .before .before .fits .p .fits)
     (search needs) (search needs) (search needs) (d .ensures) (u .ensures) (v .ensures) _ (c .wrapping-add-u16 .ensures) (c .before .if1 .taken)
     ∙ is-product at
 
 returns-2 : tie.Need-returns-2
 returns-2 c =
     let at = c .before .before .before .before in
-    let l = at .before .before .before .before .pre in
     let d = c .before .before .before .wrapping-sub-u16 in
     let u = c .before .before .wrapping-sub-u162 in
     let v = c .before .wrapping-sub-u163 in
-    not-below _ _ _ _ _ _ (high-small at l) (less-small at l) (at .before .before .before .before .fits .p .fits)
+    not-below _ _ _ _ _ _ (high-small at) (less-small at) (at .before .before .before .before .fits .p .fits)
     (search needs) (search needs) (search needs) (d .ensures) (u .ensures) (v .ensures) (c .if1 .left)
     ∙ is-product at
 

@@ -1,4 +1,4 @@
--- `kernels::product_of_four` meets its contract.
+-- `kernels::product_of_four` meets its contract: each product of Montgomery's is below p, as the next one asks.
 -- Assumes nothing.
 use mathlib.Core.Path.{_≡_, refl}
 use Prim.Native.Nat.{ℕ, _<_}

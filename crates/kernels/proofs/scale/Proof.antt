@@ -1,4 +1,4 @@
--- `kernels::scale` meets its contract.
+-- `kernels::scale` meets its contract: its tests are `scaleFits`.
 -- Assumes nothing.
 use mathlib.Core.Path.{_∙_}
 use native.Mathlib.Omega.{arith}

@@ -1,4 +1,4 @@
--- `kernels::unscale` meets its contract.
+-- `kernels::unscale` meets its contract: its tests are `unscaleFits`.
 -- Assumes nothing.
 use mathlib.Core.Path.{_∙_}
 use native.Mathlib.Omega.{arith}

@@ -1,4 +1,4 @@
--- `kernels::weigh` meets its contract. The loop's invariant: the words below k are written.
+-- `kernels::weigh` meets its contract. The loop's invariant: the words below k are written. The measure is n - k.
 -- Assumes nothing.
 use mathlib.Core.Path.{_≡_, sym, _∙_}
 use Prim.Native.Nat.{_≤_, _-_}
@@ -21,8 +21,8 @@ abbrev μ-loop : tie.MeasureT-loop
 returns : tie.Need-returns Inv-loop μ-loop
 returns c =
     let args = c .before .before .before .before .before .args in
-    let e = length-weighted 65521 (args .whole .now) (args .part .now) (length (args .out .now)) (args .words .now) in
-    fill-end (fill-start _ _) (sym e) (omega arith)
+    let size = length-weighted 65521 (args .whole .now) (args .part .now) (length (args .out .now)) (args .words .now) in
+    fill-end (fill-start _ _) (sym size) (omega arith)
 
 sub-d : tie.Need-sub-d Inv-loop μ-loop
 sub-d c = search needs
@@ -89,8 +89,8 @@ same-length c = search needs
 returns-2 : tie.Need-returns-2 Inv-loop μ-loop
 returns-2 c =
     let args = c .before .before .before .before .before .before .before .before .args in
-    let e = length-weighted 65521 (args .whole .now) (args .part .now) (length (args .out .now)) (args .words .now) in
-    fill-end (c .before .loop .inv .2) (omega (arith, e)) (omega arith)
+    let size = length-weighted 65521 (args .whole .now) (args .part .now) (length (args .out .now)) (args .words .now) in
+    fill-end (c .before .loop .inv .2) (omega (arith, size)) (omega arith)
 
 pub weigh-spec : {M : Type 1} → statement M
 weigh-spec =

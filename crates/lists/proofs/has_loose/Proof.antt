@@ -1,4 +1,5 @@
 -- `lists::has_loose` meets its contract. The loop's invariant: the largest word so far and what is left of the list answer for the whole.
+-- The measure is how many words are left.
 -- Assumes nothing.
 use mathlib.Core.Path.{_≡_, sym, _∙_}
 use mathlib.Core.Logic.{⊎-elim}

@@ -1,4 +1,4 @@
--- `lists::significant_words` meets its contract: the words that are left answer for the whole.
+-- `lists::significant_words` meets its contract. The loop's invariant: the first n words answer for the whole. The measure is n.
 -- Assumes nothing.
 use mathlib.Core.Path.{_≡_, refl, sym, _∙_}
 use Prim.Native.Nat.{_≤_}

@@ -1,4 +1,4 @@
--- `lists::wrong_length` meets its contract.
+-- `lists::wrong_length` meets its contract: its tests are those of `wrongLength`.
 -- Assumes nothing.
 use Rattle.lists.specs.Refused.{wrongLength}
 use borrow.Author.Tests.{eq-eqb, ne-eqb}

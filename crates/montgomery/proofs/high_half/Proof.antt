@@ -1,4 +1,4 @@
--- `montgomery::high_half` meets its contract.
+-- `montgomery::high_half` meets its contract: the product fits 32 bits.
 -- Assumes nothing.
 use Prim.Native.Nat.{_*_, _≤_}
 use native.Mathlib.Omega.{arith}

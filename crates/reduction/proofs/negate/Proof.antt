@@ -1,4 +1,4 @@
--- `reduction::negate` meets its contract.
+-- `reduction::negate` meets its contract: 0 less the word.
 -- Assumes nothing.
 use mathlib.Core.Path.{_∙_}
 use borrow.Author.Needs.{needs}

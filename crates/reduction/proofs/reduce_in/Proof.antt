@@ -1,7 +1,7 @@
--- `reduction::reduce_in` meets its contract. The loop's invariant: what k steps leave, and the digits before those that are stored, are what
--- the whole division has.
+-- `reduction::reduce_in` meets its contract. The loop's invariant: k more steps leave what the whole division leaves, and their digits,
+-- before those in q from k on, are all its digits. The measure is k.
 -- Assumes nothing.
-use mathlib.Core.Path.{_≡_, refl, sym, _∙_}
+use mathlib.Core.Path.{_≡_, sym, _∙_}
 use mathlib.Core.List.{_++_}
 use Prim.Native.Nat.{_≤_}
 use native.Mathlib.Omega.{arith}
@@ -25,7 +25,7 @@ sub-d : tie.Need-sub-d Inv-loop μ-loop
 sub-d c = search needs
 
 loop-holds : tie.Need-loop-holds Inv-loop μ-loop
-loop-holds c = (search needs, refl, refl, refl, refl)
+loop-holds c = search needs
 
 sub-k : tie.Need-sub-k Inv-loop μ-loop
 sub-k c = search needs

@@ -1,4 +1,5 @@
--- `reduction::sub_product_in` meets its contract. The loop's invariant: the product with the first k words of q is taken off.
+-- `reduction::sub_product_in` meets its contract. The loop's invariant: the product with the first k words of q is taken off. The measure is
+-- how many words of q are left.
 -- Assumes nothing.
 use mathlib.Core.Path.{_≡_, refl}
 use Prim.Native.Nat.{_≤_, _-_}

@@ -16,8 +16,6 @@ significant-words-requires-2 c κs = search needs
 returns : tie.Need-returns
 returns c =
     let a = c .before .before .before .before .before .before .args in
-    let f = c .before .before .before .significant-words .ensures in
-    let g = c .before .before .significant-words2 .ensures in
     omega (arith, none (a .f .now) (a .g .now) (omega arith) (omega arith))
 
 sub-result : tie.Need-sub-result
@@ -26,8 +24,6 @@ sub-result c = omega (arith, significant-le (c .before .before .before .before .
 returns-2 : tie.Need-returns-2
 returns-2 c =
     let a = c .before .before .before .before .before .before .args in
-    let f = c .before .before .before .significant-words .ensures in
-    let g = c .before .before .significant-words2 .ensures in
     omega (arith, second (a .f .now) (a .g .now) (omega arith) (omega arith))
 
 sub-result-2 : tie.Need-sub-result-2
@@ -36,8 +32,6 @@ sub-result-2 c = omega (arith, significant-le (c .before .before .before .before
 returns-3 : tie.Need-returns-3
 returns-3 c =
     let a = c .before .before .before .before .before .before .args in
-    let f = c .before .before .before .significant-words .ensures in
-    let g = c .before .before .significant-words2 .ensures in
     omega (arith, first (a .f .now) (a .g .now) (omega arith) (omega arith))
 
 sub-pf : tie.Need-sub-pf

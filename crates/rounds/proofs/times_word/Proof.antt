@@ -1,4 +1,5 @@
--- `rounds::times_word` meets its contract. The loop's invariant: the words below i are multiplied, and the rest is as it was.
+-- `rounds::times_word` meets its contract. The loop's invariant: the words below i are multiplied, and the rest is as it was. The measure is
+-- how many are left.
 -- Assumes nothing.
 use mathlib.Core.Path.{_∙_, ap}
 use Prim.Native.Nat.{_-_, _*_, _%_}

@@ -1,4 +1,5 @@
--- `rounds::zero_from` meets its contract. The loop's invariant: the words from `from` to i are 0, and the rest is as it was.
+-- `rounds::zero_from` meets its contract. The loop's invariant: the words from `from` to i are 0, and the rest is as it was. The measure is
+-- how many words are left.
 -- Assumes nothing.
 use Prim.Native.Nat.{_-_, _≤_}
 use native.Mathlib.Omega.{arith}

@@ -12,14 +12,12 @@ use Rattle.rows.proofs.add_product.Tie as tie
 
 -- both high halves are below p
 less-below : (c : tie.After-high-half) → c .high-half .result < c .before .before .args .p
-less-below c =
-    let a = c .before .before in
-    rw (c .high-half .ensures) (high-below (c .before .low-half .result) (omega (arith, c .before .low-half .ensures)) (le-refl _) (omega (arith, a .pre)))
+less-below c = rw (c .high-half .ensures) (high-below (c .before .low-half .result) (omega arith) (le-refl _) (omega arith))
 
 more-below : (c : tie.After-high-half2) → c .high-half2 .result < c .before .before .before .before .before .args .p
 more-below c =
     let a = c .before .before .before .before .before in
-    rw (c .high-half2 .ensures) (high-below (a .args .y) (a .fits .y .fits) (le-of-lt (a .pre .1)) (omega (arith, a .pre)))
+    rw (c .high-half2 .ensures) (high-below (a .args .y) (a .fits .y .fits) (le-of-lt (a .pre .1)) (omega arith))
 
 low-half-requires : tie.Need-low-half-requires
 low-half-requires c κs = search needs
@@ -33,7 +31,7 @@ once-reduced-requires c κs = search needs
 sub-below-requires : tie.Need-sub-below-requires
 sub-below-requires c κs =
     let a = c .before .before .before in
-    (rw (c .once-reduced .ensures) (mod-lt (a .args .x) (omega (arith, a .pre))), le-of-lt (less-below (c .before)))
+    (rw (c .once-reduced .ensures) (mod-lt (a .args .x) (omega arith)), le-of-lt (less-below (c .before)))
 
 high-half-requires-2 : tie.Need-high-half-requires-2
 high-half-requires-2 c κs = search needs
@@ -42,9 +40,7 @@ sub-sub-below : tie.Need-sub-sub-below
 sub-sub-below c = omega (arith, more-below c)
 
 sub-below-requires-2 : tie.Need-sub-below-requires-2
-sub-below-requires-2 c κs =
-    let a = c .before .before .before .before .before in
-    (rw (c .before .sub-below .ensures) (mod-lt _ (omega (arith, a .pre))), omega arith)
+sub-below-requires-2 c κs = (rw (c .before .sub-below .ensures) (mod-lt _ (omega arith)), omega arith)
 
 returns : tie.Need-returns
 returns c e m f =

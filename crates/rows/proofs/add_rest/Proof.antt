@@ -1,4 +1,5 @@
--- `rows::add_rest` meets its contract. The loop's invariant: the words below i are those of the row, and the rest is as it was.
+-- `rows::add_rest` meets its contract. The loop's invariant: the words below i are those of the row, and the rest is as it was. The measure
+-- is n - i.
 -- Assumes nothing.
 use Prim.Native.Nat.{_≤_, _-_}
 use native.Mathlib.Omega.{arith}
@@ -48,11 +49,10 @@ loop-less : tie.Need-loop-less Inv-loop μ-loop
 loop-less c = search needs
 
 loop-again : tie.Need-loop-again Inv-loop μ-loop
-loop-again c =
-    let n = c .before .before .before .before .before .smaller .ensures in (
-      search needs,
-      next 65521 _ _ _ _ _ (omega arith) (omega arith) (c .before .before .before .before .loop .inv .1) (c .add-mul .ensures),
-    )
+loop-again c = (
+  search needs,
+  next 65521 _ _ _ _ _ (omega arith) (omega arith) (c .before .before .before .before .loop .inv .1) (c .add-mul .ensures),
+)
 
 same-length : tie.Need-same-length Inv-loop μ-loop
 same-length c = search needs

@@ -47,7 +47,6 @@ same-length c = search needs
 
 returns : tie.Need-returns
 returns c =
-    let e = c .before .before .before .before .before .before .before .before .before .smaller .ensures in
     joined 65521 _ _ _ _ _ (c .before .before .before .before .before .before .before .montgomery-row .ensures) (omega arith) (c .before .before .add-rest .ensures)
 
 pub add-row-spec : {M : Type 1} → statement M

@@ -1,5 +1,5 @@
--- `rows::montgomery_row` meets its contract. The loop's invariant: g and s are the constants of m, the words below j are those of the
--- row, and the rest is as it was.
+-- `rows::montgomery_row` meets its contract. The loop's invariant: g and s are the constants of m, the words below j are those of the row,
+-- and the rest is as it was. The measure is n - j.
 -- Assumes nothing.
 use Prim.Native.Nat.{_≤_, _-_}
 use native.Mathlib.Omega.{arith}
@@ -38,7 +38,7 @@ mul-add-product : tie.Need-mul-add-product Inv-loop μ-loop
 mul-add-product c = search needs
 
 slice-read-add-product : tie.Need-slice-read-add-product Inv-loop μ-loop
-slice-read-add-product c = omega (arith, c .before .before .loop .inv .2 .size)
+slice-read-add-product c = search needs
 
 mul-add-product-2 : tie.Need-mul-add-product-2 Inv-loop μ-loop
 mul-add-product-2 c = search needs
@@ -55,7 +55,7 @@ mul-x : tie.Need-mul-x Inv-loop μ-loop
 mul-x c = search needs
 
 slice-write-x : tie.Need-slice-write-x Inv-loop μ-loop
-slice-write-x c = omega (arith, c .before .before .before .before .loop .inv .2 .size)
+slice-write-x c = search needs
 
 add-j : tie.Need-add-j Inv-loop μ-loop
 add-j c = search needs
@@ -69,7 +69,7 @@ loop-again c =
     (search needs, at .1, next _ _ _ _ _ _ (omega arith) (omega arith) (at .2) (c .add-product2 .ensures _ _ (at .1)))
 
 same-length : tie.Need-same-length Inv-loop μ-loop
-same-length c = c .before .loop .inv .2 .size
+same-length c = search needs
 
 returns : tie.Need-returns Inv-loop μ-loop
 returns c = upto (c .loop-test .left) (c .before .loop .inv .0) (c .before .loop .inv .2)

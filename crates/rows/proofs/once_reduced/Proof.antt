@@ -1,4 +1,4 @@
--- `rows::once_reduced` meets its contract.
+-- `rows::once_reduced` meets its contract: a is below 2 p, so one p is enough to take off.
 -- Assumes nothing.
 use mathlib.Core.Path.{sym}
 use native.Mathlib.Nat.{mod-eq-of-lt}

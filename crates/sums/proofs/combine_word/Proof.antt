@@ -1,4 +1,4 @@
--- `sums::combine_word` meets its contract.
+-- `sums::combine_word` meets its contract: by cases on `minus`.
 -- Assumes nothing.
 use borrow.Author.Needs.{needs}
 use Rattle.sums.proofs.combine_word.Statement.{statement}

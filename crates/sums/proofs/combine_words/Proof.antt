@@ -1,4 +1,4 @@
--- `sums::combine_words` meets its contract: the words below k are combined.
+-- `sums::combine_words` meets its contract. The loop's invariant: the words below k are combined. The measure is how many are not.
 -- Assumes nothing.
 use mathlib.Core.Path.{_≡_}
 use Prim.Native.Nat.{_≤_, _-_}

@@ -1,4 +1,5 @@
--- `wide_rows::add_all` meets its contract.
+-- `wide_rows::add_all` meets its contract. The loop's invariant: s has the first g groups of eight rows. The measure is how many groups are
+-- left.
 -- Assumes nothing.
 use mathlib.Core.Path.{_≡_}
 use Prim.Native.Nat.{_/_, _≤_, _-_}
@@ -22,7 +23,7 @@ mul-add-eight : tie.Need-mul-add-eight Inv-loop μ-loop
 mul-add-eight c = search needs
 
 add-eight-requires : tie.Need-add-eight-requires Inv-loop μ-loop
-add-eight-requires c κs = (omega arith, omega arith, omega arith)
+add-eight-requires c κs = search needs
 
 add-g : tie.Need-add-g Inv-loop μ-loop
 add-g c = search needs

@@ -1,4 +1,5 @@
--- `wide_rows::add_eight` meets its contract.
+-- `wide_rows::add_eight` meets its contract. The loop's invariant: z words from i on have gained theirs, the others are what they were. The
+-- measure is length y - 7 - z.
 -- Assumes nothing.
 use mathlib.Core.Path.{_≡_}
 use Prim.Native.Nat.{_≤_, _-_}

@@ -1,4 +1,4 @@
--- `wide_rows::add_rows` meets its contract.
+-- `wide_rows::add_rows` meets its contract: its tests are `rowsFit`.
 -- Assumes nothing.
 use Prim.Native.Nat.{_+_}
 use native.Mathlib.Omega.{arith}

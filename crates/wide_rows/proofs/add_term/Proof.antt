@@ -1,4 +1,4 @@
--- `wide_rows::add_term` meets its contract.
+-- `wide_rows::add_term` meets its contract: the sum fits 64 bits.
 -- Assumes nothing.
 use mathlib.Core.Path.{sym}
 use Prim.Native.Nat.{_+_, _-_}

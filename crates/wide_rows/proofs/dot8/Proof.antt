@@ -1,4 +1,4 @@
--- `wide_rows::dot8` meets its contract.
+-- `wide_rows::dot8` meets its contract: each call adds one product to the sum of those before it.
 -- Assumes nothing.
 use mathlib.Core.Path.{sym}
 use native.Mathlib.Omega.{arith}

@@ -1,4 +1,4 @@
--- `wide_rows::times` meets its contract.
+-- `wide_rows::times` meets its contract: the product fits 64 bits.
 -- Assumes nothing.
 use native.Mathlib.Omega.{arith}
 use Rattle.wide_rows.proofs.Dots.{product-le}

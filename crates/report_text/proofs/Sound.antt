@@ -18,6 +18,7 @@ use Rattle.refusal.specs.declared.Refusal.the-variants.{AllZero}
 use Rattle.refusal.specs.declared.Outcome.the-variants.{Done, Refused}
 use Rattle.lists.specs.declared.NaiveDegree.{NaiveDegree}
 use Rattle.lists.specs.Degrees.{naiveDegree, power}
+use Rattle.lists.specs.Extents.{power-le}
 use Rattle.euclid.specs.Gcds.{commonPower, padded}
 use Rattle.euclid.specs.Loops.{padded-inside, getD-padded}
 use Rattle.euclid.specs.Powers.{commonPower-attained}

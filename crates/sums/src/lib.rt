@@ -21,14 +21,7 @@ pub fn sum(f: &[u16], g: &[u16], out: &mut [u16]) -> Outcome
     ensures answer { λ r. ⌜ outcomeReply r ≡ reply (lowest (sumRefusals p (now (f .entry)) (now (g .entry)) (now (out .entry)))) [] ⌝ }
     ensures writes { λ _. ⌜ now (out .exit) ≡ written (lowest (sumRefusals p (now (f .entry)) (now (g .entry)) (now (out .entry)))) (of.sumOf F65521 (now (f .entry)) (now (g .entry))) (now (out .entry)) ⌝ }
 {
-    let answer = judge_sum(f, g, out);
-    match answer {
-        Outcome::Done => {
-            combine_into(f, g, false, out);
-        }
-        Outcome::Refused(_) => {}
-    }
-    answer
+    combine(f, g, false, out)
 }
 
 // f less g, the shorter list raised first.
@@ -36,10 +29,18 @@ pub fn difference(f: &[u16], g: &[u16], out: &mut [u16]) -> Outcome
     ensures answer { λ r. ⌜ outcomeReply r ≡ reply (lowest (sumRefusals p (now (f .entry)) (now (g .entry)) (now (out .entry)))) [] ⌝ }
     ensures writes { λ _. ⌜ now (out .exit) ≡ written (lowest (sumRefusals p (now (f .entry)) (now (g .entry)) (now (out .entry)))) (of.differenceOf F65521 (now (f .entry)) (now (g .entry))) (now (out .entry)) ⌝ }
 {
+    combine(f, g, true, out)
+}
+
+// f plus g, or f less g.
+fn combine(f: &[u16], g: &[u16], minus: bool, out: &mut [u16]) -> Outcome
+    ensures answer { λ r. ⌜ outcomeReply r ≡ reply (lowest (sumRefusals p (now (f .entry)) (now (g .entry)) (now (out .entry)))) [] ⌝ }
+    ensures writes { λ _. ⌜ now (out .exit) ≡ written (lowest (sumRefusals p (now (f .entry)) (now (g .entry)) (now (out .entry)))) (combined F65521 minus (now (f .entry)) (now (g .entry))) (now (out .entry)) ⌝ }
+{
     let answer = judge_sum(f, g, out);
     match answer {
         Outcome::Done => {
-            combine_into(f, g, true, out);
+            combine_into(f, g, minus, out);
         }
         Outcome::Refused(_) => {}
     }

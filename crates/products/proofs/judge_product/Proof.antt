@@ -1,9 +1,14 @@
 -- `products::judge_product` meets its contract: the tests stand in the order of the numbers.
 -- Assumes nothing.
-use mathlib.Core.Path.{sym, _∙_}
+use mathlib.Core.Path.{_≡_, sym, _∙_}
+use mathlib.Core.List.{[], _∷_}
 use native.Mathlib.Omega.{arith}
 use lib.Dec.{lit<}
 use borrow.Author.Needs.{needs}
+use Rattle.refusal.specs.Limits.{maxWords}
+use Rattle.refusal.specs.Lowest.{lowest}
+use Rattle.refusal.specs.declared.Outcome.the-variants.{Done}
+use Rattle.lists.specs.Refused.{listRefusals}
 use Rattle.products.proofs.Judged.{product-refused, product-over, product-misfit, product-done}
 use Rattle.products.proofs.judge_product.Statement.{statement}
 use Rattle.products.proofs.judge_product.Tie as tie
@@ -22,13 +27,15 @@ returns c =
 enum-told : tie.Need-enum-told
 enum-told c = search needs
 
+-- past the first test the lists are not refused
+listed : (c : tie.After-enum-told) → lowest (listRefusals 65521 maxWords (c .before .before .before .before .before .before .args .f .now ∷ c .before .before .before .before .before .before .args .g .now ∷ [])) ≡ Done
+listed c = sym (c .before .before .judge-lists .ensures) ∙ c .enum-told .given .1
+
 add-if1 : tie.Need-add-if1
 add-if1 c = search needs
 
 returns-2 : tie.Need-returns-2
-returns-2 c =
-    product-over 65521 (lit< tt) _ _ _
-    (sym (c .before .before .before .judge-lists .ensures) ∙ c .before .enum-told .given .1) (omega arith)
+returns-2 c = product-over 65521 (lit< tt) _ _ _ (listed (c .before)) (omega arith)
 
 add-if2 : tie.Need-add-if2
 add-if2 c = search needs
@@ -37,14 +44,10 @@ add-if2-2 : tie.Need-add-if2-2
 add-if2-2 c = search needs
 
 returns-3 : tie.Need-returns-3
-returns-3 c =
-    product-misfit 65521 (lit< tt) _ _ _
-    (sym (c .before .before .before .before .judge-lists .ensures) ∙ c .before .before .enum-told .given .1) (omega arith) (c .if2 .taken)
+returns-3 c = product-misfit 65521 (lit< tt) _ _ _ (listed (c .before .before)) (omega arith) (c .if2 .taken)
 
 returns-4 : tie.Need-returns-4
-returns-4 c =
-    product-done 65521 (lit< tt) _ _ _
-    (sym (c .before .before .before .before .judge-lists .ensures) ∙ c .before .before .enum-told .given .1) (omega arith) (omega arith)
+returns-4 c = product-done 65521 (lit< tt) _ _ _ (listed (c .before .before)) (omega arith) (omega arith)
 
 pub judge-product-spec : {M : Type 1} → statement M
 judge-product-spec =

@@ -1,9 +1,14 @@
 -- `products::judge_raise` meets its contract: the tests stand in the order of the numbers.
 -- Assumes nothing.
-use mathlib.Core.Path.{sym, _∙_}
+use mathlib.Core.Path.{_≡_, sym, _∙_}
+use mathlib.Core.List.{[], _∷_}
 use native.Mathlib.Omega.{arith}
 use lib.Dec.{lit<}
 use borrow.Author.Needs.{needs}
+use Rattle.refusal.specs.Limits.{maxWords}
+use Rattle.refusal.specs.Lowest.{lowest}
+use Rattle.refusal.specs.declared.Outcome.the-variants.{Done}
+use Rattle.lists.specs.Refused.{listRefusals}
 use Rattle.products.proofs.Judged.{raise-refused, raise-over, raise-backwards, raise-misfit, raise-done}
 use Rattle.products.proofs.judge_raise.Statement.{statement}
 use Rattle.products.proofs.judge_raise.Tie as tie
@@ -22,31 +27,27 @@ returns c =
 enum-told : tie.Need-enum-told
 enum-told c = search needs
 
+-- past the first test the list is not refused
+listed : (c : tie.After-enum-told) → lowest (listRefusals 65521 maxWords (c .before .before .before .before .before .args .f .now ∷ [])) ≡ Done
+listed c = sym (c .before .before .judge-list .ensures) ∙ c .enum-told .given .1
+
 returns-2 : tie.Need-returns-2
-returns-2 c =
-    raise-over 65521 (lit< tt) _ _ _
-    (sym (c .before .before .before .judge-list .ensures) ∙ c .before .enum-told .given .1) (omega arith)
+returns-2 c = raise-over 65521 (lit< tt) _ _ _ (listed (c .before)) (omega arith)
 
 add-if2 : tie.Need-add-if2
 add-if2 c = search needs
 
 returns-3 : tie.Need-returns-3
-returns-3 c =
-    raise-backwards 65521 (lit< tt) _ _ _
-    (sym (c .before .before .before .before .judge-list .ensures) ∙ c .before .before .enum-told .given .1) (omega arith) (omega arith)
+returns-3 c = raise-backwards 65521 (lit< tt) _ _ _ (listed (c .before .before)) (omega arith) (omega arith)
 
 add-if3 : tie.Need-add-if3
 add-if3 c = search needs
 
 returns-4 : tie.Need-returns-4
-returns-4 c =
-    raise-misfit 65521 (lit< tt) _ _ _
-    (sym (c .before .before .before .before .before .judge-list .ensures) ∙ c .before .before .before .enum-told .given .1) (omega arith) (omega arith) (c .if3 .taken)
+returns-4 c = raise-misfit 65521 (lit< tt) _ _ _ (listed (c .before .before .before)) (omega arith) (omega arith) (c .if3 .taken)
 
 returns-5 : tie.Need-returns-5
-returns-5 c =
-    raise-done 65521 (lit< tt) _ _ _
-    (sym (c .before .before .before .before .before .judge-list .ensures) ∙ c .before .before .before .enum-told .given .1) (omega arith) (omega arith) (omega arith)
+returns-5 c = raise-done 65521 (lit< tt) _ _ _ (listed (c .before .before .before)) (omega arith) (omega arith) (omega arith)
 
 pub judge-raise-spec : {M : Type 1} → statement M
 judge-raise-spec =

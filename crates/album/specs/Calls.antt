@@ -1,6 +1,7 @@
 -- What reading a list of an album refuses and answers.
---     readRefusals     of reading list i: those of every call on list i, and a slice of other than 256 words (10)
---     listedReply      what the answer says: the list's naive degree
+--     readRows, readRefusals     of reading list i: those of every call on list i, and a slice of another number of words than the longest
+--                                list has (10)
+--     listedReply                what the answer says: the list's naive degree
 -- Assumes nothing.
 use mathlib.Core.Bool.{not}
 use mathlib.Core.List.{List, [], _∷_, _++_}
@@ -15,8 +16,11 @@ use Rattle.layout.specs.Calls.{checkRefusals}
 use Rattle.album.specs.declared.Listed.{Listed}
 use Rattle.album.specs.declared.Listed.the-variants.{Done, Refused}
 
+unfoldable pub readRows : (p most : ℕ) → List ℕ → ℕ → List ℕ → List Condition
+readRows p most s i out = checkRefusals p s i ++ (Misfit given-when not (eqb (length out) most) ∷ [])
+
 unfoldable pub readRefusals : ℕ → List ℕ → ℕ → List ℕ → List Condition
-readRefusals p s i out = checkRefusals p s i ++ (Misfit given-when not (eqb (length out) maxWords) ∷ [])
+readRefusals p s i out = readRows p maxWords s i out
 
 abbrev pub listedReply : Listed → Reply
 listedReply (Done n) = record { number = 0; values = n .0 ∷ [] }

@@ -6,11 +6,11 @@ ghost use lib.ListN.{length, getD};
 ghost use Rattle.refusal.specs.Limits.{maxWords};
 ghost use Rattle.refusal.specs.Refusal.{reply, written};
 ghost use Rattle.refusal.specs.Lowest.{lowest};
-ghost use Rattle.field.specs.Field.{p};
+ghost use Rattle.field.specs.Fields.{p, modulus, longest};
 ghost use Rattle.lists.specs.Bytes.{wordsOf};
 ghost use Rattle.euclid.specs.Gcds.{padded};
 ghost use Rattle.layout.specs.Layout.{degreeAt, listAt};
-ghost use Rattle.album.specs.Calls.{readRefusals, listedReply};
+ghost use Rattle.album.specs.Calls.{readRows, readRefusals, listedReply};
 use lists::NaiveDegree;
 use refusal::Outcome;
 use refusal::Refusal;
@@ -21,31 +21,39 @@ pub enum Listed {
     Refused(Refusal),
 }
 
-// The words of list i, in a slice of 256 words, zeros after them.
+// The words of list i, in a slice of MAX_WORDS words, zeros after them.
 pub fn read_list(album: &[u8], i: usize, out: &mut [u16]) -> Listed
     ensures answer { λ r. ⌜ listedReply r ≡ reply (lowest (readRefusals p (now (album .entry)) i (now (out .entry)))) (degreeAt (now (album .entry)) i ∷ []) ⌝ }
     ensures writes { λ _. ⌜ now (out .exit) ≡ written (lowest (readRefusals p (now (album .entry)) i (now (out .entry)))) (padded maxWords (listAt (now (album .entry)) i)) (now (out .entry)) ⌝ }
 {
-    let n = read(album, i, out);
+    read_list_over(0, album, i, out)
+}
+
+// The same over a field, in a slice of as many words as the longest list has.
+pub fn read_list_over(field: u8, album: &[u8], i: usize, out: &mut [u16]) -> Listed
+    ensures answer { λ r. ⌜ listedReply r ≡ reply (lowest (readRows (modulus field) (longest field) (now (album .entry)) i (now (out .entry)))) (degreeAt (now (album .entry)) i ∷ []) ⌝ }
+    ensures writes { λ _. ⌜ now (out .exit) ≡ written (lowest (readRows (modulus field) (longest field) (now (album .entry)) i (now (out .entry)))) (padded (longest field) (listAt (now (album .entry)) i)) (now (out .entry)) ⌝ }
+{
+    let n = read(field, album, i, out);
     if n != 0 {
         return Listed::Done(NaiveDegree(n - 1));
     }
     // Refused: for the album or i, or else for the slice.
-    match layout::judge_call(album, i) {
+    match layout::judge_call(field, album, i) {
         Outcome::Refused(why) => Listed::Refused(why),
         Outcome::Done => Listed::Refused(Refusal::Misfit),
     }
 }
 
 // The same for a caller that needs no refusal's number: the answer is the number of the list's words, 0 where refused.
-pub fn read(album: &[u8], i: usize, out: &mut [u16]) -> usize
-    ensures answer { λ r. ⌜ r ≡ length (written (lowest (readRefusals p (now (album .entry)) i (now (out .entry)))) (listAt (now (album .entry)) i) []) ⌝ }
-    ensures writes { λ _. ⌜ now (out .exit) ≡ written (lowest (readRefusals p (now (album .entry)) i (now (out .entry)))) (padded maxWords (listAt (now (album .entry)) i)) (now (out .entry)) ⌝ }
+pub fn read(field: u8, album: &[u8], i: usize, out: &mut [u16]) -> usize
+    ensures answer { λ r. ⌜ r ≡ length (written (lowest (readRows (modulus field) (longest field) (now (album .entry)) i (now (out .entry)))) (listAt (now (album .entry)) i) []) ⌝ }
+    ensures writes { λ _. ⌜ now (out .exit) ≡ written (lowest (readRows (modulus field) (longest field) (now (album .entry)) i (now (out .entry)))) (padded (longest field) (listAt (now (album .entry)) i)) (now (out .entry)) ⌝ }
 {
-    if out.len() != refusal::MAX_WORDS {
+    if out.len() != field::longest_of(field) {
         return 0;
     }
-    let body = layout::body(album, i);
+    let body = layout::body_over(field, album, i);
     let n = body.len() / 2;
     if n != 0 {
         read_words(body, out);

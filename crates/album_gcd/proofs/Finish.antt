@@ -8,7 +8,6 @@ use native.Mathlib.Omega.{arith}
 use lib.ListN.{getD, length, take, List·getD-eq-default}
 use lib.Seq.{take-at}
 use Rattle.algebra.specs.PrimeField.{PrimeField}
-use Rattle.refusal.specs.Limits.{maxWords}
 use Rattle.refusal.specs.Refusal.{reply, written}
 use Rattle.refusal.specs.Lowest.{lowest}
 use Rattle.refusal.specs.declared.Refusal.{Refusal}
@@ -24,21 +23,21 @@ use Rattle.albums.specs.Folds.{zeroStart, foldGcd, fold-album}
 use Rattle.layout.specs.Layout.{listsOf}
 use Rattle.gcd.specs.declared.Gcd.the-variants as G
 use Rattle.gcd.specs.Calls.{gcdReply}
-use Rattle.album_gcd.specs.Calls.{albumGcdRefusals, albumGcdValues, AlbumGreatestSo}
+use Rattle.album_gcd.specs.Calls.{albumGcdRows, albumGcdValues, AlbumGreatestSo}
 use Rattle.album_gcd.specs.Workers.{Folded, Answered}
 use Rattle.album_gcd.proofs.Zeros.{Nonzero}
 
-pub refused : (F : PrimeField) (s h : List ℕ) {why : Refusal} → lowest (albumGcdRefusals (F .p) s h) ≡ Refused why
-    → Answered F s h h (G.Refused why)
-refused F s h e =
+pub refused : (F : PrimeField) (most : ℕ) (s h : List ℕ) {why : Refusal} → lowest (albumGcdRows (F .p) most s h) ≡ Refused why
+    → Answered F most s h h (G.Refused why)
+refused F most s h e =
     record {
       answer = sym (ap (λ o. reply o (albumGcdValues F (listsOf s))) e);
-      writes = sym (ap (λ o. written o (padded maxWords (albumGcd F (listsOf s) .list)) h) e);
+      writes = sym (ap (λ o. written o (padded most (albumGcd F (listsOf s) .list)) h) e);
       greatest = tt;
     }
 
-module _ (F : PrimeField) (big : maxWords ≤ F .p) (lists : List (List ℕ))
-    (listed : (i : ℕ) → i < length lists → Listed (F .p) maxWords (getD lists i [])) (one : Nonzero lists) where
+module _ (F : PrimeField) (most : ℕ) (big : most ≤ F .p) (lists : List (List ℕ))
+    (listed : (i : ℕ) → i < length lists → Listed (F .p) most (getD lists i [])) (one : Nonzero lists) where
   pub each : (i : ℕ) → Coefficients F (getD lists i [])
   each i = go (decLt i (length lists))
     where
@@ -49,25 +48,25 @@ module _ (F : PrimeField) (big : maxWords ≤ F .p) (lists : List (List ℕ))
   long : length (albumGcd F lists .list) ≡ suc (naiveDegree (albumGcd F lists .list))
   long = album-length F lists each (one .index) (one .some)
 
-  promised : AlbumGreatestSo F lists (padded maxWords (albumGcd F lists .list)) (naiveDegree (albumGcd F lists .list)) (commonPower lists)
+  promised : AlbumGreatestSo F lists (padded most (albumGcd F lists .list)) (naiveDegree (albumGcd F lists .list)) (commonPower lists)
   promised =
       record {
-        ends = getD-padded maxWords (albumGcd F lists .list) _ ∙ album-ends F lists each (one .index) (one .some);
+        ends = getD-padded most (albumGcd F lists .list) _ ∙ album-ends F lists each (one .index) (one .some);
         zeros =
-            λ k l. getD-padded maxWords (albumGcd F lists .list) k
+            λ k l. getD-padded most (albumGcd F lists .list) k
             ∙ List·getD-eq-default (albumGcd F lists .list) 0 (omega (arith, long));
         greatest = rw cut (album-is-greatest F lists each (one .index) (one .some));
       }
     where
-      cut : take (suc (naiveDegree (albumGcd F lists .list))) (padded maxWords (albumGcd F lists .list)) ≡ albumGcd F lists .list
+      cut : take (suc (naiveDegree (albumGcd F lists .list))) (padded most (albumGcd F lists .list)) ≡ albumGcd F lists .list
       cut = unfold padded in take-at (albumGcd F lists .list) _ _ long
 
-  module _ {x : List ℕ} {n k c : ℕ} (f : Folded F lists x n k) (e : c ≡ commonPower lists) where
+  module _ {x : List ℕ} {n k c : ℕ} (f : Folded F most lists x n k) (e : c ≡ commonPower lists) where
     whole : albumGcd F lists ≡ foldGcd F zeroStart lists
     whole = fold-album F lists each (one .index) (one .some)
 
-    slice : x ≡ padded maxWords (albumGcd F lists .list)
-    slice = f .held .slice ∙ ap (λ r. padded maxWords (r .list)) (sym whole)
+    slice : x ≡ padded most (albumGcd F lists .list)
+    slice = f .held .slice ∙ ap (λ r. padded most (r .list)) (sym whole)
 
     degree : n - 1 ≡ naiveDegree (albumGcd F lists .list)
     unfolding naiveDegree
@@ -79,16 +78,16 @@ module _ (F : PrimeField) (big : maxWords ≤ F .p) (lists : List (List ℕ))
         ap (λ m. G.Done (record { 0 = m }) c k) degree
         ∙ ap₂ (G.Done (record { 0 = naiveDegree (albumGcd F lists .list) })) e (f .rounds ∙ ap (λ r. r .rounds) (sym whole))
 
-module _ (F : PrimeField) (big : maxWords ≤ F .p) (s h : List ℕ)
-    (listed : (i : ℕ) → i < length (listsOf s) → Listed (F .p) maxWords (getD (listsOf s) i [])) (one : Nonzero (listsOf s)) where
-  pub answered : {x : List ℕ} {n k c : ℕ} → Done ≡ lowest (albumGcdRefusals (F .p) s h) → Folded F (listsOf s) x n k
-      → c ≡ commonPower (listsOf s) → Answered F s h x (G.Done (record { 0 = n - 1 }) c k)
+module _ (F : PrimeField) (most : ℕ) (big : most ≤ F .p) (s h : List ℕ)
+    (listed : (i : ℕ) → i < length (listsOf s) → Listed (F .p) most (getD (listsOf s) i [])) (one : Nonzero (listsOf s)) where
+  pub answered : {x : List ℕ} {n k c : ℕ} → Done ≡ lowest (albumGcdRows (F .p) most s h) → Folded F most (listsOf s) x n k
+      → c ≡ commonPower (listsOf s) → Answered F most s h x (G.Done (record { 0 = n - 1 }) c k)
   unfolding albumGcdValues
   answered {x} {n} {k} {c} e f ec =
-      let a = answer F big (listsOf s) listed one f ec in
-      let b = slice F big (listsOf s) listed one f ec in
+      let a = answer F most big (listsOf s) listed one f ec in
+      let b = slice F most big (listsOf s) listed one f ec in
       record {
         answer = ap gcdReply a ∙ ap (λ o. reply o (albumGcdValues F (listsOf s))) e;
-        writes = b ∙ ap (λ o. written o (padded maxWords (albumGcd F (listsOf s) .list)) h) e;
-        greatest = rw (degree F big (listsOf s) listed one f ec, ec, b) (promised F big (listsOf s) listed one);
+        writes = b ∙ ap (λ o. written o (padded most (albumGcd F (listsOf s) .list)) h) e;
+        greatest = rw (degree F most big (listsOf s) listed one f ec, ec, b) (promised F most big (listsOf s) listed one);
       }

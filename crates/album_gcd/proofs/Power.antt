@@ -1,5 +1,5 @@
 -- The least power of the lists that are not zero, found by a loop that starts above every power.
---     Lowest i a     a is at most the power of each list below i that is not zero, and is 256 or the power of a list that is not zero
+--     Lowest i a     a is at most the power of each list below i that is not zero, and is `most` or the power of a list that is not zero
 -- Assumes nothing.
 use mathlib.Core.Path.{_≡_, refl, _∙_, ap}
 use mathlib.Core.Logic.{_⊎_, inl, inr}
@@ -8,7 +8,6 @@ use Prim.Native.Nat.{ℕ, _+_, _-_, _≤_, _<_}
 use native.Mathlib.Decide.{ℕ-discrete, decLt}
 use native.Mathlib.Omega.{arith}
 use lib.ListN.{getD, length, take, List·getD-eq-default}
-use Rattle.refusal.specs.Limits.{maxWords}
 use Rattle.lists.specs.Degrees.{significant, power}
 use Rattle.lists.specs.Extents.{significant-le, power-is}
 use Rattle.euclid.specs.Gcds.{commonPower}
@@ -18,14 +17,14 @@ use Rattle.album.proofs.Held.{held-take}
 use Rattle.album_gcd.proofs.Zeros.{Nonzero}
 
 -- a list c in a slice, with k the number of its significant words
-pub list-power : {p n k : ℕ} {x c d : List ℕ} → c ≡ d → Held p x n c → k ≡ significant (take n x)
+pub list-power : {p most n k : ℕ} {x c d : List ℕ} → c ≡ d → Held p most x n c → k ≡ significant (take n x)
     → (k ≡ significant d) × (k ≤ n) × (0 < k → n - k ≡ power d)
-list-power {p} {n} {k} {x} {c} {d} e h q =
+list-power {p} {most} {n} {k} {x} {c} {d} e h q =
     let v : k ≡ significant d = q ∙ ap significant (held-take h ∙ e) in
     let w : n ≡ length d = h .words ∙ ap length e in
     (v, omega (arith, significant-le d), λ l. omega (arith, power-is d (λ z. omega arith)))
 
-module _ (lists : List (List ℕ)) where
+module _ (most : ℕ) (lists : List (List ℕ)) where
   -- the power of a list that is not zero
   pub record Found (a : ℕ) : Type 0 where
     pub index : ℕ
@@ -34,10 +33,10 @@ module _ (lists : List (List ℕ)) where
 
   pub record Lowest (i a : ℕ) : Type 0 where
     pub le : (j : ℕ) → j < i → 0 < significant (getD lists j []) → a ≤ power (getD lists j [])
-    pub is : (a ≡ maxWords) ⊎ Found a
+    pub is : (a ≡ most) ⊎ Found a
 
-  pub lowest-start : Lowest 0 256
-  lowest-start = record { le = λ j l. absurd (omega arith); is = inl (omega arith) }
+  pub lowest-start : {a : ℕ} → a ≡ most → Lowest 0 a
+  lowest-start e = record { le = λ j l. absurd (omega arith); is = inl e }
 
   pub lowest-keep : {i a b : ℕ} → Lowest i a → b ≡ a → (0 < significant (getD lists i []) → a ≤ power (getD lists i [])) → Lowest (i + 1) b
   lowest-keep {i} {a} {b} w e here = rw e (record { le = λ j l. go j l (ℕ-discrete j i); is = w .is })
@@ -61,7 +60,7 @@ module _ (lists : List (List ℕ)) where
       go (no f) = absurd (let z = ap significant (List·getD-eq-default lists [] {n = i} (omega arith)) ∙ significant-nil in omega arith)
 
   pub lowest-end : {i a : ℕ} → Lowest i a → length lists ≤ i → Nonzero lists
-      → ((j : ℕ) → j < length lists → length (getD lists j []) ≤ maxWords) → a ≡ commonPower lists
+      → ((j : ℕ) → j < length lists → length (getD lists j []) ≤ most) → a ≡ commonPower lists
   lowest-end {i} {a} w l one short = go (w .is)
     where
       least : a ≤ commonPower lists
@@ -71,14 +70,14 @@ module _ (lists : List (List ℕ)) where
           let m = w .le (c .index) (omega arith) (c .some) in
           omega (arith, c .is)
 
-      small : commonPower lists < maxWords
+      small : commonPower lists < most
       small =
           let c = commonPower-attained lists (one .index) (one .some) in
           let some = c .some in
           let s = short (c .index) (inside (c .index) some) in
-          omega (arith, c .is, power-is (getD lists (c .index) []) (λ z. omega arith))
+          omega (arith, c .is, power-is (getD lists (c .index) []) (λ z. omega arith), significant-le (getD lists (c .index) []))
 
-      go : (a ≡ maxWords) ⊎ Found a → a ≡ commonPower lists
+      go : (a ≡ most) ⊎ Found a → a ≡ commonPower lists
       go (inl e) = absurd (let k = small in let m = least in omega arith)
       go (inr f) =
           let k = commonPower-le lists (f .index) (f .some) in

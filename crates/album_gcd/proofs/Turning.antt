@@ -28,41 +28,41 @@ use Rattle.euclid.specs.Gcd.{gcd-rounds}
 use Rattle.euclid.specs.Loops.{padded-is}
 use Rattle.albums.specs.Folds.{zeroStart, turn, foldGcd, turn-zero, turn-nonzero, fold-none, fold-drop, start-listed, turn-listed}
 use Rattle.gcd.specs.declared.Gcd.the-variants as G
-use Rattle.gcd.specs.Calls.{gcdReply, gcdValues, gcdRefusals}
+use Rattle.gcd.specs.Calls.{gcdReply, gcdValues, gcdRows}
 use Rattle.gcd.proofs.Ready.{judged-done}
 use Rattle.album.specs.Workers.{Held}
 use Rattle.album.proofs.Held.{held-take, held-length}
 use Rattle.album_gcd.specs.Workers.{Turned, Folded}
 
 -- a list that no call refuses passes
-module _ (p : ℕ) where
+module _ (p most : ℕ) where
   tight : (c : List ℕ) → ((k : ℕ) → getD c k 0 < p) → hasLoose p c ≡ false
   unfolding hasLoose
   tight [] h = refl
   tight (x ∷ c) h = rw (lt-leb p x (h 0)) (tight c (λ k. h (suc k)))
 
-  right-length : (c : List ℕ) → Listed p maxWords c → wrongLength maxWords c ≡ false
+  right-length : (c : List ℕ) → Listed p most c → wrongLength most c ≡ false
   unfolding wrongLength
   right-length c l =
       let some = l .some in
-      simp (ne-eqb (length c) 0 (λ e. omega arith), le-ltb maxWords (length c) (l .short))
+      simp (ne-eqb (length c) 0 (λ e. omega arith), le-ltb most (length c) (l .short))
 
-  module _ (f g : List ℕ) (lf : Listed p maxWords f) (lg : Listed p maxWords g) where
-    lists-pass : lowest (listRefusals p maxWords (f ∷ g ∷ [])) ≡ Done
+  module _ (f g : List ℕ) (lf : Listed p most f) (lg : Listed p most g) where
+    lists-pass : lowest (listRefusals p most (f ∷ g ∷ [])) ≡ Done
     lists-pass =
-        judged p maxWords (f ∷ g ∷ [])
+        judged p most (f ∷ g ∷ [])
         ∙ simp (right-length f lf, right-length g lg, tight f (lf .words), tight g (lg .words))
 
-    gcd-pass : (h : List ℕ) → ¬ (significant g ≡ 0) → length h ≡ maxWords → lowest (gcdRefusals p f g h) ≡ Done
-    unfolding gcdRefusals
+    gcd-pass : (h : List ℕ) → ¬ (significant g ≡ 0) → length h ≡ most → lowest (gcdRows p most f g h) ≡ Done
+    unfolding gcdRows
     gcd-pass h some e =
-        sym (judged-done p f g (not (eqb (length h) maxWords)) lists-pass
-        (ne-eqb (significant f + significant g) 0 (λ z. some (omega arith))) (ap not (eq-eqb (length h) maxWords e)))
+        sym (judged-done p most f g (not (eqb (length h) most)) lists-pass
+        (ne-eqb (significant f + significant g) 0 (λ z. some (omega arith))) (ap not (eq-eqb (length h) most e)))
 
-module _ (F : PrimeField) (big : maxWords ≤ F .p) where
-  module _ {x : List ℕ} {n : ℕ} (f c : List ℕ) (h : Held (F .p) x n f) where
+module _ (F : PrimeField) (most : ℕ) (big : most ≤ F .p) where
+  module _ {x : List ℕ} {n : ℕ} (f c : List ℕ) (h : Held (F .p) most x n f) where
     -- a zero list is passed over
-    pub turn-over : significant c ≡ 0 → Turned F f c x n 0
+    pub turn-over : significant c ≡ 0 → Turned F most f c x n 0
     turn-over e =
         record {
           list = f;
@@ -71,16 +71,16 @@ module _ (F : PrimeField) (big : maxWords ≤ F .p) where
           is = λ k. turn-zero F (record { list = f; rounds = k }) c e ∙ ap (λ j. record { list = f; rounds = j }) (sym (add-zero k));
         }
 
-    module _ (lc : Listed (F .p) maxWords c) (some : ¬ (significant c ≡ 0)) where
-      pass : lowest (gcdRefusals (F .p) f c x) ≡ Done
-      pass = gcd-pass (F .p) f c (h .listed) lc x some (held-length h)
+    module _ (lc : Listed (F .p) most c) (some : ¬ (significant c ≡ 0)) where
+      pass : lowest (gcdRows (F .p) most f c x) ≡ Done
+      pass = gcd-pass (F .p) most f c (h .listed) lc x some (held-length h)
 
-      pub turn-never : (why : Refusal) → gcdReply (G.Refused why) ≡ reply (lowest (gcdRefusals (F .p) f c x)) (gcdValues F f c) → ⊥
+      pub turn-never : (why : Refusal) → gcdReply (G.Refused why) ≡ reply (lowest (gcdRows (F .p) most f c x)) (gcdValues F f c) → ⊥
       unfolding gcdValues
       turn-never why e = let z = ap (λ z. length (z .values)) (e ∙ ap (λ o. reply o (gcdValues F f c)) pass) in omega arith
 
       module _ (w : NaiveDegree) (c′ k : ℕ)
-          (e : gcdReply (G.Done w c′ k) ≡ reply (lowest (gcdRefusals (F .p) f c x)) (gcdValues F f c)) where
+          (e : gcdReply (G.Done w c′ k) ≡ reply (lowest (gcdRows (F .p) most f c x)) (gcdValues F f c)) where
         value : (i : ℕ) → getD (w .0 ∷ c′ ∷ k ∷ []) i 0 ≡ getD (gcdValues F f c) i 0
         value i = ap (λ z. getD (z .values) i 0) (e ∙ ap (λ o. reply o (gcdValues F f c)) pass)
 
@@ -92,10 +92,10 @@ module _ (F : PrimeField) (big : maxWords ≤ F .p) where
         unfolding gcdValues
         count = value 2
 
-        listed : Listed (F .p) maxWords (gcdOf F f c)
+        listed : Listed (F .p) most (gcdOf F f c)
         listed =
-            subst (λ r. Listed (F .p) maxWords (r .list)) (turn-nonzero F (record { list = f; rounds = 0 }) c some)
-            (turn-listed F maxWords (record { list = f; rounds = 0 }) c big (h .listed) lc)
+            subst (λ r. Listed (F .p) most (r .list)) (turn-nonzero F (record { list = f; rounds = 0 }) c some)
+            (turn-listed F most (record { list = f; rounds = 0 }) c big (h .listed) lc)
 
         coefficients : Coefficients F f
         coefficients = record { short = let s = h .listed .short in omega arith; below = h .listed .words }
@@ -104,12 +104,12 @@ module _ (F : PrimeField) (big : maxWords ≤ F .p) where
         unfolding naiveDegree
         turn-words = let s = listed .some in let d = degree in omega arith
 
-        pub turn-short : w .0 < maxWords
+        pub turn-short : w .0 < most
         turn-short = let s = listed .short in let d = turn-words in omega arith
 
         -- the GCD with a list that is not zero
-        pub turn-with : {x′ : List ℕ} → x′ ≡ written (lowest (gcdRefusals (F .p) f c x)) (padded maxWords (gcdOf F f c)) x
-            → Turned F f c x′ (w .0 + 1) k
+        pub turn-with : {x′ : List ℕ} → x′ ≡ written (lowest (gcdRows (F .p) most f c x)) (padded most (gcdOf F f c)) x
+            → Turned F most f c x′ (w .0 + 1) k
         turn-with v =
             record {
               list = gcdOf F f c;
@@ -117,7 +117,7 @@ module _ (F : PrimeField) (big : maxWords ≤ F .p) where
                   record {
                     listed = listed;
                     words = turn-words;
-                    slice = v ∙ ap (λ o. written o (padded maxWords (gcdOf F f c)) x) pass;
+                    slice = v ∙ ap (λ o. written o (padded most (gcdOf F f c)) x) pass;
                   };
               few =
                   let rounds = gcd-rounds F f c coefficients in
@@ -129,14 +129,14 @@ module _ (F : PrimeField) (big : maxWords ≤ F .p) where
                   ∙ ap (λ j. record { list = gcdOf F f c; rounds = r + j }) (sym count);
             }
 
-module _ (F : PrimeField) where
-  pub turn-as : {f f′ c x : List ℕ} {n k : ℕ} → f ≡ f′ → Turned F f c x n k → Turned F f′ c x n k
-  turn-as {f} {f′} {c} {x} {n} {k} e = subst (λ g. Turned F g c x n k) e
+module _ (F : PrimeField) (most : ℕ) where
+  pub turn-as : {f f′ c x : List ℕ} {n k : ℕ} → f ≡ f′ → Turned F most f c x n k → Turned F most f′ c x n k
+  turn-as {f} {f′} {c} {x} {n} {k} e = subst (λ g. Turned F most g c x n k) e
 
   module _ (lists : List (List ℕ)) where
     pub record Folding (i : ℕ) (x : List ℕ) (n k : ℕ) : Type 0 where
       pub list : List ℕ
-      pub held : Held (F .p) x n list
+      pub held : Held (F .p) most x n list
       pub few : k ≤ maxWords * i
       pub rest : foldGcd F (record { list = list; rounds = k }) (drop i lists) ≡ foldGcd F zeroStart lists
 
@@ -144,23 +144,23 @@ module _ (F : PrimeField) where
     zero-at zero = refl
     zero-at (suc k) = refl
 
-    pub folding-start : (x : List ℕ) → length x ≡ maxWords → ((k : ℕ) → getD x k 0 ≡ 0) → Folding 0 x 1 0
-    folding-start x e z =
+    pub folding-start : (x : List ℕ) → 0 < most → length x ≡ most → ((k : ℕ) → getD x k 0 ≡ 0) → Folding 0 x 1 0
+    folding-start x l e z =
         record {
           list = 0 ∷ [];
           held =
               record {
-                listed = start-listed F maxWords (omega arith);
+                listed = start-listed F most l;
                 words = refl;
-                slice = padded-is maxWords (0 ∷ []) x (omega arith) e (λ k l. z k ∙ sym (zero-at k));
+                slice = padded-is most (0 ∷ []) x l e (λ k _. z k ∙ sym (zero-at k));
               };
           few = omega arith;
           rest = refl;
         }
 
-    pub folding-next : {i n k n′ k′ : ℕ} {x x′ c : List ℕ} → Folding i x n k → i < length lists → c ≡ getD lists i []
-        → Turned F (take n x) c x′ n′ k′ → Folding (i + 1) x′ n′ (k + k′)
-    folding-next {i} {n} {k} {n′} {k′} {x} {x′} {c} w l e t =
+    pub folding-next : most ≤ maxWords → {i n k n′ k′ : ℕ} {x x′ c : List ℕ} → Folding i x n k → i < length lists → c ≡ getD lists i []
+        → Turned F most (take n x) c x′ n′ k′ → Folding (i + 1) x′ n′ (k + k′)
+    folding-next room {i} {n} {k} {n′} {k′} {x} {x′} {c} w l e t =
         record {
           list = t .list;
           held = t .held;
@@ -175,9 +175,9 @@ module _ (F : PrimeField) where
         turned =
             ap₂ (λ f c. turn F (record { list = f; rounds = k }) c) (sym (held-take (w .held))) (sym e) ∙ t .is k
 
-    pub folding-end : {i n k : ℕ} {x : List ℕ} → Folding i x n k → length lists ≤ i → Folded F lists x n k
+    pub folding-end : {i n k : ℕ} {x : List ℕ} → Folding i x n k → length lists ≤ i → Folded F most lists x n k
     folding-end {i} {n} {k} {x} w l =
-        record { held = subst (λ r. Held (F .p) x n (r .list)) whole (w .held); rounds = ap (λ r. r .rounds) whole }
+        record { held = subst (λ r. Held (F .p) most x n (r .list)) whole (w .held); rounds = ap (λ r. r .rounds) whole }
       where
         whole : record { list = w .list; rounds = k } ≡ foldGcd F zeroStart lists
         whole =

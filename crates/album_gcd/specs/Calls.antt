@@ -1,6 +1,7 @@
 -- What the GCD of an album answers, refuses and promises; s is the album's bytes.
 --     allZero               every list of the album is zero
---     albumGcdRefusals      those of every call on an album, all zero (9), and a slice of other than 256 words (10)
+--     albumGcdRows, albumGcdRefusals     those of every call on an album, all zero (9), and a slice of another number of words than the
+--                                        longest list has (10)
 --     albumGcdValues        w, the naive degree of h; c, the least power of the lists that are not zero; the sum of all rounds
 --     AlbumGreatestSo       (1-t)^c·h divides the polynomial of each list, and every polynomial over the field, of any degree, that divides
 --                           them all divides it, h being the first w + 1 words of the slice; the slice holds 1 at w and 0 after it
@@ -30,12 +31,15 @@ unfoldable pub allZero : List (List ℕ) → Bool
 allZero [] = true
 allZero (c ∷ lists) = eqb (significant c) 0 && allZero lists
 
-unfoldable pub albumGcdRefusals : ℕ → (s h : List ℕ) → List Condition
-albumGcdRefusals p s h =
+unfoldable pub albumGcdRows : (p most : ℕ) → (s h : List ℕ) → List Condition
+albumGcdRows p most s h =
     albumRefusals p s ++
     (AllZero given-when allZero (listsOf s) ∷
-    Misfit given-when not (eqb (length h) maxWords) ∷
+    Misfit given-when not (eqb (length h) most) ∷
     [])
+
+unfoldable pub albumGcdRefusals : ℕ → (s h : List ℕ) → List Condition
+albumGcdRefusals p s h = albumGcdRows p maxWords s h
 
 unfoldable pub albumGcdValues : PrimeField → List (List ℕ) → List ℕ
 albumGcdValues F lists = naiveDegree (albumGcd F lists .list) ∷ commonPower lists ∷ albumGcd F lists .rounds ∷ []

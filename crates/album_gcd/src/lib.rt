@@ -1,13 +1,12 @@
 // The GCD of an album.
 ghost use mathlib.Core.Path.{_≡_};
 ghost use mathlib.Core.Bool.{false};
-ghost use Prim.Native.Nat.{ℕ};
+ghost use Prim.Native.Nat.{ℕ, _<_};
 ghost use lib.ListN.{length, getD, take};
-ghost use Rattle.algebra.specs.PrimeField.{F65521};
+ghost use Rattle.field.specs.Fields.{F65521, p, modulus, fieldAt, longest};
 ghost use Rattle.refusal.specs.Limits.{maxWords};
 ghost use Rattle.refusal.specs.Refusal.{reply, written};
 ghost use Rattle.refusal.specs.Lowest.{lowest};
-ghost use Rattle.field.specs.Field.{p};
 ghost use Rattle.lists.specs.Refused.{Listed};
 ghost use Rattle.euclid.specs.Gcds.{padded, commonPower};
 ghost use Rattle.albums.specs.Albums.{albumGcd};
@@ -15,42 +14,61 @@ ghost use Rattle.layout.specs.Layout.{count, listsOf};
 ghost use Rattle.layout.specs.Workers.{Passed};
 ghost use Rattle.album.specs.Workers.{Held};
 ghost use Rattle.gcd.specs.Calls.{gcdReply};
-ghost use Rattle.album_gcd.specs.Calls.{allZero, albumGcdRefusals, albumGcdValues, AlbumGreatest};
+ghost use Rattle.album_gcd.specs.Calls.{allZero, albumGcdRows, albumGcdRefusals, albumGcdValues, AlbumGreatest};
 ghost use Rattle.album_gcd.specs.Workers.{Turned, Folded, Answered};
 use gcd::Gcd;
 use lists::NaiveDegree;
 use refusal::Outcome;
 use refusal::Refusal;
 
-// The GCD of the album's lists: h goes to a slice of 256 words, zeros after word w.
+// The GCD of the album's lists: h goes to a slice of MAX_WORDS words, zeros after word w.
 pub fn gcd_of_album(album: &[u8], h: &mut [u16]) -> Gcd
     ensures answer { λ r. ⌜ gcdReply r ≡ reply (lowest (albumGcdRefusals p (now (album .entry)) (now (h .entry)))) (albumGcdValues F65521 (listsOf (now (album .entry)))) ⌝ }
     ensures writes { λ _. ⌜ now (h .exit) ≡ written (lowest (albumGcdRefusals p (now (album .entry)) (now (h .entry)))) (padded maxWords (albumGcd F65521 (listsOf (now (album .entry))) .list)) (now (h .entry)) ⌝ }
     ensures greatest { λ r. ⌜ AlbumGreatest F65521 (listsOf (now (album .entry))) (now (h .exit)) r ⌝ }
 {
-    let mut list = [0u16; 256];
-    let mut last = [0u16; 256];
-    gcd_in(album, &mut list, &mut last, h)
+    album_gcd_over(0, album, h)
+}
+
+// The same over a field: h goes to a slice of as many words as the longest list has.
+pub fn album_gcd_over(field: u8, album: &[u8], h: &mut [u16]) -> Gcd
+    ensures answer { λ r. ⌜ gcdReply r ≡ reply (lowest (albumGcdRows (modulus field) (longest field) (now (album .entry)) (now (h .entry)))) (albumGcdValues (fieldAt field) (listsOf (now (album .entry)))) ⌝ }
+    ensures writes { λ _. ⌜ now (h .exit) ≡ written (lowest (albumGcdRows (modulus field) (longest field) (now (album .entry)) (now (h .entry)))) (padded (longest field) (albumGcd (fieldAt field) (listsOf (now (album .entry))) .list)) (now (h .entry)) ⌝ }
+    ensures greatest { λ r. ⌜ AlbumGreatest (fieldAt field) (listsOf (now (album .entry))) (now (h .exit)) r ⌝ }
+{
+    let mut list = [0u16; refusal::MAX_WORDS];
+    let mut last = [0u16; refusal::MAX_WORDS];
+    gcd_between(field, album, &mut list, &mut last, h)
+}
+
+// The same in as much of two arrays as the longest list takes; last comes as zeros.
+fn gcd_between(field: u8, album: &[u8], list: &mut [u16], last: &mut [u16], h: &mut [u16]) -> Gcd
+    requires { ⌜ (length (now list) ≡ maxWords) × (length (now last) ≡ maxWords) ⌝ }
+    requires { ⌜ ((k : ℕ) → getD (now last) k 0 ≡ 0) ⌝ }
+    ensures { λ r. ⌜ Answered (fieldAt field) (longest field) (now (album .entry)) (now (h .entry)) (now (h .exit)) r ⌝ }
+{
+    let n = field::longest_of(field);
+    gcd_in(field, album, &mut list[..n], &mut last[..n], h)
 }
 
 // The number of lists.
 fn count_lists(album: &[u8]) -> usize
-    requires { ⌜ Passed p (now album) ⌝ }
+    requires { ⌜ 0 < length (now album) ⌝ }
     ensures { λ r. ⌜ r ≡ count (now (album .entry)) ⌝ }
 {
     album[0] as usize
 }
 
 // Whether every list is zero.
-fn all_zero(album: &[u8], list: &mut [u16]) -> bool
-    requires { ⌜ Passed p (now album) ⌝ }
-    requires { ⌜ length (now list) ≡ maxWords ⌝ }
+fn all_zero(field: u8, album: &[u8], list: &mut [u16]) -> bool
+    requires { ⌜ Passed (modulus field) (now album) ⌝ }
+    requires { ⌜ length (now list) ≡ longest field ⌝ }
     ensures { λ r. ⌜ r ≡ allZero (listsOf (now (album .entry))) ⌝ }
 {
     let n = count_lists(album);
     let mut i = 0;
     while i < n {
-        let m = album::read(album, i, list);
+        let m = album::read(field, album, i, list);
         if lists::significant_words(&list[..m]) != 0 {
             return false;
         }
@@ -60,33 +78,33 @@ fn all_zero(album: &[u8], list: &mut [u16]) -> bool
 }
 
 // What the call refuses.
-fn judge(album: &[u8], list: &mut [u16], h: &[u16]) -> Outcome
-    requires { ⌜ length (now list) ≡ maxWords ⌝ }
-    ensures { λ r. ⌜ r ≡ lowest (albumGcdRefusals p (now (album .entry)) (now (h .entry))) ⌝ }
+fn judge(field: u8, album: &[u8], list: &mut [u16], h: &[u16]) -> Outcome
+    requires { ⌜ length (now list) ≡ longest field ⌝ }
+    ensures { λ r. ⌜ r ≡ lowest (albumGcdRows (modulus field) (longest field) (now (album .entry)) (now (h .entry))) ⌝ }
 {
-    if let Outcome::Refused(why) = layout::judge_album(album) {
+    if let Outcome::Refused(why) = layout::judge_album(field, album) {
         return Outcome::Refused(why);
     }
-    if all_zero(album, list) {
+    if all_zero(field, album, list) {
         return Outcome::Refused(Refusal::AllZero);
     }
-    if h.len() != refusal::MAX_WORDS {
+    if h.len() != field::longest_of(field) {
         return Outcome::Refused(Refusal::Misfit);
     }
     Outcome::Done
 }
 
-// The least power of the lists that are not zero: 256 is above every power.
-fn common_power(album: &[u8], list: &mut [u16]) -> usize
-    requires { ⌜ (Passed p (now album)) × (allZero (listsOf (now album)) ≡ false) ⌝ }
-    requires { ⌜ length (now list) ≡ maxWords ⌝ }
+// The least power of the lists that are not zero: the words of the longest list are more than every power.
+fn common_power(field: u8, album: &[u8], list: &mut [u16]) -> usize
+    requires { ⌜ (Passed (modulus field) (now album)) × (allZero (listsOf (now album)) ≡ false) ⌝ }
+    requires { ⌜ length (now list) ≡ longest field ⌝ }
     ensures { λ r. ⌜ r ≡ commonPower (listsOf (now (album .entry))) ⌝ }
 {
     let n = count_lists(album);
-    let mut least = 256;
+    let mut least = field::longest_of(field);
     let mut j = 0;
     while j < n {
-        let m = album::read(album, j, list);
+        let m = album::read(field, album, j, list);
         let used = lists::significant_words(&list[..m]);
         if used != 0 {
             if m - used < least {
@@ -117,17 +135,17 @@ struct Found {
 }
 
 // One more list: the result so far, in h, becomes the GCD of both, and stays where the list is zero. last is room for a copy of it.
-fn turn(list: &[u16], last: &mut [u16], h: &mut [u16], words: usize) -> Found
-    requires { ⌜ Listed p maxWords (now list) ⌝ }
-    requires { ⌜ Held p (now h) words (take words (now h)) ⌝ }
-    requires { ⌜ length (now last) ≡ maxWords ⌝ }
-    ensures { λ r. ⌜ Turned F65521 (take words (now (h .entry))) (now (list .entry)) (now (h .exit)) (r .words) (r .rounds) ⌝ }
+fn turn(field: u8, list: &[u16], last: &mut [u16], h: &mut [u16], words: usize) -> Found
+    requires { ⌜ Listed (modulus field) (longest field) (now list) ⌝ }
+    requires { ⌜ Held (modulus field) (longest field) (now h) words (take words (now h)) ⌝ }
+    requires { ⌜ length (now last) ≡ longest field ⌝ }
+    ensures { λ r. ⌜ Turned (fieldAt field) (longest field) (take words (now (h .entry))) (now (list .entry)) (now (h .exit)) (r .words) (r .rounds) ⌝ }
 {
     if lists::significant_words(list) == 0 {
         return Found { words, rounds: 0 };
     }
     copy(h, last);
-    match gcd::gcd_of(&last[..words], list, h) {
+    match gcd::gcd_over(field, &last[..words], list, h) {
         Gcd::Done(w, _, rounds) => Found {
             words: w.0 + 1,
             rounds,
@@ -137,11 +155,11 @@ fn turn(list: &[u16], last: &mut [u16], h: &mut [u16], words: usize) -> Found
 }
 
 // The result after all lists, in h, from the zero list [0]; last comes as zeros.
-fn all_turns(album: &[u8], list: &mut [u16], last: &mut [u16], h: &mut [u16]) -> Found
-    requires { ⌜ Passed p (now album) ⌝ }
-    requires { ⌜ (length (now list) ≡ maxWords) × (length (now last) ≡ maxWords) × (length (now h) ≡ maxWords) ⌝ }
+fn all_turns(field: u8, album: &[u8], list: &mut [u16], last: &mut [u16], h: &mut [u16]) -> Found
+    requires { ⌜ Passed (modulus field) (now album) ⌝ }
+    requires { ⌜ (length (now list) ≡ longest field) × (length (now last) ≡ longest field) × (length (now h) ≡ longest field) ⌝ }
     requires { ⌜ ((k : ℕ) → getD (now last) k 0 ≡ 0) ⌝ }
-    ensures { λ r. ⌜ Folded F65521 (listsOf (now (album .entry))) (now (h .exit)) (r .words) (r .rounds) ⌝ }
+    ensures { λ r. ⌜ Folded (fieldAt field) (longest field) (listsOf (now (album .entry))) (now (h .exit)) (r .words) (r .rounds) ⌝ }
 {
     let n = count_lists(album);
     copy(last, h);
@@ -149,8 +167,8 @@ fn all_turns(album: &[u8], list: &mut [u16], last: &mut [u16], h: &mut [u16]) ->
     let mut rounds = 0;
     let mut k = 0;
     while k < n {
-        let m = album::read(album, k, list);
-        let found = turn(&list[..m], last, h, words);
+        let m = album::read(field, album, k, list);
+        let found = turn(field, &list[..m], last, h, words);
         words = found.words;
         rounds += found.rounds;
         k += 1;
@@ -159,26 +177,26 @@ fn all_turns(album: &[u8], list: &mut [u16], last: &mut [u16], h: &mut [u16]) ->
 }
 
 // The GCD where nothing is refused.
-fn gcd_into(album: &[u8], list: &mut [u16], last: &mut [u16], h: &mut [u16]) -> Gcd
-    requires { ⌜ (Passed p (now album)) × (allZero (listsOf (now album)) ≡ false) ⌝ }
-    requires { ⌜ (length (now list) ≡ maxWords) × (length (now last) ≡ maxWords) × (length (now h) ≡ maxWords) ⌝ }
+fn gcd_into(field: u8, album: &[u8], list: &mut [u16], last: &mut [u16], h: &mut [u16]) -> Gcd
+    requires { ⌜ (Passed (modulus field) (now album)) × (allZero (listsOf (now album)) ≡ false) ⌝ }
+    requires { ⌜ (length (now list) ≡ longest field) × (length (now last) ≡ longest field) × (length (now h) ≡ longest field) ⌝ }
     requires { ⌜ ((k : ℕ) → getD (now last) k 0 ≡ 0) ⌝ }
-    ensures { λ r. ⌜ Answered F65521 (now (album .entry)) (now (h .entry)) (now (h .exit)) r ⌝ }
+    ensures { λ r. ⌜ Answered (fieldAt field) (longest field) (now (album .entry)) (now (h .entry)) (now (h .exit)) r ⌝ }
 {
-    let found = all_turns(album, list, last, h);
-    let c = common_power(album, list);
+    let found = all_turns(field, album, list, last, h);
+    let c = common_power(field, album, list);
     Gcd::Done(NaiveDegree(found.words - 1), c, found.rounds)
 }
 
 // The GCD by way of buffers; last comes as zeros.
-fn gcd_in(album: &[u8], list: &mut [u16], last: &mut [u16], h: &mut [u16]) -> Gcd
-    requires { ⌜ (length (now list) ≡ maxWords) × (length (now last) ≡ maxWords) ⌝ }
+fn gcd_in(field: u8, album: &[u8], list: &mut [u16], last: &mut [u16], h: &mut [u16]) -> Gcd
+    requires { ⌜ (length (now list) ≡ longest field) × (length (now last) ≡ longest field) ⌝ }
     requires { ⌜ ((k : ℕ) → getD (now last) k 0 ≡ 0) ⌝ }
-    ensures { λ r. ⌜ Answered F65521 (now (album .entry)) (now (h .entry)) (now (h .exit)) r ⌝ }
+    ensures { λ r. ⌜ Answered (fieldAt field) (longest field) (now (album .entry)) (now (h .entry)) (now (h .exit)) r ⌝ }
 {
-    let answer = judge(album, list, h);
+    let answer = judge(field, album, list, h);
     match answer {
         Outcome::Refused(why) => Gcd::Refused(why),
-        Outcome::Done => gcd_into(album, list, last, h),
+        Outcome::Done => gcd_into(field, album, list, last, h),
     }
 }

@@ -2,10 +2,17 @@
 // tests/model/albums.py, a model written from document 01.
 ghost use Prim.Native.Nat.{_≤_};
 ghost use lib.ListN.{length};
+ghost use Rattle.refusal.specs.Limits.{maxDegree, maxBytes};
 use album::Listed;
 use gcd::Gcd;
 use libc::STDOUT_FILENO;
 use lists::NaiveDegree;
+
+// A slice one word too short.
+const SHORT: usize = refusal::MAX_WORDS - 1;
+
+// Where the bodies of 16 lists begin.
+const BODIES: usize = 1 + refusal::MAX_LISTS * refusal::ENTRY_BYTES;
 
 fn print_number(n: usize) {
     io::write_all(STDOUT_FILENO, b" ");
@@ -37,11 +44,11 @@ fn show_list(bytes: &[u8], i: usize) {
     print_number(refusal::outcome_number(layout::check(bytes, i)) as usize);
     print_number(layout::body(bytes, i).len());
     io::write_all(STDOUT_FILENO, b"\n");
-    let mut words = [0u16; 256];
+    let mut words = [0u16; refusal::MAX_WORDS];
     match album::read_list(bytes, i, &mut words) {
         Listed::Done(n) => {
             let d = n.0;
-            if d < 256 {
+            if d < refusal::MAX_WORDS {
                 print_first(b"list", &words, d + 1);
             }
         }
@@ -50,7 +57,7 @@ fn show_list(bytes: &[u8], i: usize) {
 }
 
 fn show_gcd(bytes: &[u8]) {
-    let mut h = [0u16; 256];
+    let mut h = [0u16; refusal::MAX_WORDS];
     match album_gcd::gcd_of_album(bytes, &mut h) {
         Gcd::Done(w, c, rounds) => {
             let n = w.0;
@@ -59,7 +66,7 @@ fn show_gcd(bytes: &[u8]) {
             print_number(c);
             print_number(rounds);
             io::write_all(STDOUT_FILENO, b"\n");
-            if n < 256 {
+            if n < refusal::MAX_WORDS {
                 print_first(b"h", &h, n + 1);
             }
         }
@@ -99,7 +106,7 @@ fn refused() {
     show(&[2u8, 1, 7, 0, 2, 11, 0, 0, 0, 1, 0, 0, 0, 0, 0, 241, 255]);
     show(&[2u8, 1, 7, 0, 2, 11, 0, 0, 0, 0, 0, 0, 0, 0, 0, 0, 0]);
     show_list(&example, 2);
-    let mut short = [7u16; 255];
+    let mut short = [7u16; SHORT];
     match album_gcd::gcd_of_album(&example, &mut short) {
         Gcd::Done(_, _, _) => {}
         Gcd::Refused(why) => {
@@ -165,7 +172,7 @@ fn put(bytes: &mut [u8], at: usize, value: usize) {
 
 // A word, low byte first.
 fn put_word(bytes: &mut [u8], at: usize, word: u16)
-    requires { ⌜ at ≤ 8241 ⌝ }
+    requires { ⌜ at ≤ maxBytes ⌝ }
 {
     put(bytes, at, word as usize % 256);
     put(bytes, at + 1, word as usize / 256);
@@ -173,17 +180,17 @@ fn put_word(bytes: &mut [u8], at: usize, word: u16)
 
 // The contents of 16 lists of one naive degree.
 fn entries(bytes: &mut [u8], of: NaiveDegree)
-    requires { ⌜ of .0 ≤ 255 ⌝ }
+    requires { ⌜ of .0 ≤ maxDegree ⌝ }
 {
     let degree = of.0;
-    put(bytes, 0, 16);
+    put(bytes, 0, refusal::MAX_LISTS);
     let step = 2 * (degree + 1);
     let mut k = 0;
-    let mut at = 49;
-    while k < 16 {
-        put(bytes, 1 + 3 * k, degree);
-        put(bytes, 2 + 3 * k, at % 256);
-        put(bytes, 3 + 3 * k, at / 256);
+    let mut at = BODIES;
+    while k < refusal::MAX_LISTS {
+        let entry = 1 + refusal::ENTRY_BYTES * k;
+        put(bytes, entry, degree);
+        put_word(bytes, entry + 1, at as u16);
         at = (at + step) % 65536;
         k += 1;
     }
@@ -191,20 +198,20 @@ fn entries(bytes: &mut [u8], of: NaiveDegree)
 
 // The bodies: each word is 25,173 times the one before plus 13,849, in the field.
 fn bodies(bytes: &mut [u8], seed: u16)
-    requires { ⌜ length (now bytes) ≤ 8241 ⌝ }
+    requires { ⌜ length (now bytes) ≤ maxBytes ⌝ }
 {
     let mut word = seed;
-    let mut at: usize = 49;
+    let mut at: usize = BODIES;
     while at < bytes.len() {
         put_word(bytes, at, word);
-        word = field::add_mul(13849, 25173, word);
+        word = field::add_mul(0, 13849, 25173, word);
         at += 2;
     }
 }
 
 // 16 lists of one naive degree.
 fn show_sixteen(bytes: &mut [u8], degree: NaiveDegree, seed: u16)
-    requires { ⌜ (length (now bytes) ≤ 8241) × (degree .0 ≤ 255) ⌝ }
+    requires { ⌜ (length (now bytes) ≤ maxBytes) × (degree .0 ≤ maxDegree) ⌝ }
 {
     entries(bytes, degree);
     bodies(bytes, seed);
@@ -214,8 +221,8 @@ fn show_sixteen(bytes: &mut [u8], degree: NaiveDegree, seed: u16)
 fn sixteen() {
     let mut small = [0u8; 145];
     show_sixteen(&mut small, NaiveDegree(2), 1);
-    let mut largest = [0u8; 8241];
-    show_sixteen(&mut largest, NaiveDegree(255), 2);
+    let mut largest = [0u8; refusal::MAX_BYTES];
+    show_sixteen(&mut largest, NaiveDegree(refusal::MAX_DEGREE), 2);
 }
 
 fn main() {

@@ -7,7 +7,6 @@
 -- residue F n      the element of the field that the number n stands for
 -- value F a        the number below p that stands for a
 -- inverse F a      1 / a, where a is not 0
--- F65521           p = 65521: document 01's field
 -- computes         stands for all that a closed computation has to open: say `unfolding computes`
 --
 -- Assumes nothing.
@@ -133,24 +132,8 @@ module _ (F : PrimeField) where
   inverse-cancel′ a b h =
       R.mul-assoc (scalars F) a b _ ∙ ap (λ x. a ⊗ x) (scalarField F .mul-inv b h) ∙ R.mul-one (scalars F) a
 
--- by trial division with 2, …, 256
-pub prime65521 : Prime 65521
-prime65521 = prime-of-test 65521 255 tt
-
-unfoldable pub F65521 : PrimeField
-F65521 = record { p = 65521; prime = prime65521; series = series (Zp 65521 prime65521) }
-
-pub p-is : F65521 .p ≡ 65521
-unfolding F65521
-p-is = refl
-
 unfoldable pub computes : Bool
-unfolding F65521 residue value inverse Z.residueMod Z.valueMod Z.ring-mod Z.inverse-in Z.inverseMod Z.euclidMod Z.equal
+unfolding residue value inverse Z.residueMod Z.valueMod Z.ring-mod Z.inverse-in Z.inverseMod Z.euclidMod Z.equal
     series constantAt variableAt C t pow choose monomial size digit step remainder quotient done next euclid topInverse
     monic ⟨1+u⟩ ⟨1-t⟩ ⟨1-t⟩^ sum total
 computes = true
-
--- 1/2 = 32761
-half : value F65521 (inverse F65521 (residue F65521 2)) ≡ 32761
-unfolding computes
-half = refl

@@ -1,11 +1,10 @@
 // Two calls on lists of words for the bench (`bench/`), which is the only one to use them: the value at a point, and the cofactors. No part
 // of what the engine offers to a C host (`crates/host`).
 ghost use mathlib.Core.Path.{_≡_};
-ghost use Rattle.algebra.specs.PrimeField.{F65521};
+ghost use Rattle.field.specs.Fields.{F65521, p};
 ghost use Rattle.refusal.specs.Limits.{maxWords};
 ghost use Rattle.refusal.specs.Refusal.{outcomeNumber, written};
 ghost use Rattle.refusal.specs.Lowest.{lowest};
-ghost use Rattle.field.specs.Field.{p};
 ghost use Rattle.lists.specs.Operations as of;
 ghost use Rattle.euclid.specs.Gcds.{gcdOf, cofactorA, cofactorB, padded};
 ghost use Rattle.evaluation.specs.Calls.{evaluateRefusals};

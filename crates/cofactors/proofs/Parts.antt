@@ -33,6 +33,13 @@ rest-fits k x = rw length-drop (omega arith)
 pub rest-is : (k : ℕ) (x : List ℕ) → rest k x ≡ drop k x
 rest-is k x = take-all (length x - k) (drop k x) (rest-fits k x)
 
+pub length-rest : (k m : ℕ) (x : List ℕ) → length x ≡ k + m → length (rest k x) ≡ m
+length-rest k m x e = ap length (rest-is k x) ∙ length-drop k x ∙ omega arith
+
+-- the first k words put back
+pub length-put : (k : ℕ) (x z : List ℕ) → length z ≡ k → k ≤ length x → length (z ++ drop k x) ≡ length x
+length-put k x z e l = simp (length-append, length-drop) (omega arith)
+
 pub put-back : (k : ℕ) (x z : List ℕ) → take k x ++ (z ++ drop (length x - k) (drop k x)) ≡ take k x ++ z
 put-back k x z = ap (λ l. take k x ++ l) (ap (λ l. z ++ l) (drop-of-length-le (drop k x) (rest-fits k x)) ∙ append-nil z)
 

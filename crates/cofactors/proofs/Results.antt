@@ -1,6 +1,6 @@
 -- What is written from the row of the last x, and what a call answers.
 -- Assumes nothing.
-use mathlib.Core.Path.{_≡_, sym, _∙_, ap, ap₂, refl}
+use mathlib.Core.Path.{_≡_, sym, _∙_, ap, ap₂, refl, subst}
 use mathlib.Core.Bool.{cond}
 use mathlib.Core.List.{List, _++_, [], _∷_}
 use Prim.Native.Nat.{ℕ, _+_, _-_, _≤_, _<_}
@@ -15,11 +15,11 @@ use Rattle.lists.specs.Degrees.{significant, naiveDegree}
 use Rattle.lists.specs.Extents.{significant-le}
 use Rattle.lists.specs.Lists.{scaled, binomial, unscaled}
 use Rattle.lists.specs.Words.{seriesOf, coeff-seriesOf, Low}
-use Rattle.rounds.specs.Round.{writeFits, writtenList}
-use Rattle.rounds.proofs.Turns.{write-fits}
+use Rattle.tables.specs.Factorials.{Tables}
+use Rattle.rounds.specs.Round.{multiplied, writeFits, writtenWords, writtenList}
+use Rattle.rounds.proofs.Written.{write-is}
 use Rattle.gcd.specs.Workers.{euclidOn}
 use Rattle.algebra.specs.Monic.{topInverse}
-use Rattle.refusal.specs.Limits.{maxWords}
 use Rattle.refusal.specs.Refusal.{reply, written}
 use Rattle.refusal.specs.Lowest.{lowest}
 use Rattle.refusal.specs.declared.Outcome.{Outcome}
@@ -39,7 +39,7 @@ use Rattle.gcd.specs.Workers.{Ready}
 use Rattle.gcd.proofs.Ready.{ready}
 use Rattle.gcd.specs.Workers.{gcdDone}
 use Rattle.gcd.proofs.Finish.{gcd-done, ready-euclid, ready-count, ready-last, last-inverse, gcd-written, answered}
-use Rattle.cofactors.specs.Calls.{cofactorRefusals, CofactorsSo, Cofactors}
+use Rattle.cofactors.specs.Calls.{cofactorRows, CofactorsSo, Cofactors}
 use Rattle.cofactors.specs.Workers.{wrongSlices, Slices, partX, partS, partT, Started, Ends, timesList, lastInverse, overLast, Found, LastRow, Wrote, Results}
 use Rattle.cofactors.proofs.Parts.{rest, rest-is}
 use Rattle.cofactors.proofs.Slices.{slices, few-a, few-b}
@@ -100,38 +100,41 @@ module _ (F : PrimeField) where
       ∙ ap (λ c. m ⊗ c) (coeff-seriesOf F form k ∙ low .at k (omega arith)) ∙ sym (coeff-C-mul (F .series) m s k)
 
   -- what is written from the row is what the definitions name
-  pub results : (f g h a b : List ℕ) {row h′ a′ b′ : List ℕ} {w : NaiveDegree} {c rounds : ℕ} → Ready F maxWords f g → Slices f g h a b
-      → Found F maxWords f g row rounds → Wrote F maxWords row (length a) (length b) (w .0) h′ a′ b′ → c ≡ commonPower (f ∷ g ∷ [])
-      → Results F f g (G.Done w c rounds) h′ a′ b′
-  results f g h a b {row} {w = w} r sl e o ec =
+  pub results : (n : ℕ) → 1 < n → (f g h a b : List ℕ) {row h′ a′ b′ : List ℕ} {w : NaiveDegree} {c rounds : ℕ} → Ready F n f g → Slices n f g h a b
+      → Found F n f g row rounds → Wrote F n row (length a) (length b) (w .0) h′ a′ b′ → c ≡ commonPower (f ∷ g ∷ [])
+      → Results F n f g (G.Done w c rounds) h′ a′ b′
+  results n more f g h a b {row} {w = w} r sl e o ec =
       record {
         answer = gcd-done F f g _ _ _ degree ec (e .count);
-        gcd = o .gcd ∙ ap (padded maxWords) (e .gcd .list);
+        gcd = o .gcd ∙ ap (padded n) (e .gcd .list);
         left =
-            o .left ∙ ap (λ k. overLast F maxWords (partX maxWords row) k (partT maxWords row)) (sl .size-a)
-            ∙ (unfold cofactorA in cofactor-is maxWords _ (partX maxWords row) (partT maxWords row) _ _ (few-a f g maxWords (r .short-g) (omega arith)) (e .inverse) (e .right));
+            o .left ∙ ap (λ k. overLast F n (partX n row) k (partT n row)) (sl .size-a)
+            ∙ (unfold cofactorA in cofactor-is n _ (partX n row) (partT n row) _ _ (few-a f g n (r .short-g) more) (e .inverse) (e .right));
         right =
-            o .right ∙ ap (λ k. overLast F maxWords (partX maxWords row) k (partS maxWords row)) (sl .size-b)
-            ∙ (unfold cofactorB in cofactor-is maxWords _ (partX maxWords row) (partS maxWords row) _ _ (few-b f g maxWords (r .short-f) (omega arith)) (e .inverse) (e .left));
+            o .right ∙ ap (λ k. overLast F n (partX n row) k (partS n row)) (sl .size-b)
+            ∙ (unfold cofactorB in cofactor-is n _ (partX n row) (partS n row) _ _ (few-b f g n (r .short-f) more) (e .inverse) (e .left));
       }
     where
       degree : w .0 ≡ naiveDegree (gcdOf F f g)
       degree = let a = o .degree in let b = e .gcd .size in omega arith
 
-  pub slices-short : {f g h a b : List ℕ} → Ready F maxWords f g → Slices f g h a b → (length h ≡ maxWords) × (length a ≤ maxWords) × (length b ≤ maxWords)
-  slices-short {f} {g} r sl =
-      let la = few-a f g maxWords (r .short-g) (omega arith) in
-      let lb = few-b f g maxWords (r .short-f) (omega arith) in
+  pub slices-short : (n : ℕ) → 1 < n → {f g h a b : List ℕ} → Ready F n f g → Slices n f g h a b → (length h ≡ n) × (length a ≤ n) × (length b ≤ n)
+  slices-short n more {f} {g} r sl =
+      let la = few-a f g n (r .short-g) more in
+      let lb = few-b f g n (r .short-f) more in
       (sl .size-h, omega (arith, sl .size-a), omega (arith, sl .size-b))
 
-  -- a cofactor on words
-  pub pair-written : (n words m : ℕ) (form out : List ℕ) {form′ out′ : List ℕ} → form′ ≡ form → length form ≡ n → words ≡ length out → length out ≤ n
-      → out′ ≡ cond (writeFits n words form′ out) (writtenList F words m form′ out) out → out′ ≡ timesList F (length out) (residue F m) form
+  -- a cofactor on words; lent is its form as it stands in the row
+  pub pair-written : {p : ℕ} → F .p ≡ p → (n : ℕ) → n ≤ F .p → (whole part : List ℕ) → Tables F n whole part
+      → (words m : ℕ) (form out : List ℕ) {lent form′ out′ : List ℕ} → lent ≡ form → length form ≡ n → words ≡ length out → length out ≤ n
+      → (form′ ≡ cond (writeFits words whole part lent out) (multiplied p m lent) lent)
+      × (out′ ≡ cond (writeFits words whole part lent out) (writtenWords p whole part words m lent out) out)
+      → out′ ≡ timesList F (length out) (residue F m) form
   unfolding timesList writtenList
-  pair-written n words m form out {form′} {out′} ef lf ew few e =
-      e ∙ ap₂ (λ k l. cond (writeFits n k l out) (writtenList F k m l out) out) ew ef
-      ∙ ap (λ t. cond t (writtenList F (length out) m form out) out) (write-fits n (length out) form out (omega arith) (omega arith) few)
-      ∙ padded-whole _ (length out) (length-unscaled F (length out) _)
+  pair-written at n short whole part t words m form out {lent} ef lf ew few q =
+      let e = ap length ef in
+      write-is F at n short whole part t words m lent out (omega arith) (omega arith) (omega arith) q .1
+      ∙ ap₂ (λ k l. writtenList F k m l out) ew ef ∙ padded-whole _ (length out) (length-unscaled F (length out) _)
 
   -- h, and the inverse for all three
   module _ (n : ℕ) (row : List ℕ) (l : LastRow F n row) where
@@ -153,36 +156,39 @@ module _ (F : PrimeField) where
           ap (residue F) (inverse-is ∙ ap (λ i. inverseOrZero F (getD (partX n row) (i - 1) 0)) ek)
           ∙ last-inverse F n (partX n row) (l .buffer) (l .some)
 
-      pub row-written : (h : List ℕ) (na nb w : ℕ) {form h′ a′ b′ : List ℕ} → length h ≡ n → form ≡ partX n row → w + 1 ≡ k
-          → h′ ≡ cond (writeFits n k form h) (writtenList F k m form h) h → a′ ≡ timesList F na (residue F m) (drop n (rest n row))
+      pub row-written : {p : ℕ} → F .p ≡ p → n ≤ F .p → (whole part : List ℕ) → Tables F n whole part
+          → (h : List ℕ) (na nb w : ℕ) {lent form′ h′ a′ b′ : List ℕ} → length h ≡ n → lent ≡ partX n row → w + 1 ≡ k
+          → (form′ ≡ cond (writeFits k whole part lent h) (multiplied p m lent) lent)
+          × (h′ ≡ cond (writeFits k whole part lent h) (writtenWords p whole part k m lent h) h)
+          → a′ ≡ timesList F na (residue F m) (drop n (rest n row))
           → b′ ≡ timesList F nb (residue F m) (take n (rest n row)) → Wrote F n row na nb w h′ a′ b′
       unfolding overLast
-      row-written h na nb w {form} {h′} eh ef ew qh qa qb =
+      row-written {p} at short whole part t h na nb w {lent} {form′} {h′} eh ef ew qh qa qb =
           record {
             degree = ew ∙ ek;
             gcd =
-                gcd-written F n (partX n row) (l .buffer) (l .some) h k m eh ek inverse-is
-                (qh ∙ ap (λ x. cond (writeFits n k x h) (writtenList F k m x h) h) ef);
+                gcd-written F n (partX n row) (l .buffer) (l .some) at short whole part t h k m eh ek inverse-is
+                (subst (λ x. (form′ ≡ cond (writeFits k whole part x h) (multiplied p m x) x) × (h′ ≡ cond (writeFits k whole part x h) (writtenWords p whole part k m x h) h)) ef qh);
             left = qa ∙ ap₂ (λ c l. timesList F na c (drop n l)) residue-is (rest-is n row);
             right = qb ∙ ap₂ (λ c l. timesList F nb c (take n l)) residue-is (rest-is n row);
           }
 
   -- what a call knows that refuses nothing
-  pub cofactors-ready : maxWords ≤ F .p → (f g h a b : List ℕ) → lowest (cofactorRefusals (F .p) f g h a b) ≡ Done
-      → Ready F maxWords f g × Slices f g h a b
-  unfolding cofactorRefusals
-  cofactors-ready big f g h a b e =
-      let r = ready F big f g (wrongSlices f g h a b) e in
-      (r .0, slices f g h a b (r .1))
+  pub cofactors-ready : (most : ℕ) → most ≤ F .p → (f g h a b : List ℕ) → lowest (cofactorRows (F .p) most f g h a b) ≡ Done
+      → Ready F most f g × Slices most f g h a b
+  unfolding cofactorRows
+  cofactors-ready most big f g h a b e =
+      let r = ready F most big f g (wrongSlices most f g h a b) e in
+      (r .0, slices most f g h a b (r .1))
 
   -- what a call answers, and what it leaves in the slices
-  pub cofactors-answered : (f g h a b : List ℕ) {found : Outcome} {r : Gcd} {h′ a′ b′ : List ℕ} → found ≡ Done → Ready F maxWords f g
-      → Results F f g r h′ a′ b′
-      → (gcdReply r ≡ reply found (gcdValues F f g)) × (h′ ≡ written found (padded maxWords (gcdOf F f g)) h)
+  pub cofactors-answered : (n : ℕ) (f g h a b : List ℕ) {found : Outcome} {r : Gcd} {h′ a′ b′ : List ℕ} → found ≡ Done → Ready F n f g
+      → Results F n f g r h′ a′ b′
+      → (gcdReply r ≡ reply found (gcdValues F f g)) × (h′ ≡ written found (padded n (gcdOf F f g)) h)
       × (a′ ≡ written found (cofactorA F f g) a) × (b′ ≡ written found (cofactorB F f g) b) × Greatest F f g h′ r × Cofactors F f g a′ b′ r
   unfolding gcdDone
-  cofactors-answered f g h a b e y o =
-      let z = answered F f g h e y (o .answer) (o .gcd) in (
+  cofactors-answered n f g h a b e y o =
+      let z = answered F n f g h e y (o .answer) (o .gcd) in (
         z .0,
         z .1,
         result (cofactorA F f g) a e (o .left),

@@ -9,7 +9,6 @@ use lib.Dec.{eqb}
 use lib.ListN.{length}
 use borrow.Author.Tests.{eqb-true, eq-eqb, ne-eqb}
 use Rattle.lists.specs.Degrees.{naiveDegree}
-use Rattle.refusal.specs.Limits.{maxWords}
 use Rattle.euclid.specs.Gcds.{identityDegree}
 use Rattle.cofactors.specs.Workers.{wrongSlices, Slices}
 
@@ -19,9 +18,9 @@ none-wrong true true false e = (refl, refl, cc)
 none-wrong true false c e = (refl, cc, cc)
 none-wrong false b c e = (cc, cc, cc)
 
-pub slices : (f g h a b : List ℕ) → wrongSlices f g h a b ≡ false → Slices f g h a b
-slices f g h a b e =
-    let w = none-wrong (eqb (length h) maxWords) (eqb (length a) (suc (identityDegree f g - naiveDegree f)))
+pub slices : (n : ℕ) (f g h a b : List ℕ) → wrongSlices n f g h a b ≡ false → Slices n f g h a b
+slices n f g h a b e =
+    let w = none-wrong (eqb (length h) n) (eqb (length a) (suc (identityDegree f g - naiveDegree f)))
     (eqb (length b) (suc (identityDegree f g - naiveDegree g))) e in
     record { size-h = eqb-true _ _ (w .0); size-a = eqb-true _ _ (w .1); size-b = eqb-true _ _ (w .2) }
 
@@ -60,15 +59,15 @@ unfolding identityDegree naiveDegree
 words-long f g r l e = words-high (length f - 1) (length g - 1) r (omega arith) e
 
 -- the tests of the slices, one after the other
-module _ (f g h a b : List ℕ) where
-  pub wrong-h : ¬ (length h ≡ maxWords) → true ≡ wrongSlices f g h a b
-  wrong-h n = rw (ne-eqb (length h) maxWords n)
+module _ (n : ℕ) (f g h a b : List ℕ) where
+  pub wrong-h : ¬ (length h ≡ n) → true ≡ wrongSlices n f g h a b
+  wrong-h w = rw (ne-eqb (length h) n w)
 
-  pub wrong-a : (k : ℕ) → length h ≡ maxWords → k ≡ suc (identityDegree f g - naiveDegree f) → ¬ (length a ≡ k) → true ≡ wrongSlices f g h a b
-  wrong-a k e q n = rw (eq-eqb (length h) maxWords e, ne-eqb (length a) (suc (identityDegree f g - naiveDegree f)) (λ i. n (i ∙ sym q)))
+  pub wrong-a : (k : ℕ) → length h ≡ n → k ≡ suc (identityDegree f g - naiveDegree f) → ¬ (length a ≡ k) → true ≡ wrongSlices n f g h a b
+  wrong-a k e q w = rw (eq-eqb (length h) n e, ne-eqb (length a) (suc (identityDegree f g - naiveDegree f)) (λ i. w (i ∙ sym q)))
 
-  pub wrong-b : (k j : ℕ) → length h ≡ maxWords → k ≡ suc (identityDegree f g - naiveDegree f) → length a ≡ k
-      → j ≡ suc (identityDegree g f - naiveDegree g) → not (eqb (length b) j) ≡ wrongSlices f g h a b
+  pub wrong-b : (k j : ℕ) → length h ≡ n → k ≡ suc (identityDegree f g - naiveDegree f) → length a ≡ k
+      → j ≡ suc (identityDegree g f - naiveDegree g) → not (eqb (length b) j) ≡ wrongSlices n f g h a b
   wrong-b k j e q i r =
       ap (λ m. not (eqb (length b) m)) (r ∙ ap (λ m. suc (m - naiveDegree g)) (identity-comm g f))
-      ∙ rw (eq-eqb (length h) maxWords e, eq-eqb (length a) (suc (identityDegree f g - naiveDegree f)) (i ∙ q))
+      ∙ rw (eq-eqb (length h) n e, eq-eqb (length a) (suc (identityDegree f g - naiveDegree f)) (i ∙ q))

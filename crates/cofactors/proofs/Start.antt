@@ -13,8 +13,9 @@ use Rattle.algebra.specs.Series.{coeff-0, coeff-1-zero, coeff-1-suc}
 use Rattle.algebra.specs.PrimeField.{PrimeField, positive, residue, residue-0, residue-1}
 use Rattle.lists.specs.Lists.{scaled}
 use Rattle.lists.specs.Extents.{significant-le}
-use Rattle.lists.specs.Words.{scaledWords, Low, ZeroFrom, zero-later}
-use Rattle.kernels.specs.Kernels.{scaleFits}
+use Rattle.lists.specs.Words.{Low, ZeroFrom, zero-later}
+use Rattle.tables.specs.Factorials.{Tables}
+use Rattle.kernels.specs.Kernels.{weighFits, weighted}
 use Rattle.gcd.specs.Workers.{Holds}
 use Rattle.gcd.proofs.Buffers.{holds-scaled}
 use Rattle.gcd.proofs.Turning.{turning-start}
@@ -113,9 +114,9 @@ module _ (F : PrimeField) (n : ℕ) where
         pass x y = simp RING
 
   -- the words of a scaled form, written to the front of a row of zeros, and a 1
-  module _ (one : ℕ) (c z : List ℕ) {out : List ℕ} (few : length c ≤ n) (ez : length z ≡ n + (n + n)) (after : n ≤ one) (room : one < length z)
+  module _ {p : ℕ} (at : F .p ≡ p) (short : n ≤ F .p) (whole part : List ℕ) (t : Tables F n whole part) (one : ℕ) (c z : List ℕ) {out : List ℕ} (few : length c ≤ n) (ez : length z ≡ n + (n + n)) (after : n ≤ one) (room : one < length z)
       (h : (k : ℕ) → getD z k 0 ≡ 0)
-      (q : out ≡ cond (scaleFits n c (take (length c) z)) (scaledWords F c) (take (length c) z)) where
+      (q : out ≡ cond (weighFits c whole part (take (length c) z)) (weighted p whole part (length (take (length c) z)) c) (take (length c) z)) where
     -- the same in a buffer of n words
     front-zeros : (k : ℕ) → getD (take n z) k 0 ≡ 0
     front-zeros k = go (decLt k n)
@@ -126,8 +127,8 @@ module _ (F : PrimeField) (n : ℕ) where
 
     front : Holds F n (out ++ drop (length c) (take n z)) (scaled F c)
     front =
-        holds-scaled F n c (take n z) few (length-partX n z ez) front-zeros
-        (q ∙ ap (λ l. cond (scaleFits n c l) (scaledWords F c) l) (sym (take-take (length c) n z few)))
+        holds-scaled F at n short whole part t c (take n z) few (length-partX n z ez) front-zeros
+        (q ∙ ap (λ l. cond (weighFits c whole part l) (weighted p whole part (length l) c) l) (sym (take-take (length c) n z few)))
 
     length-out : length out ≡ length c
     length-out =
@@ -159,11 +160,11 @@ module _ (F : PrimeField) (n : ℕ) where
 
     behind : (k : ℕ) → n ≤ k → getD (out ++ drop (length c) z) k 0 ≡ 0
     behind k l =
-        ap (λ i. getD (out ++ drop (length c) z) i 0) at ∙ getD-append-add out (drop (length c) z) (k - length c) 0
+        ap (λ i. getD (out ++ drop (length c) z) i 0) split ∙ getD-append-add out (drop (length c) z) (k - length c) 0
         ∙ getD-drop (length c) z (k - length c) 0 ∙ h _
       where
-        at : k ≡ length out + (k - length c)
-        at = omega (arith, length-out)
+        split : k ≡ length out + (k - length c)
+        split = omega (arith, length-out)
 
     pub row-started : Started F n one (set (out ++ drop (length c) z) one 1) (scaled F c)
     row-started =

@@ -1,7 +1,7 @@
 -- What the cofactors of a GCD refuse and promise; the answer is that of the GCD.
---     cofactorRefusals     those of the GCD, with a of m - d + 1 words and b of m - e + 1
---     CofactorsSo          a·f + b·g = (1-t)^(m-w)·h with document 01's conditions on a and b (AreCofactors), and any other pair of lists
---                          that meets them is this pair
+--     cofactorRows, cofactorRefusals     those of the GCD, with a of m - d + 1 words and b of m - e + 1
+--     CofactorsSo                        a·f + b·g = (1-t)^(m-w)·h with document 01's conditions on a and b (AreCofactors), and any other
+--                                        pair of lists that meets them is this pair
 -- Assumes nothing.
 use mathlib.Core.Path.{_≡_}
 use mathlib.Core.Bool.{not, _||_}
@@ -20,14 +20,17 @@ use Rattle.euclid.specs.Cofactors.{AreCofactors}
 use Rattle.gcd.specs.declared.Gcd.{Gcd}
 use Rattle.gcd.specs.declared.Gcd.the-variants.{Done, Refused}
 
-unfoldable pub cofactorRefusals : ℕ → (f g h a b : List ℕ) → List Condition
-cofactorRefusals p f g h a b =
-    listRefusals p maxWords (f ∷ g ∷ []) ++
+unfoldable pub cofactorRows : (p most : ℕ) → (f g h a b : List ℕ) → List Condition
+cofactorRows p most f g h a b =
+    listRefusals p most (f ∷ g ∷ []) ++
     (AllZero given-when eqb (significant f + significant g) 0 ∷
     Misfit given-when
-    (not (eqb (length h) maxWords) || not (eqb (length a) (suc (identityDegree f g - naiveDegree f)))
+    (not (eqb (length h) most) || not (eqb (length a) (suc (identityDegree f g - naiveDegree f)))
     || not (eqb (length b) (suc (identityDegree f g - naiveDegree g)))) ∷
     [])
+
+unfoldable pub cofactorRefusals : ℕ → (f g h a b : List ℕ) → List Condition
+cofactorRefusals p f g h a b = cofactorRows p maxWords f g h a b
 
 pub record CofactorsSo (F : PrimeField) (f g a b : List ℕ) : Type 0 where
   pub meet : AreCofactors F f g a b

@@ -1,6 +1,6 @@
 -- What the functions behind the cofactors need and do. A row has three parts of n words, as in an augmented matrix: x and its cofactors s
 -- and t.
---     wrongSlices           whether a result slice has not the length of its result; Slices: none of them
+--     wrongSlices n         whether a result slice has not the length of its result, h having n words; Slices: none of them
 --     partX, partS, partT   the parts of a row
 --     Started n one row s   a row with the words of s, zeros after it but for a 1 at word `one`
 --     reach n u v           no cofactor in the rows u, v has more words: those that the parts x have lost, and 1
@@ -16,7 +16,7 @@
 --     timesList             the list of so many words whose scaled form is m times the words of a buffer
 --     overLast n x          the same with 1 over the last word of x for m
 --     Wrote row             what is written from the row of the last x
---     Results f g           what is answered and written
+--     Results n f g         what is answered and written, h having n words
 -- Assumes nothing.
 use mathlib.Core.Path.{_≡_}
 use mathlib.Core.Bool.{Bool, not, _||_}
@@ -36,18 +36,17 @@ use Rattle.rounds.specs.Round.{remaining, quotientWords}
 use Rattle.gcd.specs.Workers.{Buffer, Holds, euclidOn, monicList}
 use Rattle.gcd.specs.Workers.{Turning}
 use Rattle.algebra.specs.Monic.{topInverse}
-use Rattle.refusal.specs.Limits.{maxWords}
 use Rattle.euclid.specs.Gcds.{room, identityDegree, roundsOf, gcdOf, countOf, cofactorA, cofactorB, padded}
 use Rattle.gcd.specs.declared.Gcd.{Gcd}
 use Rattle.gcd.specs.Workers.{LastOf, gcdDone}
 
-abbrev pub wrongSlices : (f g h a b : List ℕ) → Bool
-wrongSlices f g h a b =
-    not (eqb (length h) maxWords) || not (eqb (length a) (suc (identityDegree f g - naiveDegree f)))
+abbrev pub wrongSlices : ℕ → (f g h a b : List ℕ) → Bool
+wrongSlices n f g h a b =
+    not (eqb (length h) n) || not (eqb (length a) (suc (identityDegree f g - naiveDegree f)))
     || not (eqb (length b) (suc (identityDegree f g - naiveDegree g)))
 
-pub record Slices (f g h a b : List ℕ) : Type 0 where
-  pub size-h : length h ≡ maxWords
+pub record Slices (n : ℕ) (f g h a b : List ℕ) : Type 0 where
+  pub size-h : length h ≡ n
   pub size-a : length a ≡ suc (identityDegree f g - naiveDegree f)
   pub size-b : length b ≡ suc (identityDegree f g - naiveDegree g)
 
@@ -153,8 +152,8 @@ module _ (F : PrimeField) where
     pub left : a ≡ overLast n (partX n row) na (partT n row)
     pub right : b ≡ overLast n (partX n row) nb (partS n row)
 
-  pub record Results (f g : List ℕ) (r : Gcd) (h a b : List ℕ) : Type 0 where
+  pub record Results (n : ℕ) (f g : List ℕ) (r : Gcd) (h a b : List ℕ) : Type 0 where
     pub answer : r ≡ gcdDone F f g
-    pub gcd : h ≡ padded maxWords (gcdOf F f g)
+    pub gcd : h ≡ padded n (gcdOf F f g)
     pub left : a ≡ cofactorA F f g
     pub right : b ≡ cofactorB F f g

@@ -13,7 +13,7 @@ use Rattle.refusal.specs.Limits.{maxLists}
 use Rattle.refusal.specs.Lowest.{lowest}
 use Rattle.refusal.specs.declared.Outcome.{Outcome}
 use Rattle.refusal.specs.declared.Outcome.the-variants.{Done, Refused}
-use Rattle.layout.specs.Layout.{count, offsetAt}
+use Rattle.layout.specs.Layout.{count, entryAt, offsetAt}
 use Rattle.contents.specs.Calls.{recordAt, recordsFrom, contentsRefusals, filled}
 use Rattle.contents.specs.Workers.{fitRefusals, recordsDue}
 use Rattle.contents.specs.declared.Entry.{Entry}
@@ -24,11 +24,11 @@ entry o d = record { offset = o; degree = d }
 
 module _ (s : List ℕ) (k : ℕ) where
   -- of the bytes that an entry has
-  pub record-listed : k < count s → {degree low high : ℕ} → degree ≡ getD s (1 + 3 * k) 0
-      → low ≡ getD s (1 + 3 * k + 1) 0 → high ≡ getD s (1 + 3 * k + 2) 0 → entry (low + 256 * high) degree ≡ recordAt s k
+  pub record-listed : k < count s → {degree low high : ℕ} → degree ≡ getD s (entryAt k) 0
+      → low ≡ getD s (entryAt k + 1) 0 → high ≡ getD s (entryAt k + 2) 0 → entry (low + 256 * high) degree ≡ recordAt s k
   unfolding recordAt
   record-listed l {degree} {low} {high} d e f =
-      let o : low + 256 * high ≡ offsetAt s k = omega (arith, ap (λ j. getD s j 0) (add-assoc (1 + 3 * k) 1 1)) in
+      let o : low + 256 * high ≡ offsetAt s k = omega (arith, ap (λ j. getD s j 0) (add-assoc (entryAt k) 1 1)) in
       ap₂ entry o d ∙ sym (simp (lt-ltb k (count s) l))
 
   pub record-past : count s ≤ k → entry 0 0 ≡ recordAt s k

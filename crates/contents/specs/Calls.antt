@@ -1,7 +1,7 @@
 -- The contents of an album as records for a host.
 --     recordAt             the record of list k: its offset and its naive degree; zeros after the last list
 --     recordsFrom          n records, from number k on
---     contentsRefusals     of contents: the slice has exactly 16 records
+--     contentsRefusals     of contents: the slice has exactly as many records as the limit of lists
 --     filled               what the lent slice holds afterwards: the records, or, refused, what it held before
 -- Assumes nothing.
 use mathlib.Core.Bool.{cond, not}

@@ -6,7 +6,7 @@ ghost use lib.ListN.{getD};
 ghost use Rattle.refusal.specs.Limits.{maxLists};
 ghost use Rattle.refusal.specs.Refusal.{reply, outcomeReply};
 ghost use Rattle.refusal.specs.Lowest.{lowest};
-ghost use Rattle.field.specs.Field.{p};
+ghost use Rattle.field.specs.Fields.{p, modulus};
 ghost use Rattle.contents.specs.Calls.{recordAt, recordsFrom, contentsRefusals, filled};
 ghost use Rattle.contents.specs.Workers.{fitRefusals, recordsDue};
 use refusal::Outcome;
@@ -19,12 +19,12 @@ pub struct Entry {
     pub degree: u16,
 }
 
-// The records of the album's lists, zeros after the last, in a slice of 16 records.
+// The records of the album's lists, zeros after the last, in a slice of MAX_LISTS records.
 pub fn contents(album: &[u8], out: &mut [Entry]) -> Outcome
     ensures answer { λ r. ⌜ outcomeReply r ≡ reply (lowest (contentsRefusals p (now (album .entry)) (now (out .entry)))) [] ⌝ }
     ensures writes { λ _. ⌜ now (out .exit) ≡ filled (lowest (contentsRefusals p (now (album .entry)) (now (out .entry)))) (recordsFrom (now (album .entry)) 0 maxLists) (now (out .entry)) ⌝ }
 {
-    let answer = judge_contents(album, out.len());
+    let answer = judge_contents(0, album, out.len());
     let due = records_due(answer);
     let mut k = 0;
     while k < due {
@@ -34,11 +34,11 @@ pub fn contents(album: &[u8], out: &mut [Entry]) -> Outcome
     answer
 }
 
-// What a call refuses that is lent n records.
-fn judge_contents(album: &[u8], n: usize) -> Outcome
-    ensures { λ r. ⌜ r ≡ lowest (fitRefusals p (now (album .entry)) n) ⌝ }
+// What a call over a field refuses that is lent n records.
+fn judge_contents(field: u8, album: &[u8], n: usize) -> Outcome
+    ensures { λ r. ⌜ r ≡ lowest (fitRefusals (modulus field) (now (album .entry)) n) ⌝ }
 {
-    if let Outcome::Refused(why) = layout::judge_album(album) {
+    if let Outcome::Refused(why) = layout::judge_album(field, album) {
         return Outcome::Refused(why);
     }
     if n != refusal::MAX_LISTS {
@@ -62,7 +62,7 @@ fn record_at(album: &[u8], k: usize) -> Entry
     ensures { λ r. ⌜ r ≡ recordAt (now (album .entry)) k ⌝ }
 {
     if k < byte_at(album, 0) {
-        let e = 1 + 3 * k;
+        let e = 1 + refusal::ENTRY_BYTES * k;
         let degree = byte_at(album, e);
         let offset = byte_at(album, e + 1) + 256 * byte_at(album, e + 2);
         Entry {

@@ -6,13 +6,13 @@ use native.Mathlib.Nat.{mul-le-mul}
 use native.Mathlib.Omega.{arith}
 use Rattle.convolution.specs.Halves.{Halving}
 
-pub cut-few : {n m g : ℕ} → Halving n m g → g ≤ 9
-cut-few {n} {m} {g} h = go (decLt 0 g)
+pub cut-few : {room n m g : ℕ} → Halving room n m g → 24 * g ≤ room
+cut-few {room} {n} {m} {g} h = go (decLt 0 g)
   where
-    go : Dec (0 < g) → g ≤ 9
-    go (yes l) = h .fits l .0
+    go : Dec (0 < g) → 24 * g ≤ room
+    go (yes l) = let r = h .fits l .0 in omega arith
     go (no l) = omega arith
 
 -- the products of the comparison
-pub small : {x y : ℕ} → x ≤ 300 → y ≤ 300 → x * y ≤ 90000
-small {x} {y} h l = mul-le-mul {n₂ = 300} {m₂ = 300} h l
+pub small : {x y : ℕ} → x ≤ 65536 → y ≤ 65536 → x * y ≤ 4294967296
+small {x} {y} h l = mul-le-mul {n₂ = 65536} {m₂ = 65536} h l

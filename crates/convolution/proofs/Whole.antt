@@ -53,7 +53,7 @@ module _ (a b : List ℕ) (p : (k : ℕ) → getD a k 0 < 65536) (q : (k : ℕ) 
             ∙ sym (ap (λ i. getD (behind b) i 0) (split 7 k (omega arith)) ∙ behind-at b (k - 7))
         go (no h) _ = block-end (v + 15) 0 y k (omega arith) ∙ sym (behind-end b k (omega arith))
 
-    pub whole-factors : n ≤ 256 → Factors (block n 0 x) (block (v + 15) 0 y)
+    pub whole-factors : n ≤ 65536 → Factors (block n 0 x) (block (v + 15) 0 y)
     whole-factors h =
         record {
           few = omega (arith, length-block n 0 x);
@@ -107,7 +107,7 @@ module _ (a b : List ℕ) (p : (k : ℕ) → getD a k 0 < 65536) (q : (k : ℕ) 
     second-word (suc (suc zero)) l k = omega (arith, g .sum k, low-strip k (decLt k (h + 7)), high-strip k (decLt k 7))
     second-word (suc (suc (suc t))) l k = absurd (omega arith)
 
-    pub half-factors : h ≤ 72 → (t : ℕ) → t < 3 → Factors (block h t x) (block (h + 15) t y)
+    pub half-factors : h ≤ 65536 → (t : ℕ) → t < 3 → Factors (block h t x) (block (h + 15) t y)
     half-factors e t l = record { few = omega (arith, length-block h t x); first = first-word t l; second = second-word t l }
 
     low-lead : (k : ℕ) → k < 7 → getD (block (h + 15) 0 y) k 0 ≡ 0
@@ -150,7 +150,7 @@ module _ (a b : List ℕ) (p : (k : ℕ) → getD a k 0 < 65536) (q : (k : ℕ) 
     pub halves-enough : Enough (8 * i) s
     halves-enough = enough (8 * i) a b _ _ _ _ _ _ f g s products-are
 
-    pub halves-small : i ≤ 9 → length b ≤ 2 * (8 * i) + 1 → Small (6 * (8 * i)) s
+    pub halves-small : 8 * i ≤ 65536 → length b ≤ 2 * (8 * i) + 1 → Small (6 * (8 * i)) s
     halves-small l m = record { at = λ k h. go k h (decLt k (2 * (8 * i))) (decLt k (4 * (8 * i))) }
       where
         bound : (t k : ℕ) → t < 3 → rowSum (block (8 * i) t x) (block (8 * i + 15) t y) k (8 * i) ≤ 8 * i * 17179607041
@@ -171,7 +171,9 @@ module _ (a b : List ℕ) (p : (k : ℕ) → getD a k 0 < 65536) (q : (k : ℕ) 
           at = λ k h. join-is (8 * i) a b _ _ _ _ _ _ f g s products-are (omega arith) j k (omega arith) ∙ all-rows a b k (8 * i + 8 * i) (omega arith);
         }
 
-  module _ (x y s : List ℕ) (la : length a ≤ 256) (lb : length b ≤ 256) (lx : length x ≡ 256) (ly : length y ≡ 272) (ls : length s ≡ 512) where
+  -- in buffers for factors of up to `room` words; 2^15 of them keep every sum well below 2^63
+  module _ (room : ℕ) (low : room ≤ 32768) (x y s : List ℕ) (la : length a ≤ room) (lb : length b ≤ room) (lx : length x ≡ room + 8)
+      (ly : length y ≡ room + 16) (ls : length s ≡ 2 * room + 8) where
     one-block : Shifted 0 a x → Shifted 7 b y → Blocks 1 ((length a + 7) / 8) (2 * (length b / 2)) x y s
     one-block f g =
         record {
@@ -192,7 +194,7 @@ module _ (a b : List ℕ) (p : (k : ℕ) → getD a k 0 < 65536) (q : (k : ℕ) 
         strip zero l = whole-strip (8 * ((length a + 7) / 8)) (2 * (length b / 2)) x y f g (omega arith) (omega arith)
         strip (suc t) l = absurd (omega arith)
 
-    three-blocks : (i : ℕ) → i ≤ 9 → length b ≤ 16 * i + 1 → FirstHalves (8 * i) a (block (8 * i) 0 x) (block (8 * i) 1 x) (block (8 * i) 2 x)
+    three-blocks : (i : ℕ) → 3 * (8 * i + 15) ≤ room + 16 → length b ≤ 16 * i + 1 → FirstHalves (8 * i) a (block (8 * i) 0 x) (block (8 * i) 1 x) (block (8 * i) 2 x)
         → SecondHalves (8 * i) b (block (8 * i + 15) 0 y) (block (8 * i + 15) 1 y) (block (8 * i + 15) 2 y) → Blocks 3 i (8 * i) x y s
     three-blocks i l m f g =
         record {
@@ -206,23 +208,23 @@ module _ (a b : List ℕ) (p : (k : ℕ) → getD a k 0 < 65536) (q : (k : ℕ) 
         }
 
   -- one product where g is 0, three else
-  module _ (g count rows v : ℕ) (x y s : List ℕ) (u : Halving (length a) (length b) g) (l : Laid g a b x y) (ec : count ≡ cond (eqb g 0) 1 3)
-      (er : rows ≡ cond (eqb g 0) ((length a + 7) / 8) g) (ev : v ≡ cond (eqb g 0) (2 * (length b / 2)) (8 * g)) where
+  module _ (room : ℕ) (low : room ≤ 32768) (g count rows v : ℕ) (x y s : List ℕ) (u : Halving room (length a) (length b) g) (l : Laid g a b x y)
+      (ec : count ≡ cond (eqb g 0) 1 3) (er : rows ≡ cond (eqb g 0) ((length a + 7) / 8) g) (ev : v ≡ cond (eqb g 0) (2 * (length b / 2)) (8 * g)) where
     one : g ≡ 0 → (count ≡ 1) × (rows ≡ (length a + 7) / 8) × (v ≡ 2 * (length b / 2))
     one e = (ec ∙ rw (eq-eqb g 0 e), er ∙ rw (eq-eqb g 0 e), ev ∙ rw (eq-eqb g 0 e))
 
     three : (g ≡ 0 → ⊥) → (count ≡ 3) × (rows ≡ g) × (v ≡ 8 * g)
     three e = (ec ∙ rw (ne-eqb g 0 e), er ∙ rw (ne-eqb g 0 e), ev ∙ rw (ne-eqb g 0 e))
 
-    pub blocks-fit : length a ≤ 256 → length b ≤ 256 → length x ≡ 256 → length y ≡ 272 → length s ≡ 512 → Blocks count rows v x y s
+    pub blocks-fit : length a ≤ room → length b ≤ room → length x ≡ room + 8 → length y ≡ room + 16 → length s ≡ 2 * room + 8 → Blocks count rows v x y s
     blocks-fit la lb lx ly ls = go (ℕ-discrete g 0)
       where
         go : Dec (g ≡ 0) → Blocks count rows v x y s
-        go (yes e) = rw (one e .0, one e .1, one e .2) (one-block x y s la lb lx ly ls (l .whole e .0) (l .whole e .1))
+        go (yes e) = rw (one e .0, one e .1, one e .2) (one-block room low x y s la lb lx ly ls (l .whole e .0) (l .whole e .1))
         go (no e) =
             let cut = u .fits (omega arith) in
             rw (three e .0, three e .1, three e .2)
-            (three-blocks x y s la lb lx ly ls g (cut .0) (cut .3) (l .first (omega arith)) (l .second (omega arith)))
+            (three-blocks room low x y s la lb lx ly ls g (cut .0) (cut .3) (l .first (omega arith)) (l .second (omega arith)))
 
     module _ (d : Multiplied rows v x y count s) where
       as-one : g ≡ 0 → Multiplied ((length a + 7) / 8) (2 * (length b / 2)) x y 1 s
@@ -238,7 +240,7 @@ module _ (a b : List ℕ) (p : (k : ℕ) → getD a k 0 < 65536) (q : (k : ℕ) 
           go (yes e) = record { at = λ k h. absurd (omega arith) }
           go (no e) =
               let cut = u .fits (omega arith) in
-              halves-small g x y (l .first (omega arith)) (l .second (omega arith)) (as-three e) (cut .0) (omega (arith, cut))
+              halves-small g x y (l .first (omega arith)) (l .second (omega arith)) (as-three e) (omega (arith, cut)) (omega (arith, cut))
 
       pub enough-is : Enough (8 * g) s
       enough-is = go (ℕ-discrete g 0)

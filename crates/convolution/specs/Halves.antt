@@ -1,6 +1,6 @@
 -- Karatsuba's product: three products of halves instead of four. Both factors are cut after h words, into a0, a1 and b0, b1; then
 -- a0 b1 + a1 b0 is (a0 + a1) (b0 + b1) less a0 b0 and a1 b1.
---     Halving        h = 8 g fits two factors of n and m words; where g is 0 they are not cut
+--     Halving        h = 8 g fits two factors of n and m words, and three blocks of h + 15 fit room + 16 words; where g is 0 they are not cut
 --     FirstHalves    x0, x1: the halves of the first factor; x2: their sum
 --     SecondHalves   y0, y1: the halves of the second factor, each behind 7 zeros; y2: their sum
 --     Laid           the factors in their buffers: whole, or as three blocks
@@ -17,8 +17,8 @@ use Prim.Native.Nat.{ℕ, _+_, _-_, _*_, _≤_, _<_}
 use lib.ListN.{getD}
 use Rattle.convolution.specs.Rows.{Shifted, block, behind}
 
-pub record Halving (n m g : ℕ) : Type 0 where
-  pub fits : 0 < g → (g ≤ 9) × (n ≤ 16 * g) × (8 * g ≤ m) × (m ≤ 16 * g + 1)
+pub record Halving (room n m g : ℕ) : Type 0 where
+  pub fits : 0 < g → (3 * (8 * g + 15) ≤ room + 16) × (n ≤ 16 * g) × (8 * g ≤ m) × (m ≤ 16 * g + 1)
 
 pub record FirstHalves (h : ℕ) (a x0 x1 x2 : List ℕ) : Type 0 where
   pub low : (k : ℕ) → k < h → getD x0 k 0 ≡ getD a k 0

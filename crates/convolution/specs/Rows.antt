@@ -1,7 +1,7 @@
 -- A product by rows, in buffers: row j is word j of the first factor times the second. The second factor stands behind 7 zeros, so that
 -- eight rows have one range of words. A buffer may hold several factors, or several sums, one after the other: its blocks.
 --     Shifted       d zeros, the words of a list, then zeros
---     Factors       the two factors in their buffers: words of 17 bits, few enough that no sum passes 64 bits
+--     Factors       the two factors in their buffers: words of 17 bits, at most 2^16 in the first, so that no sum passes 50 bits
 --     Strip         what stands before the second factor, and from m on behind it, is 0
 --     rowSum        word k of the sum of the first n rows
 --     Summed        each word of s is that of the sum of the first n rows
@@ -23,7 +23,7 @@ pub record Shifted (d : ℕ) (l s : List ℕ) : Type 0 where
   pub at : (k : ℕ) → getD s (d + k) 0 ≡ getD l k 0
 
 pub record Factors (a b : List ℕ) : Type 0 where
-  pub few : length a ≤ 256
+  pub few : length a ≤ 65536
   pub first : (k : ℕ) → getD a k 0 < 131072
   pub second : (k : ℕ) → getD b k 0 < 131072
 
@@ -45,8 +45,8 @@ pub record Blocks (count g v : ℕ) (x y s : List ℕ) : Type 0 where
   pub size-x : count * (8 * g) ≤ length x
   pub size-y : count * (v + 15) ≤ length y
   pub size-s : count * (8 * g + v) ≤ length s
-  pub rows : 8 * g ≤ 256
-  pub width : v ≤ 256
+  pub rows : 8 * g ≤ 65536
+  pub width : v ≤ 65536
   pub factors : (t : ℕ) → t < count → Factors (block (8 * g) t x) (block (v + 15) t y)
   pub strip : (t : ℕ) → t < count → Strip (v + 8) (block (v + 15) t y)
 

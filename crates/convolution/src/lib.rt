@@ -5,14 +5,21 @@ ghost use mathlib.Core.Bool.{cond};
 ghost use lib.Dec.{eqb};
 ghost use Prim.Native.Nat.{_+_, _*_, _/_, _<_, _≤_};
 ghost use lib.ListN.{length, getD, take, drop};
-ghost use Rattle.algebra.specs.PrimeField.{F65521};
+ghost use Rattle.field.specs.Fields.{modulus, fieldAt};
 ghost use Rattle.refusal.specs.Limits.{maxWords};
-ghost use Rattle.field.specs.Field.{p};
 ghost use Rattle.lists.specs.Words.{ZeroFrom};
 ghost use Rattle.wide_rows.specs.Placed.{Placed};
 ghost use Rattle.convolution.specs.Convolution.{convolveFits, convolution};
 ghost use Rattle.convolution.specs.Rows.{Factors, Strip, rowSum, block, Blocks, Multiplied, Whole, remainders};
 ghost use Rattle.convolution.specs.Halves.{Halving, SecondHalves, Laid, sumAt, crossAt, joinAt, Joined, Enough, Small};
+
+// The words of the buffers. The first factor is padded to groups of eight words; the second stands between zeros, at least 7 on each side;
+// the sums are as long as a product of such factors.
+const FIRST: usize = refusal::MAX_WORDS + 8;
+
+const SECOND: usize = refusal::MAX_WORDS + 16;
+
+const SUMS: usize = 2 * refusal::MAX_WORDS + 8;
 
 // The sum of the rows of a block of x and one of y, in a block of s, from i, j and k on. s is 0 from k on. A block of x has 8 g words, one
 // of y at most v + 1 between zeros, at least 7 on each side, one of s all words of the product.
@@ -99,25 +106,26 @@ fn add_cross(s: &mut [u64], h: usize)
 }
 
 // The words of s, reduced.
-fn reduce_words(s: &[u64], out: &mut [u16])
+fn reduce_words(field: u8, s: &[u64], out: &mut [u16])
     requires { ⌜ length (now out) ≤ length (now s) ⌝ }
-    ensures { λ _. ⌜ now (out .exit) ≡ remainders p (length (now (out .entry))) (now (s .entry)) ⌝ }
+    ensures { λ _. ⌜ now (out .exit) ≡ remainders (modulus field) (length (now (out .entry))) (now (s .entry)) ⌝ }
 {
     let mut k = 0;
     while k < out.len() {
-        out[k] = field::reduce(s[k]);
+        out[k] = field::reduce(field, s[k]);
         k += 1;
     }
 }
 
-// How many groups of eight rows half of the first factor has, where the factors are cut: the halves fit the buffers, and the words that the
-// groups reach are fewer, with 80 more for the sums and differences, than those of the whole factors' rows. Else 0.
+// How many groups of eight rows half of the first factor has, where the factors are cut: three blocks fit each buffer, which they do where
+// they fit the second factor's, and the words that the groups reach are fewer, with 80 more for the sums and differences, than those of the
+// whole factors' rows. Else 0.
 fn halving(n: usize, m: usize) -> usize
     requires { ⌜ (n ≤ maxWords) × (m ≤ maxWords) ⌝ }
-    ensures { λ g. ⌜ Halving n m g ⌝ }
+    ensures { λ g. ⌜ Halving maxWords n m g ⌝ }
 {
     let g = (n + 15) / 16;
-    if 9 < g {
+    if SECOND < 3 * (8 * g + 15) {
         return 0;
     }
     if m < 8 * g {
@@ -142,7 +150,7 @@ struct Plan {
 
 // One product of the whole factors where g is 0, three of their halves else.
 fn plan_of(g: usize, n: usize, m: usize) -> Plan
-    requires { ⌜ (g ≤ 9) × (n ≤ maxWords) × (m ≤ maxWords) ⌝ }
+    requires { ⌜ (24 * g ≤ maxWords) × (n ≤ maxWords) × (m ≤ maxWords) ⌝ }
     ensures { λ r. ⌜ (r .count ≡ cond (eqb g 0) 1 3) × (r .groups ≡ cond (eqb g 0) ((n + 7) / 8) g) × (r .width ≡ cond (eqb g 0) (2 * (m / 2)) (8 * g)) ⌝ }
 {
     if g == 0 {
@@ -161,7 +169,7 @@ fn plan_of(g: usize, n: usize, m: usize) -> Plan
 
 // The halves of the second factor and their sum, in s, which is 0.
 fn halve_second(b: &[u16], h: usize, s: &mut [u64])
-    requires { ⌜ (h ≤ length (now b)) × (length (now b) ≤ 2 * h + 1) × (3 * (h + 15) ≤ length (now s)) × (h ≤ 72) × ZeroFrom 0 (now s) ⌝ }
+    requires { ⌜ (h ≤ length (now b)) × (length (now b) ≤ 2 * h + 1) × (3 * (h + 15) ≤ length (now s)) × ZeroFrom 0 (now s) ⌝ }
     ensures { λ _. ⌜ SecondHalves h (now (b .entry)) (block (h + 15) 0 (now (s .exit))) (block (h + 15) 1 (now (s .exit))) (block (h + 15) 2 (now (s .exit))) ⌝ }
 {
     widen(b, 0, h, 7, s);
@@ -171,8 +179,8 @@ fn halve_second(b: &[u16], h: usize, s: &mut [u64])
 
 // The factors in their buffers, which are 0.
 fn lay(a: &[u16], b: &[u16], g: usize, x: &mut [u64], y: &mut [u64])
-    requires { ⌜ (length (now a) ≤ maxWords) × (length (now b) ≤ maxWords) × Halving (length (now a)) (length (now b)) g ⌝ }
-    requires { ⌜ (length (now x) ≡ 256) × (length (now y) ≡ 272) × ZeroFrom 0 (now x) × ZeroFrom 0 (now y) ⌝ }
+    requires { ⌜ (length (now a) ≤ maxWords) × (length (now b) ≤ maxWords) × Halving maxWords (length (now a)) (length (now b)) g ⌝ }
+    requires { ⌜ (length (now x) ≡ maxWords + 8) × (length (now y) ≡ maxWords + 16) × ZeroFrom 0 (now x) × ZeroFrom 0 (now y) ⌝ }
     ensures { λ _. ⌜ Laid g (now (a .entry)) (now (b .entry)) (now (x .exit)) (now (y .exit)) ⌝ }
 {
     widen(a, 0, a.len(), 0, x);
@@ -196,7 +204,7 @@ fn join(s: &mut [u64], g: usize)
 // The product in whole numbers.
 fn multiply_lists(a: &[u16], b: &[u16], x: &mut [u64], y: &mut [u64], s: &mut [u64])
     requires { ⌜ (length (now a) ≤ maxWords) × (length (now b) ≤ maxWords) ⌝ }
-    requires { ⌜ (length (now x) ≡ 256) × (length (now y) ≡ 272) × (length (now s) ≡ 512) ⌝ }
+    requires { ⌜ (length (now x) ≡ maxWords + 8) × (length (now y) ≡ maxWords + 16) × (length (now s) ≡ 2 * maxWords + 8) ⌝ }
     requires { ⌜ ZeroFrom 0 (now x) × ZeroFrom 0 (now y) × ZeroFrom 0 (now s) ⌝ }
     ensures { λ _. ⌜ Whole (now (a .entry)) (now (b .entry)) (now (s .exit)) ⌝ }
 {
@@ -208,38 +216,46 @@ fn multiply_lists(a: &[u16], b: &[u16], x: &mut [u64], y: &mut [u64], s: &mut [u
 }
 
 // The product, with buffers that are 0.
-fn convolve_in(a: &[u16], b: &[u16], x: &mut [u64], y: &mut [u64], s: &mut [u64], out: &mut [u16])
+fn convolve_in(
+    field: u8,
+    a: &[u16],
+    b: &[u16],
+    x: &mut [u64],
+    y: &mut [u64],
+    s: &mut [u64],
+    out: &mut [u16],
+)
     requires { ⌜ (length (now a) ≤ maxWords) × (length (now b) ≤ maxWords) × (length (now out) + 1 ≡ length (now a) + length (now b)) ⌝ }
-    requires { ⌜ (length (now x) ≡ 256) × (length (now y) ≡ 272) × (length (now s) ≡ 512) ⌝ }
+    requires { ⌜ (length (now x) ≡ maxWords + 8) × (length (now y) ≡ maxWords + 16) × (length (now s) ≡ 2 * maxWords + 8) ⌝ }
     requires { ⌜ ZeroFrom 0 (now x) × ZeroFrom 0 (now y) × ZeroFrom 0 (now s) ⌝ }
-    ensures { λ _. ⌜ now (out .exit) ≡ convolution F65521 (now (a .entry)) (now (b .entry)) ⌝ }
+    ensures { λ _. ⌜ now (out .exit) ≡ convolution (fieldAt field) (now (a .entry)) (now (b .entry)) ⌝ }
 {
     multiply_lists(a, b, x, y, s);
-    reduce_words(s, out);
+    reduce_words(field, s, out);
 }
 
-fn convolve_into(a: &[u16], b: &[u16], out: &mut [u16])
+fn convolve_into(field: u8, a: &[u16], b: &[u16], out: &mut [u16])
     requires { ⌜ (length (now a) ≤ maxWords) × (length (now b) ≤ maxWords) × (length (now out) + 1 ≡ length (now a) + length (now b)) ⌝ }
-    ensures { λ _. ⌜ now (out .exit) ≡ convolution F65521 (now (a .entry)) (now (b .entry)) ⌝ }
+    ensures { λ _. ⌜ now (out .exit) ≡ convolution (fieldAt field) (now (a .entry)) (now (b .entry)) ⌝ }
 {
-    let mut x = [0u64; 256];
-    let mut y = [0u64; 272];
-    let mut s = [0u64; 512];
-    convolve_in(a, b, &mut x, &mut y, &mut s, out);
+    let mut x = [0u64; FIRST];
+    let mut y = [0u64; SECOND];
+    let mut s = [0u64; SUMS];
+    convolve_in(field, a, b, &mut x, &mut y, &mut s, out);
 }
 
 // The words of the product of two scaled forms.
-pub fn convolve(a: &[u16], b: &[u16], out: &mut [u16])
-    ensures { λ _. ⌜ now (out .exit) ≡ cond (convolveFits maxWords (now (a .entry)) (now (b .entry)) (now (out .entry))) (convolution F65521 (now (a .entry)) (now (b .entry))) (now (out .entry)) ⌝ }
+pub fn convolve(field: u8, a: &[u16], b: &[u16], out: &mut [u16])
+    ensures { λ _. ⌜ now (out .exit) ≡ cond (convolveFits maxWords (now (a .entry)) (now (b .entry)) (now (out .entry))) (convolution (fieldAt field) (now (a .entry)) (now (b .entry))) (now (out .entry)) ⌝ }
 {
-    if 256 < a.len() {
+    if refusal::MAX_WORDS < a.len() {
         return;
     }
-    if 256 < b.len() {
+    if refusal::MAX_WORDS < b.len() {
         return;
     }
     if out.len() + 1 != a.len() + b.len() {
         return;
     }
-    convolve_into(a, b, out);
+    convolve_into(field, a, b, out);
 }

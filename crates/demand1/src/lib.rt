@@ -3,7 +3,8 @@
 // specs/Demand1Holds.antt states the same of it.
 ghost use mathlib.Core.List.{[], _∷_};
 ghost use Rattle.refusal.specs.Refusal.{outcomeReply};
-ghost use Rattle.field.specs.Field.{p, wordReply, operandRefusals, inverseRefusals};
+ghost use Rattle.field.specs.Field.{wordReply, operandRefusals, inverseRefusals};
+ghost use Rattle.field.specs.Fields.{p};
 ghost use Rattle.products.specs.Calls.{productRefusals, raiseRefusals};
 ghost use Rattle.sums.specs.Calls.{sumRefusals};
 ghost use Rattle.extents.specs.Calls.{extentReply, extentRefusals, trimRefusals};

@@ -12,19 +12,22 @@ use mathlib.Core.List.{List, [], _∷_}
 use Prim.Native.Nat.{ℕ, zero, suc, _+_, _≤_, _<_, max}
 use native.Mathlib.Nat.{le-of-lt}
 use native.Mathlib.Omega.{arith}
-use lib.Dec.{eqb, lit≤}
+use lib.Dec.{eqb}
 use lib.ListN.{length, getD}
 use borrow.Author.Tests.{eq-eqb, eqb-false}
 use Rattle.algebra.specs.Ring.{CommRing}
 use Rattle.algebra.specs.Evaluation.{ValueAt}
 use Rattle.algebra.specs.Derivative as D
-use Rattle.algebra.specs.PrimeField.{PrimeField, F65521, p-is, positive, scalars, residue}
+use Rattle.algebra.specs.PrimeField.{PrimeField, positive, scalars, residue}
+use Rattle.field.specs.Fields.{longest, F65521}
+use Rattle.field.specs.FieldsLaws.{longest-in}
 use Rattle.refusal.specs.Limits.{maxLists, maxWords}
 use Rattle.refusal.specs.Lowest.{lowest}
 use Rattle.refusal.specs.declared.Outcome.the-variants.{Done}
 use Rattle.refusal.proofs.First.{first-then, refuse-done, or-else-done}
 use Rattle.field.specs.Field as field
 use Rattle.field.specs.Theorems.{residue-sum, residue-difference, residue-product, inverse-is}
+use Rattle.lists.specs.Bytes.{Bytes}
 use Rattle.lists.specs.Degrees.{naiveDegree, significant, extent}
 use Rattle.lists.specs.Refused.{hasLoose, anyOf, listRefusals}
 use Rattle.lists.specs.Lists.{Coefficients, meaning, scaled}
@@ -41,8 +44,8 @@ use Rattle.products.specs.Calls.{productRefusals, raiseRefusals}
 use Rattle.products.proofs.Judged.{product-fits, raise-fits}
 use Rattle.sums.specs.Calls.{sumRefusals}
 use Rattle.sums.proofs.Judged.{sum-fits}
-use Rattle.extents.specs.Calls.{trimRefusals}
-use Rattle.derivatives.specs.Calls.{derivativeWords, derivativeRefusals}
+use Rattle.extents.specs.Calls.{trimRows, trimRefusals}
+use Rattle.derivatives.specs.Calls.{derivativeWords, derivativeRows, derivativeRefusals}
 use Rattle.division.specs.Calls.{divideRefusals, DividesSo}
 use Rattle.layout.specs.Layout.{count, wrongCount, brokenLayout, listsOf}
 use Rattle.layout.specs.Calls.{checkRefusals}
@@ -95,7 +98,7 @@ module _ (F : PrimeField) where
         → DividesSo F g f (quotientOf F g f) (remainderOf F g f)
     -- an album of bytes that obeys the layout and has no loose word is read: a call on any of its lists is done, and it is the album of the
     -- lists that are read
-    pub of-reading : (s : List ℕ) → ((k : ℕ) → getD s k 0 < 256) → wrongCount maxLists s ≡ false → brokenLayout s ≡ false
+    pub of-reading : (s : List ℕ) → Bytes s → wrongCount maxLists s ≡ false → brokenLayout s ≡ false
         → anyOf (hasLoose (F .p)) (listsOf s) ≡ false
         → ((i : ℕ) → i < count s → lowest (checkRefusals (F .p) s i) ≡ Done) × (albumOf (listsOf s) ≡ s)
 
@@ -106,20 +109,21 @@ module _ (F : PrimeField) where
 
     product-is : (f g out : List ℕ) → lowest (productRefusals (F .p) f g out) ≡ Done
         → TheList (suc (naiveDegree f + naiveDegree g)) (meaning F f *ˢ meaning F g) (product F f g)
+    unfolding productRefusals
     product-is f g out e =
         the-list _ _ _ (length-product F f g) (coefficients-product F f g small) (product-meaning F f g small)
       where
         small : naiveDegree f + naiveDegree g < F .p
         small =
-            let h = product-fits (F .p) (positive F) f g out (sym e) in
+            let h = product-fits (F .p) maxWords (positive F) f g out (sym e) in
             let a = length-naive f (h .first) in
             let b = length-naive g (h .second) in
             omega arith
 
     raise-is : (f : List ℕ) (n : ℕ) (out : List ℕ) → lowest (raiseRefusals (F .p) f n out) ≡ Done → TheList (suc n) (meaning F f) (raise F n f)
-    unfolding naiveDegree
+    unfolding naiveDegree raiseRefusals
     raise-is f n out e =
-        let h = raise-fits (F .p) (positive F) f n out (sym e) in
+        let h = raise-fits (F .p) maxWords (positive F) f n out (sym e) in
         let room = h .0 .room in
         let short = h .0 .short in
         let some = h .0 .list .some in
@@ -127,9 +131,9 @@ module _ (F : PrimeField) where
         the-list _ _ _ (length-raise F n f) (coefficients-raise F n f (omega arith)) (raise-meaning F n f (omega arith) (omega arith))
 
     larger-small : (f g out : List ℕ) → lowest (sumRefusals (F .p) f g out) ≡ Done → larger F f g < F .p
-    unfolding larger
+    unfolding larger sumRefusals
     larger-small f g out e =
-        let h = sum-fits (F .p) (positive F) f g out (sym e) in
+        let h = sum-fits (F .p) maxWords (positive F) f g out (sym e) in
         let a = length-naive f (h .first .some) in
         let b = length-naive g (h .second .some) in
         let c = h .first .short in
@@ -152,7 +156,7 @@ module _ (F : PrimeField) where
 
     trim-is : (f out : List ℕ) → lowest (trimRefusals (F .p) f out) ≡ Done
         → (length (trim F f) ≡ suc (extent f)) × (scaled F (trim F f) ≡ scaled F f)
-    unfolding trimRefusals listRefusals
+    unfolding trimRefusals trimRows listRefusals
     trim-is f out e =
         let d = or-else-done _ _ (sym (first-then (listRefusals (F .p) maxWords (f ∷ [])) _ tt) ∙ e) in
         let z = eqb-false (significant f) 0 (refuse-done (eqb (significant f) 0) _ _ (d .1) .0) in
@@ -161,7 +165,7 @@ module _ (F : PrimeField) where
 
     -- the list that a derivative is handed
     derivative-listed : (f out : List ℕ) → lowest (derivativeRefusals (F .p) f out) ≡ Done → Coefficients F f
-    unfolding derivativeRefusals listRefusals
+    unfolding derivativeRefusals derivativeRows listRefusals
     derivative-listed f out e =
         coefficients-listed F wide
         (one-listed (F .p) maxWords (positive F) f (or-else-done _ _ (sym (first-then (listRefusals (F .p) maxWords (f ∷ [])) _ tt) ∙ e) .0))
@@ -200,4 +204,5 @@ module _ (F : PrimeField) where
       }
 
 pub of-engine : Demand2 F65521
-of-engine = demand2 F65521 (rw p-is (lit≤ tt))
+unfolding longest
+of-engine = demand2 F65521 (longest-in 0)

@@ -5,18 +5,21 @@
 --     demand3      that it holds
 --     of-engine    of the field of 65,521 elements
 -- Assumes nothing.
-use mathlib.Core.Path.{_≡_, refl, sym}
+use mathlib.Core.Path.{_≡_, sym}
 use mathlib.Core.List.{List, [], _∷_}
 use Prim.Native.Nat.{ℕ, _≤_, _<_}
-use lib.Dec.{lit≤}
+use native.Mathlib.Omega.{arith}
 use lib.ListN.{getD}
 use Rattle.algebra.specs.Ring.{CommRing}
 use Rattle.algebra.specs.OneMinusT.{⟨1-t⟩^}
 use Rattle.algebra.specs.Rounds.{Rounds}
-use Rattle.algebra.specs.PrimeField.{PrimeField, F65521, p-is}
+use Rattle.algebra.specs.PrimeField.{PrimeField}
+use Rattle.field.specs.Fields.{longest, F65521}
+use Rattle.field.specs.FieldsLaws.{longest-in}
 use Rattle.refusal.specs.Limits.{maxWords}
 use Rattle.refusal.specs.Lowest.{lowest}
 use Rattle.refusal.specs.declared.Outcome.the-variants.{Done}
+use Rattle.lists.specs.Bytes.{Bytes}
 use Rattle.lists.specs.Lists.{meaning, scaled}
 use Rattle.euclid.specs.Quotients.{quotientOf, remainderOf}
 use Rattle.euclid.specs.Gcds.{roundsOf, gcdOf, countOf, commonPower, cofactorA, cofactorB}
@@ -45,7 +48,7 @@ module _ (F : PrimeField) where
   infixl 70 _*ˢ_
   pub record Demand3 : Type 0 where
     -- the GCD of an album of bytes s: (1-t)^c·h divides each list, and every polynomial that divides them all divides it
-    pub of-album : (s h : List ℕ) → ((k : ℕ) → getD s k 0 < 256) → lowest (albumGcdRefusals (F .p) s h) ≡ Done
+    pub of-album : (s h : List ℕ) → Bytes s → lowest (albumGcdRefusals (F .p) s h) ≡ Done
         → IsGreatestOf F (listsOf s) (⟨1-t⟩^ (F .series) (commonPower (listsOf s)) *ˢ meaning F (albumGcd F (listsOf s) .list))
     -- the GCD of two lists: (1-t)^c·h divides both, and every polynomial that divides both divides it
     pub of-two : (f g h : List ℕ) → lowest (gcdRefusals (F .p) f g h) ≡ Done
@@ -62,29 +65,31 @@ module _ (F : PrimeField) where
     pub of-no-words : meaning F [] ≡ 0ˢ
 
   pub demand3 : maxWords ≤ F .p → Demand3
+  unfolding albumGcdRefusals gcdRefusals cofactorRefusals divideRefusals
   demand3 wide =
       record {
         of-album =
             λ s h bytes e.
-            let j = judged-fine (F .p) s h e in
-            let listed = passed-each (F .p) s (j .0) bytes in
+            let j = judged-fine (F .p) maxWords s h e in
+            let listed = passed-each (F .p) s (j .0) bytes maxWords (omega arith) in
             let one = nonzero (listsOf s) (j .1) in
-            album-is-greatest F (listsOf s) (each F wide (listsOf s) listed one) (one .index) (one .some);
+            album-is-greatest F (listsOf s) (each F maxWords wide (listsOf s) listed one) (one .index) (one .some);
         of-two =
             λ f g h e.
-            let r = gcd-ready F wide f g h e .0 in
+            let r = gcd-ready F maxWords wide f g h e .0 in
             gcd-is-greatest F f g (r .coefficients-f) (r .coefficients-g) (r .some);
         of-rounds = λ f g. (roundsOf F f g .last, rounds-are F f g);
         of-cofactors =
             λ f g h a b e.
-            let r = cofactors-ready F wide f g h a b e .0 in
+            let r = cofactors-ready F maxWords wide f g h a b e .0 in
             record {
               meet = cofactors-are F f g (r .coefficients-f) (r .coefficients-g) (r .some);
               only = cofactors-only F f g (r .coefficients-f) (r .coefficients-g) (r .some);
             };
-        of-division = λ g f q r e. divides-so F g f (divide-fits F refl wide g f q r (sym e) .divisible);
+        of-division = λ g f q r e. divides-so F g f (divide-fits F maxWords wide g f q r (sym e) .divisible);
         of-no-words = meaning-none F;
       }
 
 pub of-engine : Demand3 F65521
-of-engine = demand3 F65521 (rw p-is (lit≤ tt))
+unfolding longest
+of-engine = demand3 F65521 (longest-in 0)

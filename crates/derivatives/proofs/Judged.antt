@@ -7,7 +7,6 @@ use Prim.Native.Nat.{ℕ, _-_, _<_, max}
 use lib.Dec.{eqb}
 use lib.ListN.{length}
 use borrow.Author.Tests.{eqb-true, not-false, eq-eqb, ne-eqb}
-use Rattle.refusal.specs.Limits.{maxWords}
 use Rattle.refusal.specs.Lowest.{lowest}
 use Rattle.refusal.specs.declared.Refusal.{Refusal}
 use Rattle.refusal.specs.declared.Refusal.the-variants.{Misfit}
@@ -16,33 +15,33 @@ use Rattle.refusal.proofs.First.{refuse, or-else, first-then, refuse-done, or-e
 use Rattle.lists.specs.Degrees.{naiveDegree}
 use Rattle.lists.specs.Refused.{listRefusals}
 use Rattle.lists.proofs.Judged.{one-listed}
-use Rattle.derivatives.specs.Calls.{derivativeWords, derivativeRefusals}
+use Rattle.derivatives.specs.Calls.{derivativeWords, derivativeRows}
 use Rattle.derivatives.specs.Workers.{DerivativeFits}
 
-module _ (p : ℕ) (f out : List ℕ) where
-  derivative-judged : lowest (derivativeRefusals p f out)
-      ≡ or-else (lowest (listRefusals p maxWords (f ∷ []))) (refuse (not (eqb (length out) (derivativeWords f))) Misfit Done)
-  unfolding derivativeRefusals listRefusals
-  derivative-judged = first-then (listRefusals p maxWords (f ∷ [])) _ tt
+module _ (p most : ℕ) (f out : List ℕ) where
+  derivative-judged : lowest (derivativeRows p most f out)
+      ≡ or-else (lowest (listRefusals p most (f ∷ []))) (refuse (not (eqb (length out) (derivativeWords f))) Misfit Done)
+  unfolding derivativeRows listRefusals
+  derivative-judged = first-then (listRefusals p most (f ∷ [])) _ tt
 
-  pub derivative-refused : {why : Refusal} → lowest (listRefusals p maxWords (f ∷ [])) ≡ Refused why → Refused why ≡ lowest (derivativeRefusals p f out)
+  pub derivative-refused : {why : Refusal} → lowest (listRefusals p most (f ∷ [])) ≡ Refused why → Refused why ≡ lowest (derivativeRows p most f out)
   derivative-refused e = sym (derivative-judged ∙ simp e)
 
-  module _ (e : lowest (listRefusals p maxWords (f ∷ [])) ≡ Done) where
-    pub derivative-misfit : ¬ (length out ≡ max (length f - 1) 1) → Refused Misfit ≡ lowest (derivativeRefusals p f out)
+  module _ (e : lowest (listRefusals p most (f ∷ [])) ≡ Done) where
+    pub derivative-misfit : ¬ (length out ≡ max (length f - 1) 1) → Refused Misfit ≡ lowest (derivativeRows p most f out)
     unfolding derivativeWords naiveDegree
     derivative-misfit h = sym (derivative-judged ∙ simp (e, ne-eqb (length out) (max (length f - 1) 1) h))
 
-    pub derivative-done : length out ≡ max (length f - 1) 1 → Done ≡ lowest (derivativeRefusals p f out)
+    pub derivative-done : length out ≡ max (length f - 1) 1 → Done ≡ lowest (derivativeRows p most f out)
     unfolding derivativeWords naiveDegree
     derivative-done h = sym (derivative-judged ∙ simp (e, eq-eqb (length out) (max (length f - 1) 1) h))
 
-  pub derivative-fits : 0 < p → Done ≡ lowest (derivativeRefusals p f out) → DerivativeFits f out
+  pub derivative-fits : 0 < p → Done ≡ lowest (derivativeRows p most f out) → DerivativeFits most f out
   unfolding derivativeWords naiveDegree
   derivative-fits big e =
-      let d = or-else-done (lowest (listRefusals p maxWords (f ∷ []))) _ (sym derivative-judged ∙ sym e) in
+      let d = or-else-done (lowest (listRefusals p most (f ∷ []))) _ (sym derivative-judged ∙ sym e) in
       let m = refuse-done (not (eqb (length out) (derivativeWords f))) _ _ (d .1) in
-      let l = one-listed p maxWords big f (d .0) in
+      let l = one-listed p most big f (d .0) in
       record {
         some = l .some;
         short = l .short;

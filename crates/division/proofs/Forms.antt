@@ -15,14 +15,14 @@ use Rattle.inverses.proofs.OrZero.{inverse-some}
 use Rattle.lists.specs.Degrees.{naiveDegree}
 use Rattle.lists.specs.Lists.{word, scaled, unscaled}
 use Rattle.lists.specs.Scaled.{length-naive, coefficient-last, coeff-scaled}
-use Rattle.lists.specs.Words.{seriesOf, scaledWords, length-scaledWords, Carries, carries-scaled, seriesOf-carries}
-use Rattle.kernels.specs.Kernels.{scaleFits, unscaleFits}
-use Rattle.kernels.proofs.Fits.{scale-is, unscale-is}
+use Rattle.lists.specs.Words.{scaledWords, length-scaledWords, Carries, carries-scaled, seriesOf-carries}
+use Rattle.tables.specs.Factorials.{Tables}
+use Rattle.kernels.specs.Kernels.{weighFits, weighted}
+use Rattle.kernels.proofs.Weights.{scale-is, unscale-is}
 use Rattle.reduction.specs.Reduction.{reduced, digits, reduceFits}
 use Rattle.reduction.proofs.Steps.{reduced-remainder, digits-quotient, length-reduced, length-digits}
 use Rattle.reduction.proofs.Loops.{reduce-fits}
 use Rattle.euclid.specs.Quotients.{steps, quotientOf, remainderOf}
-use Rattle.reduction.proofs.Loops.{reduce-fits}
 use Rattle.division.specs.Workers.{DivideFits}
 
 module _ (F : PrimeField) where
@@ -42,18 +42,18 @@ module _ (F : PrimeField) where
   last-inverse {f = f} fits =
       inverse-some F (getD f (length f - 1) 0) (pos-of-ne-zero (fits .divisible .end)) (fits .divisible .divisor .below (length f - 1))
 
-  module _ (most : ℕ) where
+  module _ {p : ℕ} (is : F .p ≡ p) (most : ℕ) (wide : most ≤ F .p) (whole part : List ℕ) (tables : Tables F most whole part) where
     -- the scaled forms of g and f in x and y, their quotient in k and their remainder in x, and back into q and r
-    module _ {p : ℕ} (is : F .p ≡ p) (g f x y k q r : List ℕ) (fits : DivideFits F most g f q r)
+    module _ (g f x y k q r : List ℕ) (fits : DivideFits F most g f q r)
         (lx : length x ≡ length g) (ly : length y ≡ length f) (lk : length k ≡ length q)
         {x′ y′ : List ℕ} {inv : ℕ} (top : inv ≡ inverseOf F (getD f (length f - 1) 0))
-        (qx : x′ ≡ cond (scaleFits most g x) (scaledWords F g) x)
-        (qy : y′ ≡ cond (scaleFits most f y) (scaledWords F f) y) where
+        (qx : x′ ≡ cond (weighFits g whole part x) (weighted p whole part (length x) g) x)
+        (qy : y′ ≡ cond (weighFits f whole part y) (weighted p whole part (length y) f) y) where
       ex : x′ ≡ scaledWords F g
-      ex = scale-is F most g x lx (fits .short) qx
+      ex = scale-is F is most wide whole part tables g x lx (fits .short) qx
 
       ey : y′ ≡ scaledWords F f
-      ey = let o = fits .divisible .order in let s = fits .short in scale-is F most f y ly (omega arith) qy
+      ey = let o = fits .divisible .order in let s = fits .short in scale-is F is most wide whole part tables f y ly (omega arith) qy
 
       nx : length x′ ≡ length g
       nx = ap length ex ∙ length-scaledWords F g
@@ -97,13 +97,13 @@ module _ (F : PrimeField) where
         nk : length k′ ≡ length k
         nk = ap length ek ∙ length-digits (F .p) inv y′ (length k) x′
 
-        pub quotient-is : {q′ : List ℕ} → q′ ≡ cond (unscaleFits most k′ q) (unscaled F (length q) (seriesOf F k′)) q → q′ ≡ quotientOf F g f
+        pub quotient-is : {q′ : List ℕ} → q′ ≡ cond (weighFits k′ part whole q) (weighted p part whole (length q) k′) q → q′ ≡ quotientOf F g f
         unfolding quotientOf
         quotient-is qq =
             let s = fits .divisible .some in
             let w = fits .quotient-words in
             let t = fits .short in
-            unscale-is F most k′ q (omega (arith, nk)) (omega arith) qq
+            unscale-is F is most wide whole part tables k′ q (omega (arith, nk)) (omega arith) qq
             ∙ ap₂ (unscaled F) (sym lk) (seriesOf-carries F ck)
             ∙ ap (λ n. unscaled F n (quotient (F .series) (scalarField F) n (naiveDegree f) (scaled F g) (scaled F f))) count
 
@@ -121,12 +121,12 @@ module _ (F : PrimeField) where
         unfolding naiveDegree
         words = let w = fits .remainder-words in omega arith
 
-        pub remainder-is : {r′ : List ℕ} → r′ ≡ cond (unscaleFits most x″ r) (unscaled F (length r) (seriesOf F x″)) r → r′ ≡ remainderOf F g f
+        pub remainder-is : {r′ : List ℕ} → r′ ≡ cond (weighFits x″ part whole r) (weighted p part whole (length r) x″) r → r′ ≡ remainderOf F g f
         unfolding remainderOf
         remainder-is qr =
             let o = fits .divisible .order in
             let w = fits .remainder-words in
             let t = fits .short in
-            unscale-is F most x″ r (omega (arith, nl, nx)) (omega arith) qr
+            unscale-is F is most wide whole part tables x″ r (omega (arith, nl, nx)) (omega arith) qr
             ∙ ap₂ (unscaled F) words (seriesOf-carries F cl)
             ∙ ap (λ n. unscaled F (naiveDegree f) (remainder (F .series) (scalarField F) n (naiveDegree f) (scaled F g) (scaled F f))) count

@@ -1,8 +1,8 @@
 -- What division refuses, and what it promises. g is the dividend, of naive degree e, f the divisor, of naive degree d.
---     divideRefusals     backwards (7) where the dividend is shorter, vanishes (8) where the divisor's last word is 0; q of e - d + 1
---                        words, r of d words
---     DividesSo          g = q·f + (1-t)^(e-d+1)·r as polynomials in t, and with any other words below p, in the same two lengths, that
---                        equation fails
+--     divideRows, divideRefusals     backwards (7) where the dividend is shorter, vanishes (8) where the divisor's last word is 0; q of
+--                                    e - d + 1 words, r of d words
+--     DividesSo                      g = q·f + (1-t)^(e-d+1)·r as polynomials in t, and with any other words below p, in the same two
+--                                    lengths, that equation fails
 -- Assumes nothing.
 use mathlib.Core.Path.{_≡_}
 use mathlib.Core.Bool.{not, _||_}
@@ -21,13 +21,16 @@ use Rattle.lists.specs.Lists.{Coefficients, meaning}
 use Rattle.lists.specs.Refused.{listRefusals}
 use Rattle.euclid.specs.Quotients.{steps}
 
-unfoldable pub divideRefusals : ℕ → (g f q r : List ℕ) → List Condition
-divideRefusals p g f q r =
-    listRefusals p maxWords (g ∷ f ∷ []) ++
+unfoldable pub divideRows : (p most : ℕ) → (g f q r : List ℕ) → List Condition
+divideRows p most g f q r =
+    listRefusals p most (g ∷ f ∷ []) ++
     (Backwards given-when ltb (length g) (length f) ∷
     Vanishes given-when eqb (getD f (naiveDegree f) 0) 0 ∷
     Misfit given-when (not (eqb (length q) (steps g f)) || not (eqb (length r) (naiveDegree f))) ∷
     [])
+
+unfoldable pub divideRefusals : ℕ → (g f q r : List ℕ) → List Condition
+divideRefusals p g f q r = divideRows p maxWords g f q r
 
 module _ (F : PrimeField) where
   open CommRing (F .series .ring) using (add as _+ˢ_, mul as _*ˢ_)

@@ -3,6 +3,14 @@ use libc::STDOUT_FILENO;
 use lists::NaiveDegree;
 use refusal::Outcome;
 
+// The words of a list that is too long.
+const LONGER: usize = refusal::MAX_WORDS + 1;
+
+// Two lists whose product is as long as a list may be.
+const HALF: usize = refusal::MAX_WORDS / 2;
+
+const HALF_AND_ONE: usize = HALF + 1;
+
 fn show(name: &[u8], outcome: Outcome) {
     io::write_all(STDOUT_FILENO, name);
     io::write_all(STDOUT_FILENO, b": ");
@@ -15,22 +23,25 @@ fn words() {
     let zero = [0u16; 1];
     let mut out = [0u16; 1];
     show(b"word 65520", sums::sum(&[65520u16], &zero, &mut out));
-    show(b"word 65521", sums::sum(&[65521u16], &zero, &mut out));
+    show(
+        b"word 65521",
+        sums::sum(&[field::modulus_of(0)], &zero, &mut out),
+    );
 }
 
 fn lengths() {
-    let longest = [1u16; 256];
-    let longer = [1u16; 257];
-    let mut out = [0u16; 256];
+    let longest = [1u16; refusal::MAX_WORDS];
+    let longer = [1u16; LONGER];
+    let mut out = [0u16; refusal::MAX_WORDS];
     show(b"256 words", sums::sum(&longest, &longest, &mut out));
     show(b"257 words", sums::sum(&longest, &longer, &mut out));
 }
 
 fn degrees() {
-    let f = [1u16; 129];
-    let g = [1u16; 128];
-    let mut out = [0u16; 256];
-    let mut longer = [0u16; 257];
+    let f = [1u16; HALF_AND_ONE];
+    let g = [1u16; HALF];
+    let mut out = [0u16; refusal::MAX_WORDS];
+    let mut longer = [0u16; LONGER];
     show(b"degrees 128 and 127", products::product(&f, &g, &mut out));
     show(
         b"degrees 128 and 128",

@@ -6,7 +6,6 @@ use mathlib.Core.List.{List, [], _∷_}
 use Prim.Native.Nat.{ℕ, _≤_, _<_}
 use lib.ListN.{length}
 use borrow.Author.Tests.{le-leb, lt-leb}
-use Rattle.refusal.specs.Limits.{maxWords}
 use Rattle.refusal.specs.Lowest.{lowest}
 use Rattle.refusal.specs.declared.Refusal.{Refusal}
 use Rattle.refusal.specs.declared.Refusal.the-variants.{Length, LooseWord}
@@ -15,7 +14,7 @@ use Rattle.refusal.proofs.First.{refuse, or-else, first-is, or-else-done}
 use Rattle.field.specs.Field.{loose}
 use Rattle.lists.specs.Refused.{wrongLength, hasLoose, listRefusals}
 use Rattle.lists.proofs.Judged.{judged, one-listed}
-use Rattle.evaluation.specs.Calls.{evaluateRefusals}
+use Rattle.evaluation.specs.Calls.{evaluateRows}
 
 -- a loose point comes after the list's own refusals
 point-last : (a b c : Bool)
@@ -25,23 +24,23 @@ point-last true b c = refl
 point-last false true c = refl
 point-last false false c = refl
 
-module _ (p : ℕ) (f : List ℕ) (x : ℕ) where
-  evaluate-judged : lowest (evaluateRefusals p f x) ≡ or-else (lowest (listRefusals p maxWords (f ∷ []))) (refuse (loose p x) LooseWord Done)
-  unfolding evaluateRefusals
+module _ (p most : ℕ) (f : List ℕ) (x : ℕ) where
+  evaluate-judged : lowest (evaluateRows p most f x) ≡ or-else (lowest (listRefusals p most (f ∷ []))) (refuse (loose p x) LooseWord Done)
+  unfolding evaluateRows
   evaluate-judged =
-      first-is (evaluateRefusals p f x) tt
-      ∙ point-last (wrongLength maxWords f) (hasLoose p f) (loose p x)
-      ∙ ap (λ o. or-else o (refuse (loose p x) LooseWord Done)) (sym (judged p maxWords (f ∷ [])))
+      first-is (evaluateRows p most f x) tt
+      ∙ point-last (wrongLength most f) (hasLoose p f) (loose p x)
+      ∙ ap (λ o. or-else o (refuse (loose p x) LooseWord Done)) (sym (judged p most (f ∷ [])))
 
-  pub evaluate-refused : {why : Refusal} → lowest (listRefusals p maxWords (f ∷ [])) ≡ Refused why → Refused why ≡ lowest (evaluateRefusals p f x)
+  pub evaluate-refused : {why : Refusal} → lowest (listRefusals p most (f ∷ [])) ≡ Refused why → Refused why ≡ lowest (evaluateRows p most f x)
   evaluate-refused e = sym (evaluate-judged ∙ simp e)
 
-  pub evaluate-loose : lowest (listRefusals p maxWords (f ∷ [])) ≡ Done → p ≤ x → Refused LooseWord ≡ lowest (evaluateRefusals p f x)
+  pub evaluate-loose : lowest (listRefusals p most (f ∷ [])) ≡ Done → p ≤ x → Refused LooseWord ≡ lowest (evaluateRows p most f x)
   evaluate-loose e l = sym (evaluate-judged ∙ simp (e, le-leb p x l))
 
-  pub evaluate-done : lowest (listRefusals p maxWords (f ∷ [])) ≡ Done → x < p → Done ≡ lowest (evaluateRefusals p f x)
+  pub evaluate-done : lowest (listRefusals p most (f ∷ [])) ≡ Done → x < p → Done ≡ lowest (evaluateRows p most f x)
   evaluate-done e l = sym (evaluate-judged ∙ simp (e, lt-leb p x l))
 
-  pub evaluate-short : 0 < p → Done ≡ lowest (evaluateRefusals p f x) → length f ≤ maxWords
+  pub evaluate-short : 0 < p → Done ≡ lowest (evaluateRows p most f x) → length f ≤ most
   evaluate-short big e =
-      one-listed p maxWords big f (or-else-done (lowest (listRefusals p maxWords (f ∷ []))) _ (sym evaluate-judged ∙ sym e) .0) .short
+      one-listed p most big f (or-else-done (lowest (listRefusals p most (f ∷ []))) _ (sym evaluate-judged ∙ sym e) .0) .short

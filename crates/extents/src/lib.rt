@@ -2,12 +2,12 @@
 ghost use mathlib.Core.Path.{_≡_};
 ghost use mathlib.Core.List.{[]};
 ghost use lib.ListN.{length};
-ghost use Rattle.algebra.specs.PrimeField.{F65521};
+ghost use Rattle.field.specs.Fields.{F65521, p, modulus, fieldAt, longest};
 ghost use Rattle.refusal.specs.Refusal.{reply, outcomeReply, written};
 ghost use Rattle.refusal.specs.Lowest.{lowest};
-ghost use Rattle.field.specs.Field.{p};
 ghost use Rattle.lists.specs.Operations as of;
-ghost use Rattle.extents.specs.Calls.{extentReply, extentValues, extentRefusals, trimRefusals};
+ghost use Rattle.tables.specs.Factorials.{Tables};
+ghost use Rattle.extents.specs.Calls.{extentReply, extentValues, extentRows, extentRefusals, trimRows, trimRefusals};
 ghost use Rattle.extents.specs.Workers.{TrimFits};
 use lists::Extent;
 use refusal::Outcome;
@@ -24,7 +24,14 @@ pub enum Found {
 pub fn find_extent(f: &[u16]) -> Found
     ensures { λ r. ⌜ extentReply r ≡ reply (lowest (extentRefusals p (now (f .entry)))) (extentValues (now (f .entry))) ⌝ }
 {
-    if let Outcome::Refused(why) = lists::judge_list(f) {
+    extent_over(0, f)
+}
+
+// The same over a field.
+pub fn extent_over(field: u8, f: &[u16]) -> Found
+    ensures { λ r. ⌜ extentReply r ≡ reply (lowest (extentRows (modulus field) (longest field) (now (f .entry)))) (extentValues (now (f .entry))) ⌝ }
+{
+    if let Outcome::Refused(why) = lists::judge_list(field, f) {
         return Found::Refused(why);
     }
     let n = lists::significant_words(f);
@@ -40,18 +47,26 @@ pub fn trim(f: &[u16], out: &mut [u16]) -> Outcome
     ensures answer { λ r. ⌜ outcomeReply r ≡ reply (lowest (trimRefusals p (now (f .entry)) (now (out .entry)))) [] ⌝ }
     ensures writes { λ _. ⌜ now (out .exit) ≡ written (lowest (trimRefusals p (now (f .entry)) (now (out .entry)))) (of.trim F65521 (now (f .entry))) (now (out .entry)) ⌝ }
 {
-    let answer = judge_trim(f, out);
+    trim_over(0, f, out)
+}
+
+// The same over a field.
+pub fn trim_over(field: u8, f: &[u16], out: &mut [u16]) -> Outcome
+    ensures answer { λ r. ⌜ outcomeReply r ≡ reply (lowest (trimRows (modulus field) (longest field) (now (f .entry)) (now (out .entry)))) [] ⌝ }
+    ensures writes { λ _. ⌜ now (out .exit) ≡ written (lowest (trimRows (modulus field) (longest field) (now (f .entry)) (now (out .entry)))) (of.trim (fieldAt field) (now (f .entry))) (now (out .entry)) ⌝ }
+{
+    let answer = judge_trim(field, f, out);
     if let Outcome::Done = answer {
-        trim_into(f, out);
+        trim_into(field, f, out);
     }
     answer
 }
 
 // What a trim refuses.
-fn judge_trim(f: &[u16], out: &[u16]) -> Outcome
-    ensures { λ r. ⌜ r ≡ lowest (trimRefusals p (now (f .entry)) (now (out .entry))) ⌝ }
+fn judge_trim(field: u8, f: &[u16], out: &[u16]) -> Outcome
+    ensures { λ r. ⌜ r ≡ lowest (trimRows (modulus field) (longest field) (now (f .entry)) (now (out .entry))) ⌝ }
 {
-    if let Outcome::Refused(why) = lists::judge_list(f) {
+    if let Outcome::Refused(why) = lists::judge_list(field, f) {
         return Outcome::Refused(why);
     }
     let n = lists::significant_words(f);
@@ -65,21 +80,34 @@ fn judge_trim(f: &[u16], out: &[u16]) -> Outcome
 }
 
 // The scaled form of f in s, and the list of as many of its words as out has.
-fn trim_in(f: &[u16], s: &mut [u16], out: &mut [u16])
-    requires { ⌜ TrimFits (now f) (now out) ⌝ }
+fn trim_in(field: u8, whole: &[u16], part: &[u16], f: &[u16], s: &mut [u16], out: &mut [u16])
+    requires { ⌜ Tables (fieldAt field) (longest field) (now whole) (now part) ⌝ }
+    requires { ⌜ TrimFits (longest field) (now f) (now out) ⌝ }
     requires { ⌜ length (now s) ≡ length (now f) ⌝ }
-    ensures { λ _. ⌜ now (out .exit) ≡ of.trim F65521 (now (f .entry)) ⌝ }
+    ensures { λ _. ⌜ now (out .exit) ≡ of.trim (fieldAt field) (now (f .entry)) ⌝ }
 {
-    kernels::scale(f, s);
+    kernels::weigh(field, f, whole, part, s);
     let form = &*s;
-    kernels::unscale(form, out);
+    kernels::weigh(field, form, part, whole, out);
 }
 
-fn trim_into(f: &[u16], out: &mut [u16])
-    requires { ⌜ TrimFits (now f) (now out) ⌝ }
-    ensures { λ _. ⌜ now (out .exit) ≡ of.trim F65521 (now (f .entry)) ⌝ }
+// The trim where nothing is refused, with tables that are lent.
+fn trim_with(field: u8, whole: &[u16], part: &[u16], f: &[u16], out: &mut [u16])
+    requires { ⌜ Tables (fieldAt field) (longest field) (now whole) (now part) ⌝ }
+    requires { ⌜ TrimFits (longest field) (now f) (now out) ⌝ }
+    ensures { λ _. ⌜ now (out .exit) ≡ of.trim (fieldAt field) (now (f .entry)) ⌝ }
 {
     let n = f.len();
-    let mut s = [0u16; 256];
-    trim_in(f, &mut s[..n], out);
+    let mut s = [0u16; refusal::MAX_WORDS];
+    trim_in(field, whole, part, f, &mut s[..n], out);
+}
+
+// The same with our own tables.
+fn trim_into(field: u8, f: &[u16], out: &mut [u16])
+    requires { ⌜ TrimFits (longest field) (now f) (now out) ⌝ }
+    ensures { λ _. ⌜ now (out .exit) ≡ of.trim (fieldAt field) (now (f .entry)) ⌝ }
+{
+    let whole = tables::factorials(field);
+    let part = tables::inverse_factorials(field);
+    trim_with(field, &whole, &part, f, out);
 }

@@ -1,5 +1,4 @@
 -- The arithmetic of coefficients: words below p, with sum, difference, product and inverse modulo p.
---     p                   document 01's p
 --     loose               a loose word: p or more, so no coefficient
 --     wordReply           what a Word answers: 0 and the word, or the refusal's number
 --     sumOf, differenceOf, productOf      the sum, difference and product of two coefficients modulo p
@@ -20,9 +19,6 @@ use Rattle.refusal.specs.Lowest.{Condition, _given-when_}
 use Rattle.refusal.specs.declared.Refusal.the-variants.{LooseWord, AllZero, NoInverse}
 use Rattle.field.specs.declared.Word.{Word}
 use Rattle.field.specs.declared.Word.the-variants.{Done, Refused}
-
-abbrev pub p : ℕ
-p = 65521
 
 abbrev pub loose : ℕ → ℕ → Bool
 loose p a = leb p a

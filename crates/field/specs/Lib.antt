@@ -1,2 +1,4 @@
 pub mod Field
 pub mod Theorems
+pub mod Fields
+pub mod FieldsLaws

@@ -7,15 +7,16 @@ use Prim.Native.Nat.{ℕ, _≤_, _<_}
 use native.Mathlib.Decide.{decLt}
 use native.Mathlib.Omega.{arith}
 use lib.ListN.{getD, length, take, drop, replicate, length-append, length-take, length-drop, length-replicate, getD-replicate, List·getD-eq-default}
-use lib.Seq.{getD-drop}
-use borrow.Author.Tests.{eq-eqb, le-leb}
+use lib.Seq.{getD-drop, getD-take}
 use Rattle.algebra.specs.Ring.{CommRing}
 use Rattle.algebra.specs.Series.{ext}
 use Rattle.algebra.specs.Degree.{size}
 use Rattle.algebra.specs.PrimeField.{PrimeField, residue}
 use Rattle.lists.specs.Lists.{scaled}
 use Rattle.lists.specs.Words.{seriesOf, coeff-seriesOf, scaledWords, length-scaledWords, seriesOf-scaledWords, carries-scaled}
-use Rattle.kernels.specs.Kernels.{scaleFits}
+use Rattle.tables.specs.Factorials.{Tables}
+use Rattle.kernels.specs.Kernels.{weighFits, weighted}
+use Rattle.kernels.proofs.Weights.{scale-is}
 use Rattle.gcd.specs.Workers.{Holds}
 use Rattle.lists.proofs.Parts.{getD-then-zeros}
 
@@ -27,6 +28,17 @@ getD-zeros n k = go (decLt k n)
     go (yes l) = getD-replicate n k 0 0 l
     go (no l) = let e = length-replicate {A = ℕ} n 0 in List·getD-eq-default (replicate n 0) 0 (omega arith)
 
+-- the first n words of a list
+pub length-part : (x : List ℕ) {m : ℕ} (n : ℕ) → length x ≡ m → n ≤ m → length (take n x) ≡ n
+length-part x n e l = simp length-take (omega arith)
+
+pub getD-part : (x : List ℕ) (n : ℕ) → ((k : ℕ) → getD x k 0 ≡ 0) → (k : ℕ) → getD (take n x) k 0 ≡ 0
+getD-part x n h k = go (decLt k n)
+  where
+    go : Dec (k < n) → getD (take n x) k 0 ≡ 0
+    go (yes l) = getD-take n x k 0 l ∙ h k
+    go (no l) = List·getD-eq-default (take n x) 0 {n = k} (simp length-take (omega arith))
+
 module _ (F : PrimeField) where
   open CommRing (F .series .ring) using (Carrier as S)
 
@@ -36,10 +48,10 @@ module _ (F : PrimeField) where
       ext (F .series) _ _ (λ k. coeff-seriesOf F x k ∙ ap (residue F) (h k) ∙ sym (coeff-seriesOf F y k))
 
   -- the words of a scaled form, written to the front of a buffer of zeros
-  pub holds-scaled : (n : ℕ) (c z : List ℕ) {out : List ℕ} → length c ≤ n → length z ≡ n → ((k : ℕ) → getD z k 0 ≡ 0)
-      → out ≡ cond (scaleFits n c (take (length c) z)) (scaledWords F c) (take (length c) z)
+  pub holds-scaled : {p : ℕ} → F .p ≡ p → (n : ℕ) → n ≤ F .p → (whole part : List ℕ) → Tables F n whole part → (c z : List ℕ) {out : List ℕ} → length c ≤ n → length z ≡ n → ((k : ℕ) → getD z k 0 ≡ 0)
+      → out ≡ cond (weighFits c whole part (take (length c) z)) (weighted p whole part (length (take (length c) z)) c) (take (length c) z)
       → Holds F n (out ++ drop (length c) z) (scaled F c)
-  holds-scaled n c z {out} l e h q =
+  holds-scaled at n short whole part t c z {out} l e h q =
       record {
         buffer = record {
           size = simp (length-append, length-drop, is, length-scaledWords F c) (omega arith);
@@ -52,7 +64,7 @@ module _ (F : PrimeField) where
       front = simp length-take (omega arith)
 
       is : out ≡ scaledWords F c
-      is = unfold scaleFits in q ∙ rw (eq-eqb (length (take (length c) z)) (length c) front, le-leb (length c) n l)
+      is = scale-is F at n short whole part t c (take (length c) z) front l q
 
       same : (k : ℕ) → getD (out ++ drop (length c) z) k 0 ≡ getD (scaledWords F c) k 0
       same k = getD-then-zeros out (drop (length c) z) (λ i. rw getD-drop (h _)) k ∙ ap (λ a. getD a k 0) is

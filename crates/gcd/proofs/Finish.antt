@@ -1,9 +1,9 @@
 -- How the rounds end, what is written from the last x, and what a GCD answers.
 -- Assumes nothing.
 use mathlib.Core.Path.{_≡_, sym, _∙_, ap, ap₂}
-use mathlib.Core.Bool.{true, cond}
+use mathlib.Core.Bool.{cond}
 use mathlib.Core.List.{List, [], _∷_}
-use Prim.Native.Nat.{ℕ, suc, _-_, _<_}
+use Prim.Native.Nat.{ℕ, suc, _-_, _≤_, _<_}
 use native.Mathlib.Omega.{arith}
 use lib.ListN.{getD, length, take, List·getD-eq-default}
 use lib.Seq.{take-at}
@@ -13,7 +13,6 @@ use Rattle.algebra.specs.Degree.{size}
 use Rattle.algebra.specs.Euclid.{euclid}
 use Rattle.algebra.specs.Monic.{topInverse, monic-is}
 use Rattle.algebra.specs.PrimeField.{PrimeField, scalarField, residue, inverse}
-use Rattle.refusal.specs.Limits.{maxWords}
 use Rattle.refusal.specs.Refusal.{reply, written}
 use Rattle.refusal.specs.declared.Refusal.{Refusal}
 use Rattle.refusal.specs.declared.Outcome.{Outcome}
@@ -22,6 +21,7 @@ use Rattle.refusal.proofs.Answers.{result, kept}
 use Rattle.field.specs.Field.{inverseOf, inverseOrZero}
 use Rattle.field.specs.Theorems.{residue-inverse}
 use Rattle.inverses.proofs.OrZero.{inverse-some}
+use Rattle.tables.specs.Factorials.{Tables}
 use Rattle.lists.specs.declared.NaiveDegree.{NaiveDegree}
 use Rattle.lists.specs.Degrees.{naiveDegree, significant, extent}
 use Rattle.lists.specs.Extents.{significant-le, extent-largest}
@@ -31,8 +31,9 @@ use Rattle.euclid.specs.Gcds.{gcdOf, countOf, commonPower, padded}
 use Rattle.euclid.specs.Gcd.{length-gcd, size-last, gcd-ends, gcd-rounds}
 use Rattle.euclid.specs.Greatest.{gcd-is-greatest}
 use Rattle.euclid.specs.Loops.{count-room, size-room, gcd-room, getD-padded}
-use Rattle.rounds.specs.Round.{writeFits, writtenList}
-use Rattle.rounds.proofs.Turns.{significant-series, write-fits}
+use Rattle.rounds.specs.Round.{multiplied, writeFits, writtenWords, writtenList}
+use Rattle.rounds.proofs.Turns.{significant-series}
+use Rattle.rounds.proofs.Written.{write-is}
 use Rattle.gcd.specs.declared.Gcd.{Gcd}
 use Rattle.gcd.specs.declared.Gcd.the-variants as G
 use Rattle.gcd.specs.Calls.{gcdReply, gcdValues, GreatestSo, Greatest}
@@ -129,34 +130,32 @@ module _ (F : PrimeField) where
           (ap (λ a. C (F .series) a *ˢ seriesOf F last) last-inverse ∙ sym (monic-is (F .series) (scalarField F) n (seriesOf F last))))
 
       -- k and m as the code finds them
-      pub gcd-written : (h : List ℕ) (k m : ℕ) {h′ : List ℕ} → length h ≡ n → k ≡ significant last
-          → m ≡ inverseOrZero F (getD last (k - 1) 0) → h′ ≡ cond (writeFits n k last h) (writtenList F k m last h) h
+      pub gcd-written : {p : ℕ} → F .p ≡ p → n ≤ F .p → (whole part : List ℕ) → Tables F n whole part → (h : List ℕ) (k m : ℕ) {last′ h′ : List ℕ}
+          → length h ≡ n → k ≡ significant last → m ≡ inverseOrZero F (getD last (k - 1) 0)
+          → (last′ ≡ cond (writeFits k whole part last h) (multiplied p m last) last)
+          × (h′ ≡ cond (writeFits k whole part last h) (writtenWords p whole part k m last h) h)
           → h′ ≡ padded n (monicList F n (seriesOf F last))
-      gcd-written h k m {h′} e ek em q =
-          q ∙ ap (λ b. cond b (writtenList F k m last h) h) fits
+      gcd-written at short whole part t h k m {last′} {h′} e ek em q =
+          let l = significant-le last in
+          let s = b .size in
+          write-is F at n short whole part t k m last h (omega arith) (omega arith) (omega arith) q .1
           ∙ ap₂ (λ i j. writtenList F i j last h) ek (em ∙ ap (λ i. inverseOrZero F (getD last (i - 1) 0)) ek)
           ∙ monic-written h ∙ ap (λ i. padded i (monicList F n (seriesOf F last))) e
-        where
-          fits : writeFits n k last h ≡ true
-          fits =
-              let l = significant-le last in
-              let s = b .size in
-              write-fits n k last h (omega arith) (omega arith) (omega arith)
 
 -- what a call answers, and what it leaves in the slice of h
-pub refused : (F : PrimeField) (f g h : List ℕ) {found : Outcome} {why : Refusal} → found ≡ Refused why
-    → (gcdReply (G.Refused why) ≡ reply found (gcdValues F f g)) × (h ≡ written found (padded maxWords (gcdOf F f g)) h)
-refused F f g h e = (
+pub refused : (F : PrimeField) (n : ℕ) (f g h : List ℕ) {found : Outcome} {why : Refusal} → found ≡ Refused why
+    → (gcdReply (G.Refused why) ≡ reply found (gcdValues F f g)) × (h ≡ written found (padded n (gcdOf F f g)) h)
+refused F n f g h e = (
   sym (ap (λ o. reply o (gcdValues F f g)) e),
-  kept (padded maxWords (gcdOf F f g)) h e,
+  kept (padded n (gcdOf F f g)) h e,
 )
 
-pub answered : (F : PrimeField) (f g h : List ℕ) {found : Outcome} {r : Gcd} {h′ : List ℕ} → found ≡ Done → Ready F maxWords f g
-    → r ≡ gcdDone F f g → h′ ≡ padded maxWords (gcdOf F f g)
-    → (gcdReply r ≡ reply found (gcdValues F f g)) × (h′ ≡ written found (padded maxWords (gcdOf F f g)) h) × Greatest F f g h′ r
+pub answered : (F : PrimeField) (n : ℕ) (f g h : List ℕ) {found : Outcome} {r : Gcd} {h′ : List ℕ} → found ≡ Done → Ready F n f g
+    → r ≡ gcdDone F f g → h′ ≡ padded n (gcdOf F f g)
+    → (gcdReply r ≡ reply found (gcdValues F f g)) × (h′ ≡ written found (padded n (gcdOf F f g)) h) × Greatest F f g h′ r
 unfolding gcdDone gcdValues
-answered F f g h e ready er eh = (
+answered F n f g h e ready er eh = (
   ap gcdReply er ∙ sym (ap (λ o. reply o (gcdValues F f g)) e),
-  result (padded maxWords (gcdOf F f g)) h e eh,
-  rw (er, eh) (ready-greatest F maxWords f g ready),
+  result (padded n (gcdOf F f g)) h e eh,
+  rw (er, eh) (ready-greatest F n f g ready),
 )

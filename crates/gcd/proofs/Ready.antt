@@ -11,7 +11,6 @@ use lib.Dec.{eqb}
 use lib.ListN.{length}
 use borrow.Author.Tests.{eqb-true, eqb-false, not-false}
 use Rattle.algebra.specs.PrimeField.{PrimeField, positive}
-use Rattle.refusal.specs.Limits.{maxWords}
 use Rattle.refusal.specs.Lowest.{Condition, _given-when_, lowest}
 use Rattle.refusal.specs.declared.Refusal.{Refusal}
 use Rattle.refusal.specs.declared.Refusal.the-variants.{AllZero, Misfit}
@@ -21,44 +20,44 @@ use Rattle.lists.specs.Degrees.{significant}
 use Rattle.lists.specs.Scaled.{coefficients-listed}
 use Rattle.lists.specs.Refused.{listRefusals}
 use Rattle.lists.proofs.Judged.{two-listed}
-use Rattle.gcd.specs.Calls.{gcdRefusals}
+use Rattle.gcd.specs.Calls.{gcdRows}
 use Rattle.gcd.specs.Workers.{Ready}
 
 -- a test of the result slices comes last
-abbrev pub judgedRows : ℕ → (f g : List ℕ) → Bool → List Condition
-judgedRows p f g misfit =
-    listRefusals p maxWords (f ∷ g ∷ []) ++
+abbrev pub judgedRows : (p most : ℕ) → (f g : List ℕ) → Bool → List Condition
+judgedRows p most f g misfit =
+    listRefusals p most (f ∷ g ∷ []) ++
     (AllZero given-when eqb (significant f + significant g) 0 ∷
     Misfit given-when misfit ∷
     [])
 
-module _ (p : ℕ) (f g : List ℕ) (misfit : Bool) where
-  rows-judged : lowest (judgedRows p f g misfit)
-      ≡ or-else (lowest (listRefusals p maxWords (f ∷ g ∷ []))) (refuse (eqb (significant f + significant g) 0) AllZero (refuse misfit Misfit Done))
+module _ (p most : ℕ) (f g : List ℕ) (misfit : Bool) where
+  rows-judged : lowest (judgedRows p most f g misfit)
+      ≡ or-else (lowest (listRefusals p most (f ∷ g ∷ []))) (refuse (eqb (significant f + significant g) 0) AllZero (refuse misfit Misfit Done))
   unfolding listRefusals
-  rows-judged = first-then (listRefusals p maxWords (f ∷ g ∷ [])) _ tt
+  rows-judged = first-then (listRefusals p most (f ∷ g ∷ [])) _ tt
 
-  pub judged-lists : {why : Refusal} → lowest (listRefusals p maxWords (f ∷ g ∷ [])) ≡ Refused why → Refused why ≡ lowest (judgedRows p f g misfit)
+  pub judged-lists : {why : Refusal} → lowest (listRefusals p most (f ∷ g ∷ [])) ≡ Refused why → Refused why ≡ lowest (judgedRows p most f g misfit)
   judged-lists e = sym (rows-judged ∙ simp e)
 
-  module _ (e : lowest (listRefusals p maxWords (f ∷ g ∷ [])) ≡ Done) where
-    pub judged-zero : eqb (significant f + significant g) 0 ≡ true → Refused AllZero ≡ lowest (judgedRows p f g misfit)
+  module _ (e : lowest (listRefusals p most (f ∷ g ∷ [])) ≡ Done) where
+    pub judged-zero : eqb (significant f + significant g) 0 ≡ true → Refused AllZero ≡ lowest (judgedRows p most f g misfit)
     judged-zero z = sym (rows-judged ∙ simp (e, z))
 
-    pub judged-misfit : eqb (significant f + significant g) 0 ≡ false → misfit ≡ true → Refused Misfit ≡ lowest (judgedRows p f g misfit)
+    pub judged-misfit : eqb (significant f + significant g) 0 ≡ false → misfit ≡ true → Refused Misfit ≡ lowest (judgedRows p most f g misfit)
     judged-misfit z m = sym (rows-judged ∙ simp (e, z, m))
 
-    pub judged-done : eqb (significant f + significant g) 0 ≡ false → misfit ≡ false → Done ≡ lowest (judgedRows p f g misfit)
+    pub judged-done : eqb (significant f + significant g) 0 ≡ false → misfit ≡ false → Done ≡ lowest (judgedRows p most f g misfit)
     judged-done z m = sym (rows-judged ∙ simp (e, z, m))
 
-module _ (F : PrimeField) (big : maxWords ≤ F .p) where
+module _ (F : PrimeField) (most : ℕ) (big : most ≤ F .p) where
   -- what a call knows that refuses nothing
-  pub ready : (f g : List ℕ) (misfit : Bool) → lowest (judgedRows (F .p) f g misfit) ≡ Done → Ready F maxWords f g × (misfit ≡ false)
+  pub ready : (f g : List ℕ) (misfit : Bool) → lowest (judgedRows (F .p) most f g misfit) ≡ Done → Ready F most f g × (misfit ≡ false)
   ready f g misfit e =
-      let d = or-else-done (lowest (listRefusals (F .p) maxWords (f ∷ g ∷ []))) _ (sym (rows-judged (F .p) f g misfit) ∙ e) in
+      let d = or-else-done (lowest (listRefusals (F .p) most (f ∷ g ∷ []))) _ (sym (rows-judged (F .p) most f g misfit) ∙ e) in
       let z = refuse-done (eqb (significant f + significant g) 0) _ _ (d .1) in
       let m = refuse-done misfit _ _ (z .1) in
-      let l = two-listed (F .p) maxWords (positive F) f g (d .0) in
+      let l = two-listed (F .p) most (positive F) f g (d .0) in
       let n = eqb-false (significant f + significant g) 0 (z .0) in (
         record {
           short-f = l .0 .short;
@@ -70,8 +69,8 @@ module _ (F : PrimeField) (big : maxWords ≤ F .p) where
         m .0,
       )
 
-  pub gcd-ready : (f g h : List ℕ) → lowest (gcdRefusals (F .p) f g h) ≡ Done → Ready F maxWords f g × (length h ≡ maxWords)
-  unfolding gcdRefusals
+  pub gcd-ready : (f g h : List ℕ) → lowest (gcdRows (F .p) most f g h) ≡ Done → Ready F most f g × (length h ≡ most)
+  unfolding gcdRows
   gcd-ready f g h e =
-      let r = ready f g (not (eqb (length h) maxWords)) e in
-      (r .0, eqb-true (length h) maxWords (not-false _ (r .1)))
+      let r = ready f g (not (eqb (length h) most)) e in
+      (r .0, eqb-true (length h) most (not-false _ (r .1)))

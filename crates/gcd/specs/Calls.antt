@@ -1,7 +1,7 @@
 -- What the GCD of two lists answers, refuses and promises.
 --     gcdReply         what an answer says: w, c and rounds
 --     gcdValues        w, the naive degree of h; c; rounds
---     gcdRefusals      all zero (9) where both lists are zero; h a slice of exactly 256 words
+--     gcdRows, gcdRefusals      all zero (9) where both lists are zero; h a slice of exactly as many words as the longest list
 --     GreatestSo       (1-t)^c·h divides both meanings, and every polynomial over the field, of any degree, that divides both divides it,
 --                      h being the first w + 1 words of the slice; the slice holds 1 at w and 0 after it; rounds is at most the extent of
 --                      f plus 1, and 0 where f is zero
@@ -33,12 +33,15 @@ gcdReply (Refused why) = record { number = number why; values = [] }
 unfoldable pub gcdValues : PrimeField → (f g : List ℕ) → List ℕ
 gcdValues F f g = naiveDegree (gcdOf F f g) ∷ commonPower (f ∷ g ∷ []) ∷ countOf F f g ∷ []
 
-unfoldable pub gcdRefusals : ℕ → (f g h : List ℕ) → List Condition
-gcdRefusals p f g h =
-    listRefusals p maxWords (f ∷ g ∷ []) ++
+unfoldable pub gcdRows : (p most : ℕ) → (f g h : List ℕ) → List Condition
+gcdRows p most f g h =
+    listRefusals p most (f ∷ g ∷ []) ++
     (AllZero given-when eqb (significant f + significant g) 0 ∷
-    Misfit given-when not (eqb (length h) maxWords) ∷
+    Misfit given-when not (eqb (length h) most) ∷
     [])
+
+unfoldable pub gcdRefusals : ℕ → (f g h : List ℕ) → List Condition
+gcdRefusals p f g h = gcdRows p maxWords f g h
 
 pub record GreatestSo (F : PrimeField) (f g slice : List ℕ) (w c rounds : ℕ) : Type 0 where
   pub ends : getD slice w 0 ≡ 1

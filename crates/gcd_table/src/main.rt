@@ -2,6 +2,7 @@
 // expected output was made by tests/model/table.py, a model written from document 01.
 ghost use Prim.Native.Nat.{_≤_};
 ghost use lib.ListN.{length};
+ghost use Rattle.refusal.specs.Limits.{maxDegree, maxWords};
 use gcd::Gcd;
 use libc::STDOUT_FILENO;
 use lists::NaiveDegree;
@@ -31,8 +32,8 @@ fn print_first(name: &[u8], list: &[u16], n: usize) {
 
 // The number of words of a cofactor, m - d + 1 with m = max(d,1) + max(e,1) - 1.
 fn cofactor_words(own: NaiveDegree, other: NaiveDegree) -> usize
-    requires { ⌜ (own .0 ≤ 255) × (other .0 ≤ 255) ⌝ }
-    ensures { λ r. ⌜ r ≤ 256 ⌝ }
+    requires { ⌜ (own .0 ≤ maxDegree) × (other .0 ≤ maxDegree) ⌝ }
+    ensures { λ r. ⌜ r ≤ maxWords ⌝ }
 {
     let d = own.0;
     let e = other.0;
@@ -50,8 +51,8 @@ fn cofactor_words(own: NaiveDegree, other: NaiveDegree) -> usize
 
 // The answer, h and the cofactors, by way of three buffers.
 fn show_in(f: &[u16], g: &[u16], h: &mut [u16], a: &mut [u16], b: &mut [u16])
-    requires { ⌜ (1 ≤ length (now f)) × (length (now f) ≤ 256) × (1 ≤ length (now g)) × (length (now g) ≤ 256) ⌝ }
-    requires { ⌜ (256 ≤ length (now a)) × (256 ≤ length (now b)) ⌝ }
+    requires { ⌜ (1 ≤ length (now f)) × (length (now f) ≤ maxWords) × (1 ≤ length (now g)) × (length (now g) ≤ maxWords) ⌝ }
+    requires { ⌜ (maxWords ≤ length (now a)) × (maxWords ≤ length (now b)) ⌝ }
 {
     let d = f.len() - 1;
     let e = g.len() - 1;
@@ -68,11 +69,11 @@ fn show_in(f: &[u16], g: &[u16], h: &mut [u16], a: &mut [u16], b: &mut [u16])
 }
 
 fn show(f: &[u16], g: &[u16])
-    requires { ⌜ (1 ≤ length (now f)) × (length (now f) ≤ 256) × (1 ≤ length (now g)) × (length (now g) ≤ 256) ⌝ }
+    requires { ⌜ (1 ≤ length (now f)) × (length (now f) ≤ maxWords) × (1 ≤ length (now g)) × (length (now g) ≤ maxWords) ⌝ }
 {
-    let mut h = [0u16; 256];
-    let mut a = [0u16; 256];
-    let mut b = [0u16; 256];
+    let mut h = [0u16; refusal::MAX_WORDS];
+    let mut a = [0u16; refusal::MAX_WORDS];
+    let mut b = [0u16; refusal::MAX_WORDS];
     show_in(f, g, &mut h, &mut a, &mut b);
 }
 
@@ -103,7 +104,7 @@ fn noise(out: &mut [u16], seed: u16) {
     let mut k = 0;
     while k < out.len() {
         out[k] = word;
-        word = field::add_mul(13849, 25173, word);
+        word = field::add_mul(0, 13849, 25173, word);
         k += 1;
     }
 }
@@ -166,8 +167,8 @@ fn shared() {
 }
 
 fn longest() {
-    let mut f = [0u16; 256];
-    let mut g = [0u16; 256];
+    let mut f = [0u16; refusal::MAX_WORDS];
+    let mut g = [0u16; refusal::MAX_WORDS];
     noise(&mut f, 1);
     noise(&mut g, 2);
     show(&f, &g);

@@ -66,22 +66,22 @@ pub record Small (w c rounds : ℕ) : Type 0 where
   pub power : c < 65536
   pub count : rounds < 65536
 
-module _ (F : PrimeField) (f g slice : List ℕ) (short-f : length f ≤ maxWords) (short-g : length g ≤ maxWords) where
-  common-small : ¬ (significant f + significant g ≡ 0) → commonPower (f ∷ g ∷ []) ≤ maxWords
+module _ (F : PrimeField) (most : ℕ) (room : most ≤ maxWords) (f g slice : List ℕ) (short-f : length f ≤ most) (short-g : length g ≤ most) where
+  common-small : ¬ (significant f + significant g ≡ 0) → commonPower (f ∷ g ∷ []) ≤ most
   common-small some = go (decLt 0 (significant f))
     where
-      go : Dec (0 < significant f) → commonPower (f ∷ g ∷ []) ≤ maxWords
+      go : Dec (0 < significant f) → commonPower (f ∷ g ∷ []) ≤ most
       go (yes l) = omega (arith, commonPower-le (f ∷ g ∷ []) 0 l, power-le f, short-f)
       go (no l) = omega (arith, commonPower-le (f ∷ g ∷ []) 1 (omega arith), power-le g, short-g)
 
-  degree-small : {w c rounds : ℕ} → length slice ≡ maxWords → GreatestSo F f g slice w c rounds → w < maxWords
-  degree-small {w} e h = go (decLt w maxWords)
+  degree-small : {w c rounds : ℕ} → length slice ≡ most → GreatestSo F f g slice w c rounds → w < most
+  degree-small {w} e h = go (decLt w most)
     where
-      go : Dec (w < maxWords) → w < maxWords
+      go : Dec (w < most) → w < most
       go (yes l) = l
       go (no l) = let z : getD slice w 0 ≡ 0 = List·getD-eq-default slice 0 (omega arith) in absurd (omega (arith, h .ends))
 
-  pub small : {w c rounds : ℕ} → length slice ≡ maxWords → ¬ (significant f + significant g ≡ 0)
+  pub small : {w c rounds : ℕ} → length slice ≡ most → ¬ (significant f + significant g ≡ 0)
       → GreatestSo F f g slice w c rounds → w ∷ c ∷ rounds ∷ [] ≡ gcdValues F f g → Small w c rounds
   unfolding gcdValues
   small {w} {c} {rounds} e some h v =

@@ -5,7 +5,7 @@
 use mathlib.Core.Path.{_≡_, sym, _∙_, ap, ap₂}
 use mathlib.Core.Bool.{false}
 use mathlib.Core.List.{List, [], _∷_}
-use Prim.Native.Nat.{ℕ, _+_, _*_}
+use Prim.Native.Nat.{ℕ, _+_, _*_, _≤_, _<_}
 use native.Mathlib.Omega.{arith}
 use lib.ListN.{length}
 use Rattle.algebra.specs.PrimeField.{PrimeField}
@@ -20,160 +20,163 @@ use Rattle.lists.specs.Degrees.{significant}
 use Rattle.lists.specs.Operations.{product}
 use Rattle.euclid.specs.Quotients.{quotientOf, remainderOf}
 use Rattle.euclid.specs.Gcds.{gcdOf, padded}
-use Rattle.products.specs.Calls.{productRefusals}
-use Rattle.division.specs.Calls.{divideRefusals}
+use Rattle.products.specs.Calls as P
+use Rattle.division.specs.Calls as D
 use Rattle.gcd.specs.declared.Gcd.{Gcd}
 use Rattle.gcd.specs.declared.Gcd.the-variants as G
-use Rattle.gcd.specs.Calls.{gcdReply, gcdValues, gcdRefusals, Greatest}
+use Rattle.gcd.specs.Calls as E
+use Rattle.gcd.specs.Calls.{gcdReply, gcdValues, Greatest}
 use Rattle.lists.specs.Bytes.{wordsOf, bytesOf}
-use Rattle.host.specs.Calls.{productRows, divisionRows, gcdRows}
+use Rattle.host.specs.Calls.{productRowsOver, divisionRowsOver, gcdRowsOver}
 use Rattle.host.specs.Workers.{badList, roomOf, gcdRoom}
 use Rattle.host.proofs.Fits.{good-list, both}
 use Rattle.host.proofs.Rows.{product-rows, product-whole, division-rows, division-whole, gcd-rows, gcd-whole}
 use Rattle.host.proofs.Answers.{done-reply, refused-reply, wrote, Small, small}
 
-pub record ProductCall (p : ℕ) (f g out a b c : List ℕ) (answer : Outcome) : Type 0 where
-  pub good-f : badList f ≡ false
-  pub good-g : badList g ≡ false
-  pub words-f : a ≡ wordsOf f
-  pub words-g : b ≡ wordsOf g
-  pub room : length c ≡ roomOf 0 out
-  pub says : outcomeReply answer ≡ reply (lowest (productRefusals p a b c)) []
+module _ (most : ℕ) where
+  pub record ProductCall (p : ℕ) (f g out a b c : List ℕ) (answer : Outcome) : Type 0 where
+    pub good-f : badList most f ≡ false
+    pub good-g : badList most g ≡ false
+    pub words-f : a ≡ wordsOf f
+    pub words-g : b ≡ wordsOf g
+    pub room : length c ≡ roomOf most 0 out
+    pub says : outcomeReply answer ≡ reply (lowest (P.productRows p most a b c)) []
 
-pub record DivisionCall (p : ℕ) (g f q r a b c d : List ℕ) (answer : Outcome) : Type 0 where
-  pub good-g : badList g ≡ false
-  pub good-f : badList f ≡ false
-  pub words-g : a ≡ wordsOf g
-  pub words-f : b ≡ wordsOf f
-  pub room-q : length c ≡ roomOf 0 q
-  pub room-r : length d ≡ roomOf maxWords r
-  pub says : outcomeReply answer ≡ reply (lowest (divideRefusals p a b c d)) []
+  pub record DivisionCall (p : ℕ) (g f q r a b c d : List ℕ) (answer : Outcome) : Type 0 where
+    pub good-g : badList most g ≡ false
+    pub good-f : badList most f ≡ false
+    pub words-g : a ≡ wordsOf g
+    pub words-f : b ≡ wordsOf f
+    pub room-q : length c ≡ roomOf most 0 q
+    pub room-r : length d ≡ roomOf most most r
+    pub says : outcomeReply answer ≡ reply (lowest (D.divideRows p most a b c d)) []
 
-pub record GcdCall (F : PrimeField) (p : ℕ) (f g h answer a b c : List ℕ) (found : Gcd) : Type 0 where
-  pub good-f : badList f ≡ false
-  pub good-g : badList g ≡ false
-  pub words-f : a ≡ wordsOf f
-  pub words-g : b ≡ wordsOf g
-  pub room : length c ≡ gcdRoom h answer
-  pub says : gcdReply found ≡ reply (lowest (gcdRefusals p a b c)) (gcdValues F a b)
+  pub record GcdCall (F : PrimeField) (p : ℕ) (f g h answer a b c : List ℕ) (found : Gcd) : Type 0 where
+    pub good-f : badList most f ≡ false
+    pub good-g : badList most g ≡ false
+    pub words-f : a ≡ wordsOf f
+    pub words-g : b ≡ wordsOf g
+    pub room : length c ≡ gcdRoom most h answer
+    pub says : gcdReply found ≡ reply (lowest (E.gcdRows p most a b c)) (gcdValues F a b)
 
-module _ {p : ℕ} {f g out a b c : List ℕ} {answer : Outcome} (call : ProductCall p f g out a b c answer) where
-  product-same : lowest (productRefusals p a b c) ≡ lowest (productRows p f g out)
-  product-same =
-      ap₂ (λ x y. lowest (productRefusals p x y c)) (call .words-f) (call .words-g)
-      ∙ product-rows p f g out c (call .good-f) (call .good-g) (call .room)
+module _ {most : ℕ} where
+  module _ {p : ℕ} {f g out a b c : List ℕ} {answer : Outcome} (call : ProductCall most p f g out a b c answer) where
+    product-same : lowest (P.productRows p most a b c) ≡ lowest (productRowsOver p most f g out)
+    product-same =
+        ap₂ (λ x y. lowest (P.productRows p most x y c)) (call .words-f) (call .words-g)
+        ∙ product-rows most p f g out c (call .good-f) (call .good-g) (call .room)
 
-  product-completes : answer ≡ Done → lowest (productRows p f g out) ≡ Done
-  product-completes d =
-      sym product-same ∙ done-reply (lowest (productRefusals p a b c)) [] [] (sym (ap outcomeReply d) ∙ call .says) .0
+    product-completes : answer ≡ Done → lowest (productRowsOver p most f g out) ≡ Done
+    product-completes d =
+        sym product-same ∙ done-reply (lowest (P.productRows p most a b c)) [] [] (sym (ap outcomeReply d) ∙ call .says) .0
 
-  pub product-fits : answer ≡ Done → length out ≡ 2 * length c
-  product-fits d = rw (call .room) (product-whole p f g out (product-completes d))
+    pub product-fits : answer ≡ Done → length out ≡ 2 * length c
+    product-fits d = rw (call .room) (product-whole most p f g out (product-completes d))
 
-  pub product-done : answer ≡ Done → (F : PrimeField) {c′ out′ : List ℕ}
-      → c′ ≡ written (lowest (productRefusals p a b c)) (product F a b) c → out′ ≡ bytesOf c′
-      → (0 ≡ outcomeNumber (lowest (productRows p f g out)))
-      × (out′ ≡ written (lowest (productRows p f g out)) (bytesOf (product F (wordsOf f) (wordsOf g))) out)
-  product-done d F w o = (
-    sym (ap outcomeNumber (product-completes d)),
-    wrote (product F (wordsOf f) (wordsOf g)) out c product-same (product-completes d)
-        (w ∙ ap₂ (λ x y. written (lowest (productRefusals p a b c)) (product F x y) c) (call .words-f) (call .words-g)) o,
-  )
+    pub product-done : answer ≡ Done → (F : PrimeField) {c′ out′ : List ℕ}
+        → c′ ≡ written (lowest (P.productRows p most a b c)) (product F a b) c → out′ ≡ bytesOf c′
+        → (0 ≡ outcomeNumber (lowest (productRowsOver p most f g out)))
+        × (out′ ≡ written (lowest (productRowsOver p most f g out)) (bytesOf (product F (wordsOf f) (wordsOf g))) out)
+    product-done d F w o = (
+      sym (ap outcomeNumber (product-completes d)),
+      wrote (product F (wordsOf f) (wordsOf g)) out c product-same (product-completes d)
+          (w ∙ ap₂ (λ x y. written (lowest (P.productRows p most a b c)) (product F x y) c) (call .words-f) (call .words-g)) o,
+    )
 
-  pub product-refused : {why : Refusal} → answer ≡ Refused why → {n : ℕ} → n ≡ number why → (new : List ℕ)
-      → (n ≡ outcomeNumber (lowest (productRows p f g out))) × (out ≡ written (lowest (productRows p f g out)) new out)
-  product-refused {why} r e new =
-      let h = refused-reply why (lowest (productRefusals p a b c)) [] (sym (ap outcomeReply r) ∙ call .says) in
-      (e ∙ h .0 ∙ ap outcomeNumber product-same, h .1 new out ∙ ap (λ o. written o new out) product-same)
+    pub product-refused : {why : Refusal} → answer ≡ Refused why → {n : ℕ} → n ≡ number why → (new : List ℕ)
+        → (n ≡ outcomeNumber (lowest (productRowsOver p most f g out))) × (out ≡ written (lowest (productRowsOver p most f g out)) new out)
+    product-refused {why} r e new =
+        let h = refused-reply why (lowest (P.productRows p most a b c)) [] (sym (ap outcomeReply r) ∙ call .says) in
+        (e ∙ h .0 ∙ ap outcomeNumber product-same, h .1 new out ∙ ap (λ o. written o new out) product-same)
 
-module _ {p : ℕ} {g f q r a b c d : List ℕ} {answer : Outcome} (call : DivisionCall p g f q r a b c d answer) where
-  division-same : lowest (divideRefusals p a b c d) ≡ lowest (divisionRows p g f q r)
-  division-same =
-      ap₂ (λ x y. lowest (divideRefusals p x y c d)) (call .words-g) (call .words-f)
-      ∙ division-rows p g f q r (call .good-g) (call .good-f) c d (call .room-q) (call .room-r)
+  module _ {p : ℕ} {g f q r a b c d : List ℕ} {answer : Outcome} (call : DivisionCall most p g f q r a b c d answer) where
+    division-same : lowest (D.divideRows p most a b c d) ≡ lowest (divisionRowsOver p most g f q r)
+    division-same =
+        ap₂ (λ x y. lowest (D.divideRows p most x y c d)) (call .words-g) (call .words-f)
+        ∙ division-rows most p g f q r (call .good-g) (call .good-f) c d (call .room-q) (call .room-r)
 
-  division-completes : answer ≡ Done → lowest (divisionRows p g f q r) ≡ Done
-  division-completes e =
-      sym division-same ∙ done-reply (lowest (divideRefusals p a b c d)) [] [] (sym (ap outcomeReply e) ∙ call .says) .0
+    division-completes : answer ≡ Done → lowest (divisionRowsOver p most g f q r) ≡ Done
+    division-completes e =
+        sym division-same ∙ done-reply (lowest (D.divideRows p most a b c d)) [] [] (sym (ap outcomeReply e) ∙ call .says) .0
 
-  pub division-fits : answer ≡ Done → (length q ≡ 2 * length c) × (length r ≡ 2 * length d)
-  division-fits e =
-      let h = division-whole p g f q r (call .good-g) (call .good-f) (division-completes e) in
-      (rw (call .room-q) (h .0), rw (call .room-r) (h .1))
+    pub division-fits : answer ≡ Done → (length q ≡ 2 * length c) × (length r ≡ 2 * length d)
+    division-fits e =
+        let h = division-whole most p g f q r (call .good-g) (call .good-f) (division-completes e) in
+        (rw (call .room-q) (h .0), rw (call .room-r) (h .1))
 
-  pub division-done : answer ≡ Done → (F : PrimeField) {c′ d′ q′ r′ : List ℕ}
-      → c′ ≡ written (lowest (divideRefusals p a b c d)) (quotientOf F a b) c
-      → d′ ≡ written (lowest (divideRefusals p a b c d)) (remainderOf F a b) d
-      → q′ ≡ bytesOf c′ → r′ ≡ bytesOf d′
-      → (0 ≡ outcomeNumber (lowest (divisionRows p g f q r)))
-      × ((q′ ≡ written (lowest (divisionRows p g f q r)) (bytesOf (quotientOf F (wordsOf g) (wordsOf f))) q)
-      × (r′ ≡ written (lowest (divisionRows p g f q r)) (bytesOf (remainderOf F (wordsOf g) (wordsOf f))) r))
-  division-done e F wc wd oq or = (
-    sym (ap outcomeNumber (division-completes e)),
-    (
-      wrote (quotientOf F (wordsOf g) (wordsOf f)) q c division-same (division-completes e)
-          (wc ∙ ap₂ (λ x y. written (lowest (divideRefusals p a b c d)) (quotientOf F x y) c) (call .words-g) (call .words-f)) oq,
-      wrote (remainderOf F (wordsOf g) (wordsOf f)) r d division-same (division-completes e)
-          (wd ∙ ap₂ (λ x y. written (lowest (divideRefusals p a b c d)) (remainderOf F x y) d) (call .words-g) (call .words-f)) or,
-    ),
-  )
-
-  pub division-refused : {why : Refusal} → answer ≡ Refused why → {n : ℕ} → n ≡ number why → (new-q new-r : List ℕ)
-      → (n ≡ outcomeNumber (lowest (divisionRows p g f q r))) × ((q ≡ written (lowest (divisionRows p g f q r)) new-q q)
-      × (r ≡ written (lowest (divisionRows p g f q r)) new-r r))
-  division-refused {why} w e new-q new-r =
-      let h = refused-reply why (lowest (divideRefusals p a b c d)) [] (sym (ap outcomeReply w) ∙ call .says) in (
-        e ∙ h .0 ∙ ap outcomeNumber division-same,
-        (h .1 new-q q ∙ ap (λ o. written o new-q q) division-same, h .1 new-r r ∙ ap (λ o. written o new-r r) division-same),
-      )
-
-module _ {F : PrimeField} {p : ℕ} {f g h answer a b c : List ℕ} {found : Gcd} (call : GcdCall F p f g h answer a b c found) where
-  gcd-same : lowest (gcdRefusals p a b c) ≡ lowest (gcdRows p f g h answer)
-  gcd-same =
-      ap₂ (λ x y. lowest (gcdRefusals p x y c)) (call .words-f) (call .words-g)
-      ∙ gcd-rows p f g h answer c (call .good-f) (call .good-g) (call .room)
-
-  module _ {w : NaiveDegree} {power rounds : ℕ} (d : found ≡ G.Done w power rounds) where
-    told : (lowest (gcdRefusals p a b c) ≡ Done) × (w .0 ∷ power ∷ rounds ∷ [] ≡ gcdValues F a b)
-    told = done-reply (lowest (gcdRefusals p a b c)) (w .0 ∷ power ∷ rounds ∷ []) (gcdValues F a b) (sym (ap gcdReply d) ∙ call .says)
-
-    gcd-completes : lowest (gcdRows p f g h answer) ≡ Done
-    gcd-completes = sym gcd-same ∙ told .0
-
-    pub gcd-fits : (length h ≡ 2 * length c) × (length c ≡ maxWords) × (length answer ≡ 6)
-    gcd-fits =
-        let e = gcd-whole p f g h answer gcd-completes in
-        let room = call .room in
-        let s = both h answer (e .0) (e .1) in
-        (omega arith, omega arith, e .1)
-
-    pub gcd-small : {c′ : List ℕ} → c′ ≡ written (lowest (gcdRefusals p a b c)) (padded maxWords (gcdOf F a b)) c
-        → length c′ ≡ length c → Greatest F a b c′ found → Small (w .0) power rounds
-    gcd-small {c′} wc l k =
-        small F a b c′ (rw (call .words-f) (good-list f (call .good-f) .1)) (rw (call .words-g) (good-list g (call .good-g) .1)) (let s = gcd-fits in omega arith)
-        (λ z. gcd-whole p f g h answer gcd-completes .2 (sym (ap₂ (λ x y. significant x + significant y) (call .words-f) (call .words-g)) ∙ z))
-        (rw d at k) (told .1)
-
-    pub gcd-done : {c′ h′ answer′ : List ℕ} → c′ ≡ written (lowest (gcdRefusals p a b c)) (padded maxWords (gcdOf F a b)) c
-        → h′ ≡ bytesOf c′ → answer′ ≡ bytesOf (w .0 ∷ power ∷ rounds ∷ [])
-        → (0 ≡ outcomeNumber (lowest (gcdRows p f g h answer)))
-        × ((h′ ≡ written (lowest (gcdRows p f g h answer)) (bytesOf (padded maxWords (gcdOf F (wordsOf f) (wordsOf g)))) h)
-        × (answer′ ≡ written (lowest (gcdRows p f g h answer)) (bytesOf (gcdValues F (wordsOf f) (wordsOf g))) answer))
-    gcd-done wc oh oa = (
-      sym (ap outcomeNumber gcd-completes),
+    pub division-done : answer ≡ Done → (F : PrimeField) {c′ d′ q′ r′ : List ℕ}
+        → c′ ≡ written (lowest (D.divideRows p most a b c d)) (quotientOf F a b) c
+        → d′ ≡ written (lowest (D.divideRows p most a b c d)) (remainderOf F a b) d
+        → q′ ≡ bytesOf c′ → r′ ≡ bytesOf d′
+        → (0 ≡ outcomeNumber (lowest (divisionRowsOver p most g f q r)))
+        × ((q′ ≡ written (lowest (divisionRowsOver p most g f q r)) (bytesOf (quotientOf F (wordsOf g) (wordsOf f))) q)
+        × (r′ ≡ written (lowest (divisionRowsOver p most g f q r)) (bytesOf (remainderOf F (wordsOf g) (wordsOf f))) r))
+    division-done e F wc wd oq or = (
+      sym (ap outcomeNumber (division-completes e)),
       (
-        wrote (padded maxWords (gcdOf F (wordsOf f) (wordsOf g))) h c gcd-same gcd-completes
-            (wc ∙ ap₂ (λ x y. written (lowest (gcdRefusals p a b c)) (padded maxWords (gcdOf F x y)) c) (call .words-f) (call .words-g)) oh,
-        oa ∙ ap bytesOf (told .1 ∙ ap₂ (gcdValues F) (call .words-f) (call .words-g))
-            ∙ sym (ap (λ o. written o (bytesOf (gcdValues F (wordsOf f) (wordsOf g))) answer) gcd-completes),
+        wrote (quotientOf F (wordsOf g) (wordsOf f)) q c division-same (division-completes e)
+            (wc ∙ ap₂ (λ x y. written (lowest (D.divideRows p most a b c d)) (quotientOf F x y) c) (call .words-g) (call .words-f)) oq,
+        wrote (remainderOf F (wordsOf g) (wordsOf f)) r d division-same (division-completes e)
+            (wd ∙ ap₂ (λ x y. written (lowest (D.divideRows p most a b c d)) (remainderOf F x y) d) (call .words-g) (call .words-f)) or,
       ),
     )
 
-  pub gcd-refused : {why : Refusal} → found ≡ G.Refused why → {n : ℕ} → n ≡ number why → (new-h new-answer : List ℕ)
-      → (n ≡ outcomeNumber (lowest (gcdRows p f g h answer))) × ((h ≡ written (lowest (gcdRows p f g h answer)) new-h h)
-      × (answer ≡ written (lowest (gcdRows p f g h answer)) new-answer answer))
-  gcd-refused {why} w e new-h new-answer =
-      let k = refused-reply why (lowest (gcdRefusals p a b c)) (gcdValues F a b) (sym (ap gcdReply w) ∙ call .says) in (
-        e ∙ k .0 ∙ ap outcomeNumber gcd-same,
-        (k .1 new-h h ∙ ap (λ o. written o new-h h) gcd-same, k .1 new-answer answer ∙ ap (λ o. written o new-answer answer) gcd-same),
+    pub division-refused : {why : Refusal} → answer ≡ Refused why → {n : ℕ} → n ≡ number why → (new-q new-r : List ℕ)
+        → (n ≡ outcomeNumber (lowest (divisionRowsOver p most g f q r))) × ((q ≡ written (lowest (divisionRowsOver p most g f q r)) new-q q)
+        × (r ≡ written (lowest (divisionRowsOver p most g f q r)) new-r r))
+    division-refused {why} w e new-q new-r =
+        let h = refused-reply why (lowest (D.divideRows p most a b c d)) [] (sym (ap outcomeReply w) ∙ call .says) in (
+          e ∙ h .0 ∙ ap outcomeNumber division-same,
+          (h .1 new-q q ∙ ap (λ o. written o new-q q) division-same, h .1 new-r r ∙ ap (λ o. written o new-r r) division-same),
+        )
+
+  module _ (some : 0 < most) (room : most ≤ maxWords) {F : PrimeField} {p : ℕ} {f g h answer a b c : List ℕ} {found : Gcd} (call : GcdCall most F p f g h answer a b c found) where
+    gcd-same : lowest (E.gcdRows p most a b c) ≡ lowest (gcdRowsOver p most f g h answer)
+    gcd-same =
+        ap₂ (λ x y. lowest (E.gcdRows p most x y c)) (call .words-f) (call .words-g)
+        ∙ gcd-rows most p f g h answer some c (call .good-f) (call .good-g) (call .room)
+
+    module _ {w : NaiveDegree} {power rounds : ℕ} (d : found ≡ G.Done w power rounds) where
+      told : (lowest (E.gcdRows p most a b c) ≡ Done) × (w .0 ∷ power ∷ rounds ∷ [] ≡ gcdValues F a b)
+      told = done-reply (lowest (E.gcdRows p most a b c)) (w .0 ∷ power ∷ rounds ∷ []) (gcdValues F a b) (sym (ap gcdReply d) ∙ call .says)
+
+      gcd-completes : lowest (gcdRowsOver p most f g h answer) ≡ Done
+      gcd-completes = sym gcd-same ∙ told .0
+
+      pub gcd-fits : (length h ≡ 2 * length c) × (length c ≡ most) × (length answer ≡ 6)
+      gcd-fits =
+          let e = gcd-whole most p f g h answer gcd-completes in
+          let size = call .room in
+          let s = both most h answer (e .0) (e .1) in
+          (omega arith, omega arith, e .1)
+
+      pub gcd-small : {c′ : List ℕ} → c′ ≡ written (lowest (E.gcdRows p most a b c)) (padded most (gcdOf F a b)) c
+          → length c′ ≡ length c → Greatest F a b c′ found → Small (w .0) power rounds
+      gcd-small {c′} wc l k =
+          small F most room a b c′ (rw (call .words-f) (good-list most f (call .good-f) .1)) (rw (call .words-g) (good-list most g (call .good-g) .1)) (let s = gcd-fits in omega arith)
+          (λ z. gcd-whole most p f g h answer gcd-completes .2 (sym (ap₂ (λ x y. significant x + significant y) (call .words-f) (call .words-g)) ∙ z))
+          (rw d at k) (told .1)
+
+      pub gcd-done : {c′ h′ answer′ : List ℕ} → c′ ≡ written (lowest (E.gcdRows p most a b c)) (padded most (gcdOf F a b)) c
+          → h′ ≡ bytesOf c′ → answer′ ≡ bytesOf (w .0 ∷ power ∷ rounds ∷ [])
+          → (0 ≡ outcomeNumber (lowest (gcdRowsOver p most f g h answer)))
+          × ((h′ ≡ written (lowest (gcdRowsOver p most f g h answer)) (bytesOf (padded most (gcdOf F (wordsOf f) (wordsOf g)))) h)
+          × (answer′ ≡ written (lowest (gcdRowsOver p most f g h answer)) (bytesOf (gcdValues F (wordsOf f) (wordsOf g))) answer))
+      gcd-done wc oh oa = (
+        sym (ap outcomeNumber gcd-completes),
+        (
+          wrote (padded most (gcdOf F (wordsOf f) (wordsOf g))) h c gcd-same gcd-completes
+              (wc ∙ ap₂ (λ x y. written (lowest (E.gcdRows p most a b c)) (padded most (gcdOf F x y)) c) (call .words-f) (call .words-g)) oh,
+          oa ∙ ap bytesOf (told .1 ∙ ap₂ (gcdValues F) (call .words-f) (call .words-g))
+              ∙ sym (ap (λ o. written o (bytesOf (gcdValues F (wordsOf f) (wordsOf g))) answer) gcd-completes),
+        ),
       )
+
+    pub gcd-refused : {why : Refusal} → found ≡ G.Refused why → {n : ℕ} → n ≡ number why → (new-h new-answer : List ℕ)
+        → (n ≡ outcomeNumber (lowest (gcdRowsOver p most f g h answer))) × ((h ≡ written (lowest (gcdRowsOver p most f g h answer)) new-h h)
+        × (answer ≡ written (lowest (gcdRowsOver p most f g h answer)) new-answer answer))
+    gcd-refused {why} w e new-h new-answer =
+        let k = refused-reply why (lowest (E.gcdRows p most a b c)) (gcdValues F a b) (sym (ap gcdReply w) ∙ call .says) in (
+          e ∙ k .0 ∙ ap outcomeNumber gcd-same,
+          (k .1 new-h h ∙ ap (λ o. written o new-h h) gcd-same, k .1 new-answer answer ∙ ap (λ o. written o new-answer answer) gcd-same),
+        )

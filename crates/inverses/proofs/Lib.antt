@@ -1,4 +1,5 @@
 pub mod Answers
-pub mod Entries
-pub mod Euclid
 pub mod OrZero
+pub mod Tried
+pub mod Signed
+pub mod Euclid

@@ -1,294 +1,108 @@
-// The inverse of a coefficient, and the table of the inverses of 1 to 256.
+// The inverse of a coefficient, by Euclid's steps on whole numbers and a table of inverses.
 ghost use mathlib.Core.Path.{_≡_};
+ghost use mathlib.Core.Bool.{_&&_};
 ghost use mathlib.Core.List.{[], _∷_};
-ghost use Rattle.algebra.specs.PrimeField.{F65521};
+ghost use Prim.Native.Nat.{_*_, _%_, _<_, _≤_};
+ghost use lib.Dec.{ltb, eqb};
+ghost use lib.IntN.{natAbs};
 ghost use Rattle.refusal.specs.Refusal.{reply};
 ghost use Rattle.refusal.specs.Lowest.{lowest};
-ghost use Rattle.field.specs.Field.{p, wordReply, inverseRefusals, inverseOf, inverseOrZero};
-ghost use Rattle.inverses.specs.Inverses.{Inverts, inverseTable};
+ghost use Rattle.field.specs.Field.{wordReply, inverseRefusals, inverseOf, inverseOrZero};
+ghost use Rattle.field.specs.Fields.{modulus, fieldAt, p, F65521};
+ghost use Rattle.inverses.specs.Inverses.{Inverts};
+ghost use Rattle.inverses.specs.Workers.{residueOf, Leaves};
 use field::Word;
 use refusal::Refusal;
 
-pub type InverseTable = [u16; 257];
-
-// The inverses of 1 to 256, entry k that of k; entry 0 is 0.
-const INVERSES: InverseTable = [
-    0,
-    1,
-    32761,
-    43681,
-    49141,
-    52417,
-    54601,
-    56161,
-    57331,
-    58241,
-    58969,
-    11913,
-    60061,
-    60481,
-    60841,
-    61153,
-    61426,
-    42396,
-    61881,
-    6897,
-    62245,
-    62401,
-    38717,
-    11395,
-    62791,
-    49796,
-    63001,
-    41254,
-    63181,
-    58743,
-    63337,
-    25363,
-    30713,
-    3971,
-    21198,
-    63649,
-    63701,
-    54896,
-    36209,
-    63841,
-    63883,
-    43148,
-    63961,
-    6095,
-    52119,
-    64065,
-    38458,
-    43216,
-    64156,
-    8023,
-    24898,
-    14132,
-    64261,
-    4945,
-    20627,
-    28591,
-    64351,
-    2299,
-    62132,
-    21100,
-    64429,
-    27927,
-    45442,
-    64481,
-    48117,
-    64513,
-    34746,
-    26404,
-    10599,
-    47479,
-    64585,
-    5537,
-    64611,
-    27824,
-    27448,
-    38439,
-    50865,
-    11062,
-    64681,
-    41469,
-    64702,
-    57432,
-    21574,
-    48154,
-    64741,
-    60896,
-    35808,
-    19581,
-    58820,
-    50061,
-    64793,
-    64801,
-    19229,
-    52135,
-    21608,
-    40692,
-    32078,
-    52687,
-    36772,
-    23164,
-    12449,
-    53844,
-    7066,
-    60432,
-    64891,
-    64897,
-    35233,
-    15921,
-    43074,
-    5410,
-    47056,
-    40139,
-    64936,
-    3479,
-    33910,
-    2279,
-    31066,
-    64961,
-    10550,
-    34137,
-    64975,
-    1083,
-    46724,
-    36223,
-    22721,
-    62376,
-    65001,
-    53655,
-    56819,
-    23872,
-    65017,
-    53017,
-    17373,
-    47786,
-    13202,
-    21355,
-    38060,
-    43043,
-    56500,
-    3771,
-    65053,
-    58086,
-    35529,
-    41237,
-    65066,
-    37957,
-    13912,
-    46355,
-    13724,
-    47052,
-    51980,
-    40354,
-    58193,
-    26551,
-    5531,
-    31281,
-    65101,
-    1252,
-    53495,
-    45329,
-    32351,
-    10988,
-    28716,
-    39393,
-    10787,
-    53211,
-    24077,
-    16086,
-    65131,
-    44973,
-    30448,
-    44447,
-    17904,
-    29920,
-    42551,
-    25834,
-    29410,
-    50714,
-    57791,
-    18668,
-    65157,
-    362,
-    65161,
-    9309,
-    42375,
-    63396,
-    58828,
-    27680,
-    10804,
-    43334,
-    20346,
-    57288,
-    16039,
-    13240,
-    59104,
-    65185,
-    18386,
-    54878,
-    11582,
-    64204,
-    38985,
-    52482,
-    26922,
-    17752,
-    3533,
-    34838,
-    30216,
-    59507,
-    65206,
-    627,
-    65209,
-    5900,
-    50377,
-    23686,
-    40721,
-    1219,
-    21537,
-    50424,
-    2705,
-    31115,
-    23528,
-    53662,
-    52830,
-    39959,
-    32468,
-    12813,
-    34500,
-    10391,
-    16955,
-    60657,
-    33900,
-    47368,
-    15533,
-    55960,
-    65241,
-    61060,
-    5275,
-    13823,
-    49829,
-    54281,
-    65248,
-    19031,
-    33302,
-    19144,
-    23362,
-    27813,
-    50872,
-    30771,
-    44121,
-    59732,
-    31188,
-    6526,
-    65261,
-    54644,
-    59588,
-    42139,
-    61170,
-];
-
-// Euclid's steps on the modulus and a: each remainder is its cofactor times a, but for multiples of the modulus. They stop
-// where the remainder's inverse is in the table.
 pub fn inverse(a: u16) -> Word
     ensures answer { λ r. ⌜ wordReply r ≡ reply (lowest (inverseRefusals p a)) (inverseOf F65521 a ∷ []) ⌝ }
     ensures inverts { λ r. ⌜ Inverts p a r ⌝ }
 {
-    if a >= 65521 {
+    let inverses = tables::inverses(0);
+    inverse_over(0, &inverses, a)
+}
+
+// The same over a field. The table of inverses saves steps; the answer does not depend on it.
+pub fn inverse_over(field: u8, inverses: &[u16], a: u16) -> Word
+    ensures answer { λ r. ⌜ wordReply r ≡ reply (lowest (inverseRefusals (modulus field) a)) (inverseOf (fieldAt field) a ∷ []) ⌝ }
+    ensures inverts { λ r. ⌜ Inverts (modulus field) a r ⌝ }
+{
+    if field::modulus_of(field) <= a {
         return Word::Refused(Refusal::LooseWord);
     }
     if a == 0 {
         return Word::Refused(Refusal::AllZero);
     }
-    let mut r0: u32 = 65521;
+    let b = find(field, inverses, a);
+    // The modulus is prime, so every coefficient but 0 has an inverse.
+    if b == 0 {
+        return Word::Refused(Refusal::NoInverse);
+    }
+    Word::Done(b)
+}
+
+// The inverse of a coefficient that is not 0; else 0.
+pub fn inverse_or_zero(field: u8, inverses: &[u16], a: u16) -> u16
+    ensures { λ r. ⌜ r ≡ inverseOrZero (fieldAt field) a ⌝ }
+{
+    match inverse_over(field, inverses, a) {
+        Word::Done(b) => b,
+        Word::Refused(_) => 0,
+    }
+}
+
+// What is found by the table is tried. Where the table is wrong, the steps go on to the remainder 1, whose cofactor is the inverse.
+fn find(field: u8, inverses: &[u16], a: u16) -> u16
+    requires { ⌜ (0 < a) × (a < modulus field) ⌝ }
+    ensures { λ r. ⌜ r ≡ inverseOf (fieldAt field) a ⌝ }
+{
+    let b = by_table(field, inverses, a);
+    if inverts(field, a, b) {
+        return b;
+    }
+    let last = steps(field, a, 1);
+    last.cofactor
+}
+
+// Whether b is a word below p whose product with a leaves 1.
+fn inverts(field: u8, a: u16, b: u16) -> bool
+    ensures { λ r. ⌜ r ≡ (ltb b (modulus field) && eqb ((a * b) % modulus field) 1) ⌝ }
+{
+    if field::modulus_of(field) <= b {
+        return false;
+    }
+    field::mul(field, a, b) == 1
+}
+
+// The inverse, if the table holds that of the remainder where the steps stop. Nothing is promised: the answer is tried.
+fn by_table(field: u8, inverses: &[u16], a: u16) -> u16
+    requires { ⌜ (0 < a) × (a < modulus field) ⌝ }
+{
+    let n = inverses.len();
+    if n < 2 {
+        return 0;
+    }
+    let met = steps(field, a, n - 1);
+    field::mul(field, met.cofactor, inverses[met.remainder as usize])
+}
+
+// A remainder of Euclid's steps on p and a, and its cofactor as a word: a times the cofactor leaves the remainder.
+struct Met {
+    remainder: u16,
+    cofactor: u16,
+}
+
+// Euclid's steps on p and a: each remainder is its cofactor times a, but for multiples of p. They stop at a remainder of at most `stop`. p is
+// prime, so no remainder is 0 before one is 1.
+fn steps(field: u8, a: u16, stop: usize) -> Met
+    requires { ⌜ (0 < a) × (a < modulus field) × (0 < stop) ⌝ }
+    ensures { λ r. ⌜ (0 < r .remainder) × (r .remainder ≤ stop) × Leaves (modulus field) a (r .remainder) (r .cofactor) ⌝ }
+{
+    let mut r0: u32 = field::modulus_of(field) as u32;
     let mut r1: u32 = a as u32;
     let mut t0: i32 = 0;
     let mut t1: i32 = 1;
-    while 256 < r1 {
+    while stop < r1 as usize {
         let q = r0 / r1;
         let r2 = r0 % r1;
         let t2 = t0 - (q as i32) * t1;
@@ -297,32 +111,21 @@ pub fn inverse(a: u16) -> Word
         t0 = t1;
         t1 = t2;
     }
-    // The modulus is prime, so no remainder is 0 before one is 1.
-    if r1 == 0 {
-        return Word::Refused(Refusal::NoInverse);
+    let cofactor = brought_back(field, t1);
+    Met {
+        remainder: r1 as u16,
+        cofactor,
     }
-    let m = t1 % 65521;
-    let inv = table()[r1 as usize];
-    if m < 0 {
-        Word::Done(field::mul((m + 65521) as u16, inv))
+}
+
+// A cofactor, which may be negative, brought back by remainder to a word below p.
+fn brought_back(field: u8, t: i32) -> u16
+    requires { ⌜ natAbs t ≤ modulus field ⌝ }
+    ensures { λ r. ⌜ r ≡ residueOf (modulus field) t ⌝ }
+{
+    if t < 0 {
+        field::sub(field, 0, field::reduce(field, (0 - t) as u64))
     } else {
-        Word::Done(field::mul(m as u16, inv))
+        field::reduce(field, t as u64)
     }
-}
-
-// The inverse of a coefficient that is not 0; else 0.
-pub fn inverse_or_zero(a: u16) -> u16
-    ensures { λ r. ⌜ r ≡ inverseOrZero F65521 a ⌝ }
-{
-    match inverse(a) {
-        Word::Done(b) => b,
-        Word::Refused(_) => 0,
-    }
-}
-
-// The table of inverses.
-pub fn table() -> InverseTable
-    ensures { λ r. ⌜ r ≡ inverseTable 256 F65521 ⌝ }
-{
-    INVERSES
 }

@@ -1,4 +1,2 @@
 pub mod Weights
-pub mod Entries
 pub mod Products
-pub mod Fits

@@ -1,11 +1,12 @@
 -- Montgomery's products as products in the field.
 -- Assumes nothing.
 use mathlib.Core.Path.{_≡_, refl, sym, ap, _∙_, subst}
-use Prim.Native.Nat.{ℕ, _*_, _%_}
+use Prim.Native.Nat.{ℕ, zero, suc, _*_, _%_}
 use native.Mathlib.Nat.{mod-eq-of-lt}
 use Rattle.algebra.specs.Ring as R
 use Rattle.algebra.specs.Ring.{CommRing, AC}
 use Rattle.algebra.specs.PrimeField.{PrimeField, scalars, positive, residue, residue-1, residue-mul, residue-eq, residue-injective}
+use Rattle.field.specs.Fields.{modulus, wordInverse, fourth}
 use Rattle.montgomery.specs.Montgomery.{montgomery, montgomery-rule, montgomery-below}
 
 -- e is 1/p modulo 2^16, u is 1/2^16 modulo p, and w is 2^64 modulo p
@@ -13,6 +14,21 @@ pub record Constants (p e u w : ℕ) : Type 0 where
   pub inverse : p * e % 65536 ≡ 1
   pub part : (65536 * u) % p ≡ 1 % p
   pub lift : (w * u * u * u * u) % p ≡ 1 % p
+
+-- 1/2^16 modulo p
+unfoldable pub part-of : ℕ → ℕ
+part-of zero = 61153
+part-of (suc zero) = 61665
+part-of (suc (suc k)) = 28550
+
+pub constants : (k : ℕ) → Constants (modulus k) (wordInverse k) (part-of k) (fourth k)
+unfolding modulus wordInverse fourth part-of
+constants zero = record { inverse = refl; part = refl; lift = refl }
+constants (suc zero) = record { inverse = refl; part = refl; lift = refl }
+constants (suc (suc k)) = record { inverse = refl; part = refl; lift = refl }
+
+pub constants-of : (k : ℕ) {p e w : ℕ} → p ≡ modulus k → e ≡ wordInverse k → w ≡ fourth k → Constants p e (part-of k) w
+constants-of k a b c = rw (a, b, c) (constants k)
 
 module _ (F : PrimeField) {e u w : ℕ} (c : Constants (F .p) e u w) where
   open CommRing (scalars F) using (Carrier as K, one as 𝟙, mul as _⊗_)

@@ -1,11 +1,13 @@
 -- Binomial coefficients and their inverses by factorials, and the words that the factorials make of a list and of a scaled form.
 -- Assumes nothing.
 use mathlib.Core.Path.{_≡_, refl, sym, ap, _∙_}
+use mathlib.Core.Bool.{true, cond}
 use mathlib.Core.List.{List}
 use Prim.Native.Nat.{ℕ, zero, suc, _+_, _-_, _*_, _%_, _≤_, _<_}
 use native.Mathlib.Nat.{mod-lt}
 use native.Mathlib.Omega.{arith}
 use lib.ListN.{length, getD}
+use borrow.Author.Tests.{le-leb}
 use Rattle.algebra.specs.Ring as R
 use Rattle.algebra.specs.Ring.{CommRing, AC, RING}
 use Rattle.algebra.specs.Choose.{choose}
@@ -15,26 +17,14 @@ use Rattle.lists.specs.Tabulate.{length-tabulate, getD-tabulate, tabulate-ext}
 use Rattle.lists.specs.Lists.{word, binomial, coefficient, unscaled}
 use Rattle.lists.specs.Scaled.{binomial-nonzero}
 use Rattle.lists.specs.Words.{seriesOf, coeff-seriesOf, scaledWords, value-is}
-use Rattle.kernels.specs.Factorials.{factorial, factorial-0, factorial-suc, choose-factorials, factorialIn, inverseFactorialIn, Holds, weightedAt, weighted}
+use Rattle.tables.specs.Factorials.{factorial, choose-factorials, factorialIn, inverseFactorialIn, Tables}
+use Rattle.tables.proofs.Rising.{factorial-nonzero}
+use Rattle.kernels.specs.Kernels.{weightedAt, weighted, weighFits}
 
 module _ (F : PrimeField) where
   open CommRing (scalars F) using (Carrier as K, zero as 𝟘, one as 𝟙, mul as _⊗_)
 
   infixl 70 _⊗_
-  pub factorial-start : factorialIn F 0 ≡ 𝟙
-  unfolding factorialIn
-  factorial-start = ap (residue F) factorial-0 ∙ residue-1 F
-
-  pub factorial-next : (k : ℕ) → factorialIn F (suc k) ≡ factorialIn F k ⊗ residue F (suc k)
-  unfolding factorialIn
-  factorial-next k = ap (residue F) (factorial-suc k) ∙ residue-mul F (factorial k) (suc k)
-
-  pub factorial-nonzero : (k : ℕ) → k < F .p → ¬ (factorialIn F k ≡ 𝟘)
-  factorial-nonzero zero l e = scalarField F .one≢zero (sym factorial-start ∙ e)
-  factorial-nonzero (suc k) l e =
-      residue-nonzero F (suc k) l (λ z. omega arith)
-      (R.zero-of-mul (scalars F) (scalarField F) (factorialIn F k) (residue F (suc k)) (factorial-nonzero k (omega arith)) (sym (factorial-next k) ∙ e))
-
   -- C(n,k) · k! · (n-k)! = n!, and both quotients of it
   binomial-factorials : (n k : ℕ) → k ≤ n → binomial F n k ⊗ factorialIn F k ⊗ factorialIn F (n - k) ≡ factorialIn F n
   unfolding binomial factorialIn
@@ -50,8 +40,8 @@ module _ (F : PrimeField) where
     factorial-quotient =
         ap (λ x. x ⊗ inverse F (factorialIn F k) ⊗ inverse F (factorialIn F (n - k))) (sym (binomial-factorials n k l))
         ∙ regroup (binomial F n k) (factorialIn F k) (factorialIn F (n - k)) (inverse F (factorialIn F k)) (inverse F (factorialIn F (n - k)))
-        ∙ inverse-cancel′ F _ (factorialIn F (n - k)) (factorial-nonzero (n - k) (omega arith))
-        ∙ inverse-cancel′ F (binomial F n k) (factorialIn F k) (factorial-nonzero k (omega arith))
+        ∙ inverse-cancel′ F _ (factorialIn F (n - k)) (factorial-nonzero F (n - k) (omega arith))
+        ∙ inverse-cancel′ F (binomial F n k) (factorialIn F k) (factorial-nonzero F k (omega arith))
       where
         regroup : (a b c d e : K) → a ⊗ b ⊗ c ⊗ d ⊗ e ≡ a ⊗ b ⊗ d ⊗ c ⊗ e
         regroup a b c d e = simp AC
@@ -62,7 +52,7 @@ module _ (F : PrimeField) where
         R.mul-left-cancel (scalars F) (scalarField F) (binomial F n k) _ _ some
         (regroup (binomial F n k) (inverse F (factorialIn F n)) (factorialIn F k) (factorialIn F (n - k))
         ∙ ap (λ x. 𝟙 ⊗ x ⊗ inverse F (factorialIn F n)) (binomial-factorials n k l)
-        ∙ inverse-cancel′ F 𝟙 (factorialIn F n) (factorial-nonzero n h)
+        ∙ inverse-cancel′ F 𝟙 (factorialIn F n) (factorial-nonzero F n h)
         ∙ sym (inverse-cancel′ F 𝟙 (binomial F n k) some)
         ∙ ap (λ x. x ⊗ inverse F (binomial F n k)) (R.one-mul (scalars F) (binomial F n k)))
       where
@@ -94,15 +84,34 @@ module _ (F : PrimeField) {m : ℕ} (e : F .p ≡ m) where
       ∙ value-is F _ _ l
       (residue-mul-mod F (x * d * a) b ∙ rw (residue-mul F (x * d) a, residue-mul F x d, hx, hd, ha, hb) (simp AC))
 
-  module _ (size : ℕ) (short : size ≤ F .p) (f g : List ℕ) (hf : Holds F size (factorialIn F) f) (hg : Holds F size (inverseFactorialIn F) g) where
-    pub scaled-is : (c : List ℕ) (n : ℕ) → n ≡ length c → n ≤ size → weighted m f g n c ≡ scaledWords F c
+  module _ (size : ℕ) (short : size ≤ F .p) (f g : List ℕ) (t : Tables F size f g) where
+    scaled-is : (c : List ℕ) (n : ℕ) → n ≡ length c → n ≤ size → weighted m f g n c ≡ scaledWords F c
     unfolding weighted weightedAt scaledWords coefficient word naiveDegree
     scaled-is c n is l = ap (λ i. weighted m f g i c) is ∙ tabulate-ext (length c) _ _ λ k h.
-        product-value (getD c k 0) _ _ _ refl (hf .at (length c - 1) (omega arith)) (hg .at k (omega arith)) (hg .at (length c - 1 - k) (omega arith))
+        product-value (getD c k 0) _ _ _ refl (t .factorials .at (length c - 1) (omega arith)) (t .inverses .at k (omega arith)) (t .inverses .at (length c - 1 - k) (omega arith))
         ∙ ap (λ x. value F (residue F (getD c k 0) ⊗ x)) (factorial-quotient F (length c - 1) k (omega arith) (omega arith))
 
     pub unscaled-is : (s : List ℕ) (n : ℕ) → n ≤ size → weighted m g f n s ≡ unscaled F n (seriesOf F s)
     unfolding weighted weightedAt unscaled
     unscaled-is s n l = tabulate-ext n _ _ λ k h.
-        product-value (getD s k 0) _ _ _ (sym (coeff-seriesOf F s k)) (hg .at (n - 1) (omega arith)) (hf .at k (omega arith)) (hf .at (n - 1 - k) (omega arith))
+        product-value (getD s k 0) _ _ _ (sym (coeff-seriesOf F s k)) (t .inverses .at (n - 1) (omega arith)) (t .factorials .at k (omega arith)) (t .factorials .at (n - 1 - k) (omega arith))
         ∙ ap (λ x. value F (F .series .coeff (seriesOf F s) k ⊗ x)) (inverse-quotient F (n - 1) k (omega arith) (omega arith))
+
+    -- what is written where the lengths fit
+    fitting : (words whole part out : List ℕ) → length out ≤ length words → length out ≤ length whole → length out ≤ length part → weighFits words whole part out ≡ true
+    unfolding weighFits
+    fitting words whole part out w h p = rw (le-leb (length out) (length words) w, le-leb (length out) (length whole) h, le-leb (length out) (length part) p)
+
+    pub scale-is : (c out : List ℕ) {out′ : List ℕ} → length out ≡ length c → length c ≤ size
+        → out′ ≡ cond (weighFits c f g out) (weighted m f g (length out) c) out → out′ ≡ scaledWords F c
+    scale-is c out is l q =
+        let hf = t .factorials .long in
+        let hg = t .inverses .long in
+        q ∙ rw (fitting c f g out (omega arith) (omega arith) (omega arith)) (scaled-is c (length out) is (omega arith))
+
+    pub unscale-is : (s out : List ℕ) {out′ : List ℕ} → length out ≤ length s → length out ≤ size
+        → out′ ≡ cond (weighFits s g f out) (weighted m g f (length out) s) out → out′ ≡ unscaled F (length out) (seriesOf F s)
+    unscale-is s out h l q =
+        let hf = t .factorials .long in
+        let hg = t .inverses .long in
+        q ∙ rw (fitting s g f out h (omega arith) (omega arith)) (unscaled-is s (length out) l)

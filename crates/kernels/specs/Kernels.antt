@@ -1,14 +1,21 @@
--- The lengths that fit the loops on words.
---     scaleFits, unscaleFits     the slices' lengths fit; where they do not, nothing is written
+-- Words weighed with the entries of two tables.
+--     weighted p whole part n x            the first n words of x: word k times entry n - 1 of whole, entry k of part and entry
+--                                          n - 1 - k of part, modulo p
+--     weighFits                            the words and both tables are as long as the result; else nothing is written
 -- Assumes nothing.
 use mathlib.Core.Bool.{Bool, _&&_}
 use mathlib.Core.List.{List}
-use Prim.Native.Nat.{ℕ}
-use lib.Dec.{leb, eqb}
-use lib.ListN.{length}
+use Prim.Native.Nat.{ℕ, _-_, _*_, _%_}
+use lib.Dec.{leb}
+use lib.ListN.{length, getD}
+use Rattle.lists.specs.Tabulate.{tabulate}
 
-unfoldable pub scaleFits : ℕ → (list out : List ℕ) → Bool
-scaleFits most list out = eqb (length out) (length list) && leb (length list) most
+unfoldable pub weightedAt : (p : ℕ) → (whole part : List ℕ) → (n : ℕ) → List ℕ → ℕ → ℕ
+weightedAt p whole part n x k = (getD x k 0 * getD whole (n - 1) 0 * getD part k 0 * getD part (n - 1 - k) 0) % p
 
-unfoldable pub unscaleFits : ℕ → (form out : List ℕ) → Bool
-unscaleFits most form out = leb (length out) (length form) && leb (length out) most
+unfoldable pub weighted : (p : ℕ) → (whole part : List ℕ) → (n : ℕ) → List ℕ → List ℕ
+weighted p whole part n x = tabulate n (weightedAt p whole part n x)
+
+unfoldable pub weighFits : (words whole part out : List ℕ) → Bool
+weighFits words whole part out =
+    leb (length out) (length words) && (leb (length out) (length whole) && leb (length out) (length part))

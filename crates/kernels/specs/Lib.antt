@@ -1,2 +1,1 @@
 pub mod Kernels
-pub mod Factorials

@@ -8,13 +8,13 @@ use native.Mathlib.Omega.{arith}
 use lib.Dec.{leb}
 use lib.ListN.{length, getD}
 use borrow.Author.Tests.{leb-false}
-use Rattle.refusal.specs.Limits.{maxWords}
 use Rattle.refusal.specs.Lowest.{lowest}
 use Rattle.refusal.specs.declared.Outcome.the-variants.{Done}
 use Rattle.refusal.proofs.First.{or-false}
+use Rattle.lists.specs.Bytes.{Bytes}
 use Rattle.lists.specs.Refused.{hasLoose, anyOf, Listed}
 use Rattle.lists.proofs.Search.{none-loose}
-use Rattle.layout.specs.Layout.{count, entryAt, listAt, listsOf}
+use Rattle.layout.specs.Layout.{count, entryAt, entryWords, listAt, listsOf}
 use Rattle.layout.specs.Calls.{checkRefusals}
 use Rattle.layout.specs.Workers.{Obeys, Passed}
 use Rattle.layout.specs.Places.{length-list, length-lists, list-at}
@@ -44,13 +44,14 @@ module _ (p : ℕ) where
         ap (hasLoose p) (sym (list-at s i l))
         ∙ none-loose-at (listsOf s) (album-fine p s e .1) i (let n = length-lists s in omega arith)
 
-    pub passed-listed : (i : ℕ) → i < count s → length (listAt s i) ≤ maxWords → Listed p maxWords (listAt s i)
-    passed-listed i l short =
+    pub passed-listed : (most i : ℕ) → i < count s → length (listAt s i) ≤ most → Listed p most (listAt s i)
+    passed-listed most i l short =
         let some : 0 < length (listAt s i) = omega (arith, length-list s i) in
         record { some = some; short = short; words = none-loose p (listAt s i) (positive (listAt s i) some (tight i l)) (tight i l) }
 
-    -- bytes are below 256, so no list is too long
-    pub passed-each : ((k : ℕ) → getD s k 0 < 256) → (i : ℕ) → i < length (listsOf s) → Listed p maxWords (getD (listsOf s) i [])
-    passed-each bytes i l =
+    -- its numbers are bytes, so no list has more words than an entry can name
+    pub passed-each : Bytes s → (most : ℕ) → entryWords ≤ most
+        → (i : ℕ) → i < length (listsOf s) → Listed p most (getD (listsOf s) i [])
+    passed-each bytes most room i l =
         let k : i < count s = omega (arith, length-lists s) in
-        rw (list-at s i k) (passed-listed i k (omega (arith, length-list s i, bytes (entryAt i))))
+        rw (list-at s i k) (passed-listed most i k (omega (arith, length-list s i, bytes (entryAt i))))

@@ -1,8 +1,9 @@
 -- The layout of an album, byte by byte, and the lists that its bytes say.
 --     count             byte 0: the number N of lists
---     entryAt           where entry k stands: three bytes each, after the count
---     degreeAt          the naive degree that entry k names
---     offsetAt          the offset that entry k names
+--     entryAt           where entry k stands: after the count and k entries of entryBytes bytes
+--     entryWords        the most words of a list that an entry can name: its naive degree is one byte
+--     degreeAt          the naive degree that entry k names: its first byte
+--     offsetAt          the offset that entry k names: the two bytes after it
 --     startAt           where body k has to start: after the contents and the bodies before it
 --     offsetsAgree      the first k entries name those places
 --     wrongCount        the album is empty, or its first byte is 0 or above the limit
@@ -16,13 +17,18 @@ use mathlib.Core.List.{List, [], _∷_}
 use Prim.Native.Nat.{ℕ, zero, suc, _+_, _*_}
 use lib.Dec.{eqb, ltb}
 use lib.ListN.{length, getD}
-use Rattle.lists.specs.Bytes.{wordAt, wordsAt}
+use Rattle.refusal.specs.Limits.{entryBytes}
+use Rattle.lists.specs.Bytes.{byteValues, wordAt, wordsAt}
 
 abbrev pub count : List ℕ → ℕ
 count s = getD s 0 0
 
 abbrev pub entryAt : ℕ → ℕ
-entryAt k = 1 + 3 * k
+entryAt k = 1 + entryBytes * k
+
+-- as many as a byte has values
+abbrev pub entryWords : ℕ
+entryWords = byteValues
 
 abbrev pub degreeAt : List ℕ → ℕ → ℕ
 degreeAt s k = getD s (entryAt k) 0

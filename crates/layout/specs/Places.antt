@@ -20,8 +20,8 @@ use borrow.Author.Tests.{eqb-true, eqb-false, ltb-false, not-false, eq-eqb, ne-e
 use Rattle.refusal.specs.Limits.{maxLists}
 use Rattle.refusal.proofs.First.{or-false}
 use Rattle.lists.specs.Tabulate.{tabulate, length-tabulate, tabulate-ext}
-use Rattle.lists.specs.Bytes.{wordAt, wordsAt}
-use Rattle.layout.specs.Layout.{count, entryAt, degreeAt, offsetAt, startAt, offsetsAgree, wrongCount, brokenLayout, listAt, listsFrom, listsOf}
+use Rattle.lists.specs.Bytes.{Bytes, wordAt, wordsAt}
+use Rattle.layout.specs.Layout.{count, entryAt, entryWords, degreeAt, offsetAt, startAt, offsetsAgree, wrongCount, brokenLayout, listAt, listsFrom, listsOf}
 use Rattle.layout.specs.Workers.{Obeys}
 
 and-true : (a b : Bool) → (a && b) ≡ true → (a ≡ true) × (b ≡ true)
@@ -47,8 +47,8 @@ module _ (s : List ℕ) where
       go (yes e) up = omega (arith, start-next k, ap (λ j. startAt s j + 2 * (degreeAt s j + 1)) e)
       go (no f) up = omega (arith, start-next k, up (omega arith))
 
-  -- bytes are below 256
-  pub start-high : ((k : ℕ) → getD s k 0 < 256) → (k : ℕ) → startAt s k ≤ entryAt (count s) + 512 * k
+  -- its numbers are bytes
+  pub start-high : Bytes s → (k : ℕ) → startAt s k ≤ entryAt (count s) + 2 * entryWords * k
   unfolding startAt
   start-high bytes zero = omega arith
   start-high bytes (suc k) = omega (arith, start-high bytes k, bytes (entryAt k))

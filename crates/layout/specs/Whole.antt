@@ -14,7 +14,7 @@ use lib.Seq.{drop-cons, drop-length}
 use Rattle.refusal.specs.Limits.{maxLists}
 use Rattle.lists.specs.Degrees.{naiveDegree}
 use Rattle.lists.specs.Tabulate.{tabulate}
-use Rattle.lists.specs.Bytes.{wordAt, wordsAt, bytesOf}
+use Rattle.lists.specs.Bytes.{Bytes, wordAt, wordsAt, bytesOf}
 use Rattle.layout.specs.Layout.{count, entryAt, degreeAt, offsetAt, startAt, wrongCount, brokenLayout, listAt, listsFrom, listsOf}
 use Rattle.layout.specs.Workers.{Obeys}
 use Rattle.layout.specs.Places.{start-next, start-up, words-next, length-list, length-lists, entry-inside, obeys}
@@ -26,7 +26,7 @@ two-bytes a b l =
     let m : (a + 256 * b) % 256 < 256 = mod-lt (a + 256 * b) (lit< tt) in
     (omega arith, omega arith)
 
-module _ (s : List ℕ) (o : Obeys s) (bytes : (k : ℕ) → getD s k 0 < 256) where
+module _ (s : List ℕ) (o : Obeys s) (bytes : Bytes s) where
   drop-next : (i : ℕ) → i < length s → drop i s ≡ getD s i 0 ∷ drop (i + 1) s
   drop-next i l = drop-cons s i 0 l ∙ ap (λ n. getD s i 0 ∷ drop n s) (sym (add-one i))
 
@@ -117,6 +117,6 @@ module _ (s : List ℕ) (o : Obeys s) (bytes : (k : ℕ) → getD s k 0 < 256) w
       ∙ ap (λ t. count s ∷ t) rest-back
       ∙ sym (drop-next 0 (o .some))
 
-pub album-whole : (s : List ℕ) → ((k : ℕ) → getD s k 0 < 256) → wrongCount maxLists s ≡ false → brokenLayout s ≡ false
+pub album-whole : (s : List ℕ) → Bytes s → wrongCount maxLists s ≡ false → brokenLayout s ≡ false
     → albumOf (listsOf s) ≡ s
 album-whole s bytes counted laid = back s (obeys s counted laid) bytes

@@ -2,8 +2,8 @@
 --     entriesFrom      the entries of lists whose first body starts at a place
 --     bodiesOf         the bodies of lists
 --     albumOf          the album of lists: their count, their entries and their bodies
---     Fits             a list that an album can hold: 1 to 256 words of 16 bits
---     Writable         1 to 16 such lists
+--     Fits             a list that an album can hold: one or more words of 16 bits, at most as many as an entry can name
+--     Writable         one or more such lists, at most as many as the limit
 -- Theorems on the album of such lists, for the reader of the format; the code needs none of them:
 --     album-read       its lists are the given ones, word for word
 --     album-obeys      it obeys the layout
@@ -20,11 +20,11 @@ use native.Mathlib.Omega.{arith}
 use lib.Dec.{lit<}
 use lib.ListN.{length, getD, length-append}
 use lib.Seq.{getD-append-add}
-use Rattle.refusal.specs.Limits.{maxLists, maxWords}
+use Rattle.refusal.specs.Limits.{maxLists, entryBytes}
 use Rattle.lists.specs.Degrees.{naiveDegree}
 use Rattle.lists.specs.Tabulate.{tabulated}
-use Rattle.lists.specs.Bytes.{wordAt, wordsAt, bytesOf, length-bytesOf}
-use Rattle.layout.specs.Layout.{count, entryAt, degreeAt, offsetAt, startAt, offsetsAgree, wrongCount, brokenLayout, listAt, listsFrom, listsOf}
+use Rattle.lists.specs.Bytes.{Bytes, byteValues, wordAt, wordsAt, bytesOf, length-bytesOf}
+use Rattle.layout.specs.Layout.{count, entryAt, entryWords, degreeAt, offsetAt, startAt, offsetsAgree, wrongCount, brokenLayout, listAt, listsFrom, listsOf}
 use Rattle.layout.specs.Places.{start-next, agree-next, right-count, right-layout}
 
 unfoldable pub entriesFrom : ℕ → List (List ℕ) → List ℕ
@@ -40,7 +40,7 @@ albumOf lists = length lists ∷ entriesFrom (entryAt (length lists)) lists ++ b
 
 pub record Fits (c : List ℕ) : Type 0 where
   pub some : 1 ≤ length c
-  pub short : length c ≤ maxWords
+  pub short : length c ≤ entryWords
   pub words : (j : ℕ) → getD c j 0 < 65536
 
 abbrev AllFit : List (List ℕ) → Type 0
@@ -58,7 +58,7 @@ rest-fit : (c : List ℕ) (lists : List (List ℕ)) → AllFit (c ∷ lists) →
 rest-fit c lists w k l = w (suc k) (omega arith)
 
 -- ---- lengths
-length-entries : (at : ℕ) (lists : List (List ℕ)) → length (entriesFrom at lists) ≡ 3 * length lists
+length-entries : (at : ℕ) (lists : List (List ℕ)) → length (entriesFrom at lists) ≡ entryBytes * length lists
 unfolding entriesFrom
 length-entries at [] = refl
 length-entries at (c ∷ lists) = omega (arith, length-entries (at + 2 * length c) lists)
@@ -97,7 +97,7 @@ unfolding naiveDegree
 naive-degree c w = omega (arith, w .some)
 
 says : (lists : List (List ℕ)) → AllFit lists → (s front mid : List ℕ) (k at : ℕ) → s ≡ front ++ (entriesFrom at lists ++ (mid ++ bodiesOf lists))
-    → length front ≡ entryAt k → length front + 3 * length lists + length mid ≡ at → Says s k at lists
+    → length front ≡ entryAt k → length front + entryBytes * length lists + length mid ≡ at → Says s k at lists
 unfolding entriesFrom bodiesOf
 says [] w s front mid k at e f m =
     let q : length s ≡ length (front ++ (mid ++ [])) = ap length e in
@@ -142,7 +142,7 @@ says (c ∷ lists) w s front mid k at e f m = (
     front-length : length (front ++ entry) ≡ entryAt (suc k)
     front-length = omega (arith, length-append front entry)
 
-    next : length (front ++ entry) + 3 * length lists + length (mid ++ bytesOf c) ≡ at + 2 * length c
+    next : length (front ++ entry) + entryBytes * length lists + length (mid ++ bytesOf c) ≡ at + 2 * length c
     next = omega (arith, length-append front entry, length-append mid (bytesOf c), length-bytesOf c)
 
 -- ---- such an album obeys the layout, and its lists are these
@@ -175,10 +175,7 @@ said s (c ∷ lists) k at e t h =
     next = omega arith
 
 -- ---- its bytes are bytes
-abbrev Bytes : List ℕ → Type 0
-Bytes l = (k : ℕ) → getD l k 0 < 256
-
-bytes-cons : (x : ℕ) (l : List ℕ) → x < 256 → Bytes l → Bytes (x ∷ l)
+bytes-cons : (x : ℕ) (l : List ℕ) → x < byteValues → Bytes l → Bytes (x ∷ l)
 bytes-cons x l h b zero = h
 bytes-cons x l h b (suc k) = b k
 
@@ -202,7 +199,7 @@ bytes-bodies [] w k = omega arith
 bytes-bodies (c ∷ lists) w k =
     bytes-append (bytesOf c) (bodiesOf lists) (bytes-words c (first-fits c lists w .words)) (bytes-bodies lists (rest-fit c lists w)) k
 
-bytes-entries : (lists : List (List ℕ)) (at : ℕ) → AllFit lists → at + 512 * length lists < 65536 → Bytes (entriesFrom at lists)
+bytes-entries : (lists : List (List ℕ)) (at : ℕ) → AllFit lists → at + 2 * entryWords * length lists < 65536 → Bytes (entriesFrom at lists)
 unfolding entriesFrom
 bytes-entries [] at w h k = omega arith
 bytes-entries (c ∷ lists) at w h k =
@@ -242,7 +239,7 @@ module _ (lists : List (List ℕ)) (w : Writable lists) where
         right-layout (albumOf lists) (album-laid .ends ∙ ap (startAt (albumOf lists)) n) (ap (offsetsAgree (albumOf lists)) (sym n) ∙ album-laid .agree),
       )
 
-  pub album-is-bytes : (k : ℕ) → getD (albumOf lists) k 0 < 256
+  pub album-is-bytes : Bytes (albumOf lists)
   unfolding albumOf
   album-is-bytes =
       let n = entryAt (length lists) in

@@ -5,7 +5,7 @@ ghost use Prim.Native.Nat.{_+_, _<_};
 ghost use lib.ListN.{length};
 ghost use Rattle.refusal.specs.Refusal.{reply, outcomeReply};
 ghost use Rattle.refusal.specs.Lowest.{lowest};
-ghost use Rattle.field.specs.Field.{p};
+ghost use Rattle.field.specs.Fields.{p, modulus};
 ghost use Rattle.lists.specs.Refused.{hasLoose, anyOf};
 ghost use Rattle.lists.specs.Bytes.{wordAt};
 ghost use Rattle.layout.specs.Layout.{listsOf};
@@ -15,21 +15,21 @@ use refusal::Outcome;
 use refusal::Refusal;
 
 // What every call on the album refuses.
-pub fn judge_album(album: &[u8]) -> Outcome
-    ensures { λ r. ⌜ r ≡ lowest (albumRefusals p (now (album .entry))) ⌝ }
+pub fn judge_album(field: u8, album: &[u8]) -> Outcome
+    ensures { λ r. ⌜ r ≡ lowest (albumRefusals (modulus field) (now (album .entry))) ⌝ }
 {
     if let Outcome::Refused(why) = judge_layout(album) {
         return Outcome::Refused(why);
     }
-    if has_loose_word(album) {
+    if has_loose_word(field, album) {
         return Outcome::Refused(Refusal::LooseWord);
     }
     Outcome::Done
 }
 
 // What a call on list i refuses.
-pub fn judge_call(album: &[u8], i: usize) -> Outcome
-    ensures { λ r. ⌜ r ≡ lowest (checkRefusals p (now (album .entry)) i) ⌝ }
+pub fn judge_call(field: u8, album: &[u8], i: usize) -> Outcome
+    ensures { λ r. ⌜ r ≡ lowest (checkRefusals (modulus field) (now (album .entry)) i) ⌝ }
 {
     if let Outcome::Refused(why) = judge_layout(album) {
         return Outcome::Refused(why);
@@ -37,7 +37,7 @@ pub fn judge_call(album: &[u8], i: usize) -> Outcome
     if wide(album[0]) <= i {
         return Outcome::Refused(Refusal::Index);
     }
-    if has_loose_word(album) {
+    if has_loose_word(field, album) {
         return Outcome::Refused(Refusal::LooseWord);
     }
     Outcome::Done
@@ -47,16 +47,30 @@ pub fn judge_call(album: &[u8], i: usize) -> Outcome
 pub fn check(album: &[u8], i: usize) -> Outcome
     ensures { λ r. ⌜ outcomeReply r ≡ reply (lowest (checkRefusals p (now (album .entry)) i)) [] ⌝ }
 {
-    judge_call(album, i)
+    check_over(0, album, i)
+}
+
+// The same over a field.
+pub fn check_over(field: u8, album: &[u8], i: usize) -> Outcome
+    ensures { λ r. ⌜ outcomeReply r ≡ reply (lowest (checkRefusals (modulus field) (now (album .entry)) i)) [] ⌝ }
+{
+    judge_call(field, album, i)
 }
 
 // The bytes of list i, as a part of the album; the empty part when refused.
 pub fn body(album: &[u8], i: usize) -> &[u8]
     ensures { λ r. ⌜ now r ≡ bodyOf p (now (album .entry)) i ⌝ }
 {
-    match judge_call(album, i) {
+    body_over(0, album, i)
+}
+
+// The same over a field.
+pub fn body_over(field: u8, album: &[u8], i: usize) -> &[u8]
+    ensures { λ r. ⌜ now r ≡ bodyOf (modulus field) (now (album .entry)) i ⌝ }
+{
+    match judge_call(field, album, i) {
         Outcome::Done => {
-            let e = 1 + 3 * i;
+            let e = 1 + refusal::ENTRY_BYTES * i;
             let from = word(album, e + 1);
             let to = from + 2 * (wide(album[e]) + 1);
             &album[from..to]
@@ -94,13 +108,13 @@ fn judge_layout(album: &[u8]) -> Outcome
     if refusal::MAX_LISTS < n {
         return Outcome::Refused(Refusal::Count);
     }
-    let mut at = 1 + 3 * n;
+    let mut at = 1 + refusal::ENTRY_BYTES * n;
     if album.len() < at {
         return Outcome::Refused(Refusal::Contents);
     }
     let mut k = 0;
     while k < n {
-        let e = 1 + 3 * k;
+        let e = 1 + refusal::ENTRY_BYTES * k;
         if word(album, e + 1) != at {
             return Outcome::Refused(Refusal::Contents);
         }
@@ -114,13 +128,14 @@ fn judge_layout(album: &[u8]) -> Outcome
 }
 
 // Whether a list of the album has a loose word: the bodies' words stand one after the other up to the end.
-fn has_loose_word(album: &[u8]) -> bool
+fn has_loose_word(field: u8, album: &[u8]) -> bool
     requires { ⌜ Obeys (now album) ⌝ }
-    ensures { λ r. ⌜ r ≡ anyOf (hasLoose p) (listsOf (now (album .entry))) ⌝ }
+    ensures { λ r. ⌜ r ≡ anyOf (hasLoose (modulus field)) (listsOf (now (album .entry))) ⌝ }
 {
-    let mut at = 1 + 3 * wide(album[0]);
+    let p = field::modulus_of(field) as usize;
+    let mut at = 1 + refusal::ENTRY_BYTES * wide(album[0]);
     while at + 1 < album.len() {
-        if 65521 <= word(album, at) {
+        if p <= word(album, at) {
             return true;
         }
         at += 2;

@@ -1,4 +1,6 @@
 -- Words as bytes: two bytes to a word, low byte first.
+--     byteValues      the number of values of a byte
+--     Bytes           every number of a list is a byte
 --     wordAt          the word at a place of some bytes
 --     wordsAt         n words that stand one after the other from a place on
 --     oddBytes        the number of bytes is odd, so they are no words
@@ -16,8 +18,14 @@ use lib.Dec.{eqb}
 use lib.ListN.{length, getD}
 use Rattle.lists.specs.Tabulate.{tabulate, length-tabulate, getD-tabulate}
 
+abbrev pub byteValues : ℕ
+byteValues = 256
+
+abbrev pub Bytes : List ℕ → Type 0
+Bytes s = (k : ℕ) → getD s k 0 < byteValues
+
 abbrev pub wordAt : List ℕ → ℕ → ℕ
-wordAt s at = getD s at 0 + 256 * getD s (at + 1) 0
+wordAt s at = getD s at 0 + byteValues * getD s (at + 1) 0
 
 unfoldable pub wordsAt : List ℕ → (at n : ℕ) → List ℕ
 wordsAt s at n = tabulate n (λ j. wordAt s (at + 2 * j))
@@ -33,7 +41,7 @@ wordsOf s = wordsAt s 0 (wordCount s)
 
 unfoldable pub bytesOf : List ℕ → List ℕ
 bytesOf [] = []
-bytesOf (w ∷ words) = w % 256 ∷ w / 256 ∷ bytesOf words
+bytesOf (w ∷ words) = w % byteValues ∷ w / byteValues ∷ bytesOf words
 
 pub length-wordsOf : (s : List ℕ) → length (wordsOf s) ≡ wordCount s
 unfolding wordsOf wordsAt

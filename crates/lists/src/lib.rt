@@ -2,8 +2,8 @@
 ghost use mathlib.Core.Path.{_≡_};
 ghost use mathlib.Core.List.{[], _∷_};
 ghost use Prim.Native.Nat.{max, min};
-ghost use Rattle.refusal.specs.Limits.{maxWords};
 ghost use Rattle.refusal.specs.Lowest.{lowest};
+ghost use Rattle.field.specs.Fields.{modulus, longest};
 ghost use Rattle.lists.specs.Degrees.{significant};
 ghost use Rattle.lists.specs.Refused.{wrongLength, hasLoose, listRefusals};
 use refusal::Outcome;
@@ -29,19 +29,19 @@ pub fn smaller(a: usize, b: usize) -> usize
     if a < b { a } else { b }
 }
 
-// Whether a list has 0 words or more than 256.
-fn wrong_length(list: &[u16]) -> bool
-    ensures { λ r. ⌜ r ≡ wrongLength maxWords (now (list .entry)) ⌝ }
+// Whether a list has 0 words, or more than a list over the field may have.
+fn wrong_length(field: u8, list: &[u16]) -> bool
+    ensures { λ r. ⌜ r ≡ wrongLength (longest field) (now (list .entry)) ⌝ }
 {
     if list.len() == 0 {
         return true;
     }
-    refusal::MAX_WORDS < list.len()
+    field::longest_of(field) < list.len()
 }
 
-// Whether a word of a list is 65,521 or more: whether the largest is. The loop has one way out, so that LLVM takes eight words at a time.
-fn has_loose(list: &[u16]) -> bool
-    ensures { λ r. ⌜ r ≡ hasLoose 65521 (now (list .entry)) ⌝ }
+// Whether a word of a list is p or more: whether the largest is. The loop has one way out, so that LLVM takes eight words at a time.
+fn has_loose(field: u8, list: &[u16]) -> bool
+    ensures { λ r. ⌜ r ≡ hasLoose (modulus field) (now (list .entry)) ⌝ }
 {
     let mut largest: u16 = 0;
     let mut i = 0;
@@ -52,7 +52,7 @@ fn has_loose(list: &[u16]) -> bool
         }
         i += 1;
     }
-    65521 <= largest
+    field::modulus_of(field) <= largest
 }
 
 // The number of words up to the last one that is not 0, from the top.
@@ -70,32 +70,32 @@ pub fn significant_words(list: &[u16]) -> usize
 }
 
 // What a call refuses in its one list.
-pub fn judge_list(list: &[u16]) -> Outcome
-    ensures { λ r. ⌜ r ≡ lowest (listRefusals 65521 maxWords (now (list .entry) ∷ [])) ⌝ }
+pub fn judge_list(field: u8, list: &[u16]) -> Outcome
+    ensures { λ r. ⌜ r ≡ lowest (listRefusals (modulus field) (longest field) (now (list .entry) ∷ [])) ⌝ }
 {
-    if wrong_length(list) {
+    if wrong_length(field, list) {
         return Outcome::Refused(Refusal::Length);
     }
-    if has_loose(list) {
+    if has_loose(field, list) {
         return Outcome::Refused(Refusal::LooseWord);
     }
     Outcome::Done
 }
 
 // What a call refuses in its two lists.
-pub fn judge_lists(f: &[u16], g: &[u16]) -> Outcome
-    ensures { λ r. ⌜ r ≡ lowest (listRefusals 65521 maxWords (now (f .entry) ∷ now (g .entry) ∷ [])) ⌝ }
+pub fn judge_lists(field: u8, f: &[u16], g: &[u16]) -> Outcome
+    ensures { λ r. ⌜ r ≡ lowest (listRefusals (modulus field) (longest field) (now (f .entry) ∷ now (g .entry) ∷ [])) ⌝ }
 {
-    if wrong_length(f) {
+    if wrong_length(field, f) {
         return Outcome::Refused(Refusal::Length);
     }
-    if wrong_length(g) {
+    if wrong_length(field, g) {
         return Outcome::Refused(Refusal::Length);
     }
-    if has_loose(f) {
+    if has_loose(field, f) {
         return Outcome::Refused(Refusal::LooseWord);
     }
-    if has_loose(g) {
+    if has_loose(field, g) {
         return Outcome::Refused(Refusal::LooseWord);
     }
     Outcome::Done

@@ -15,8 +15,9 @@ use Rattle.lists.specs.Lists.{binomial, scaled, unscaled}
 use Rattle.lists.specs.Operations.{product, raise}
 use Rattle.lists.specs.Words.{seriesOf, coeff-seriesOf, scaledWords, length-scaledWords, seriesOf-scaledWords}
 use Rattle.lists.specs.Products.{ones, product-unscaled, raise-product}
-use Rattle.kernels.specs.Kernels.{scaleFits, unscaleFits}
-use Rattle.kernels.proofs.Fits.{scale-is, unscale-is}
+use Rattle.tables.specs.Factorials.{Tables}
+use Rattle.kernels.specs.Kernels.{weighFits, weighted}
+use Rattle.kernels.proofs.Weights.{scale-is, unscale-is}
 use Rattle.convolution.specs.Convolution.{convolveFits, convolution}
 use Rattle.convolution.proofs.Convolution.{length-convolution, convolve-is}
 use Rattle.products.specs.Workers.{ProductFits, RaiseFits}
@@ -28,7 +29,7 @@ ones-is n m l =
     tabulated (take (suc m) (replicate n 1)) (suc m) (λ k. 1) (simp (length-take, length-replicate) (omega arith))
     (λ k j. rw getD-take (getD-replicate n k 1 0 (omega arith)))
 
-module _ (F : PrimeField) (most : ℕ) where
+module _ (F : PrimeField) where
   open CommRing (scalars F) using (mul as _⊗_)
   open CommRing (F .series .ring) using (mul as _*ˢ_)
 
@@ -57,32 +58,34 @@ module _ (F : PrimeField) (most : ℕ) where
       ∙ ap (λ k. unscaled F k (scaled F f *ˢ scaled F g)) (omega arith)
       ∙ sym (product-unscaled F f g)
 
-  -- the scaled forms of f and g in a and b, their product in s, and back into out
-  pub product-is : (f g a b s out : List ℕ) {a′ b′ s′ out′ : List ℕ} → ProductFits most f g out
+  -- the scaled forms of f and g in a and b, their product in s, and back into out; `room` is how many words the product takes
+  pub product-is : {p : ℕ} → F .p ≡ p → (most room : ℕ) → most ≤ F .p → most ≤ room → (whole part : List ℕ) → Tables F most whole part
+      → (f g a b s out : List ℕ) {a′ b′ s′ out′ : List ℕ} → ProductFits most f g out
       → length a ≡ length f → length b ≡ length g → length s ≡ length out
-      → a′ ≡ cond (scaleFits most f a) (scaledWords F f) a → b′ ≡ cond (scaleFits most g b) (scaledWords F g) b
-      → s′ ≡ cond (convolveFits most a′ b′ s) (convolution F a′ b′) s
-      → out′ ≡ cond (unscaleFits most s′ out) (unscaled F (length out) (seriesOf F s′)) out
+      → a′ ≡ cond (weighFits f whole part a) (weighted p whole part (length a) f) a
+      → b′ ≡ cond (weighFits g whole part b) (weighted p whole part (length b) g) b
+      → s′ ≡ cond (convolveFits room a′ b′ s) (convolution F a′ b′) s
+      → out′ ≡ cond (weighFits s′ part whole out) (weighted p part whole (length out) s′) out
       → out′ ≡ product F f g
-  product-is f g a b s out {a′} {b′} {s′} fits la lb ls qa qb qs qo =
-      let ea = scale-is F most f a la (omega arith) qa in
-      let eb = scale-is F most g b lb (omega arith) qb in
+  product-is at most room short in-room whole part t f g a b s out {a′} {b′} {s′} fits la lb ls qa qb qs qo =
+      let ea = scale-is F at most short whole part t f a la (omega arith) qa in
+      let eb = scale-is F at most short whole part t g b lb (omega arith) qb in
       let na : length a′ ≡ length f = ap length ea ∙ length-scaledWords F f in
       let nb : length b′ ≡ length g = ap length eb ∙ length-scaledWords F g in
-      let es = convolve-is F most a′ b′ s (omega arith) (omega arith) (omega arith) qs in
+      let es = convolve-is F room a′ b′ s (omega arith) (omega arith) (omega arith) qs in
       let ns : length s′ ≡ length a′ + length b′ - 1 = ap length es ∙ length-convolution F a′ b′ in
-      unscale-is F most s′ out (omega arith) (fits .short) qo
+      unscale-is F at most short whole part t s′ out (omega arith) (fits .short) qo
       ∙ ap (λ x. unscaled F (length out) (seriesOf F x)) (es ∙ ap₂ (convolution F) ea eb)
       ∙ product-words f g (length out) (fits .first) (fits .second) (fits .size)
 
-  -- f times the first m of an array of ones
-  pub raise-is : {p : ℕ} (f out : List ℕ) (m : ℕ) {out′ : List ℕ} → RaiseFits p most f out → m ≡ length out - length f + 1
-      → out′ ≡ product F f (take m (replicate most 1)) → out′ ≡ raise F (naiveDegree out) f
+  -- f times the first m of an array of ones as long as the longest list, or longer
+  pub raise-is : (room : ℕ) {p most : ℕ} → most ≤ room → (f out : List ℕ) (m : ℕ) {out′ : List ℕ} → RaiseFits p most f out → m ≡ length out - length f + 1
+      → out′ ≡ product F f (take m (replicate room 1)) → out′ ≡ raise F (naiveDegree out) f
   unfolding naiveDegree
-  raise-is f out m fits e q =
+  raise-is room in-room f out m fits e q =
       q
-      ∙ ap (λ k. product F f (take k (replicate most 1))) size
-      ∙ ap (product F f) (ones-is most (naiveDegree out - naiveDegree f) (omega arith))
+      ∙ ap (λ k. product F f (take k (replicate room 1))) size
+      ∙ ap (product F f) (ones-is room (naiveDegree out - naiveDegree f) (omega arith))
       ∙ sym (raise-product F (naiveDegree out) f (omega arith))
     where
       size : m ≡ suc (naiveDegree out - naiveDegree f)

@@ -2,9 +2,10 @@
 --     maxDegree     the largest naive degree of a list
 --     maxWords      the largest number of words of a list
 --     maxLists      the largest number of lists of an album
+--     entryBytes    the number of bytes of an album's entry
 --     maxBytes      the largest number of bytes of an album
 -- Assumes nothing.
-use Prim.Native.Nat.{ℕ}
+use Prim.Native.Nat.{ℕ, _+_, _*_}
 
 abbrev pub maxDegree : ℕ
 maxDegree = 255
@@ -15,6 +16,9 @@ maxWords = 256
 abbrev pub maxLists : ℕ
 maxLists = 16
 
--- the count, 16 entries of 3 bytes, and 16 bodies of 256 words of 2 bytes
+abbrev pub entryBytes : ℕ
+entryBytes = 3
+
+-- the count, and for each list an entry and a body of words of 2 bytes: 8,241
 abbrev pub maxBytes : ℕ
-maxBytes = 8241
+maxBytes = 1 + maxLists * (entryBytes + 2 * maxWords)

@@ -2,15 +2,17 @@
 ghost use mathlib.Core.Path.{_≡_};
 ghost use Rattle.refusal.specs.Refusal.{number, outcomeNumber};
 
-// The longest list: 256 words, of naive degree 255.
-pub const MAX_WORDS: usize = 256;
-
+// The longest list.
 pub const MAX_DEGREE: usize = 255;
 
-// The largest album: 16 lists of 256 words.
+pub const MAX_WORDS: usize = MAX_DEGREE + 1;
+
+// The largest album: the count, and for each list an entry and a body of words of 2 bytes.
 pub const MAX_LISTS: usize = 16;
 
-pub const MAX_BYTES: usize = 8241;
+pub const ENTRY_BYTES: usize = 3;
+
+pub const MAX_BYTES: usize = 1 + MAX_LISTS * (ENTRY_BYTES + 2 * MAX_WORDS);
 
 pub enum Refusal {
     Count,

@@ -1,4 +1,4 @@
--- The report fits: every number has at most five digits, an album at most 16 lists, and h at most 256 words.
+-- The report fits: every number has at most five digits.
 -- Assumes nothing.
 use mathlib.Core.Path.{_≡_, refl}
 use mathlib.Core.List.{List, [], _∷_, map}

@@ -28,7 +28,7 @@ use Rattle.layout.specs.Workers.{Passed}
 use Rattle.gcd.specs.declared.Gcd.{Gcd}
 use Rattle.gcd.specs.declared.Gcd.the-variants as G
 use Rattle.gcd.specs.Calls.{gcdReply}
-use Rattle.album_gcd.specs.Calls.{allZero, albumGcdRefusals, albumGcdValues, AlbumGreatestSo, AlbumGreatest}
+use Rattle.album_gcd.specs.Calls.{allZero, albumGcdRows, albumGcdValues, AlbumGreatestSo, AlbumGreatest}
 use Rattle.album_gcd.proofs.Judging.{judged-zero, judged-done}
 use Rattle.album_gcd.proofs.Zeros.{nonzero}
 use Rattle.report_text.specs.Text.{decimal, line}
@@ -56,16 +56,16 @@ common-power-short lists most l e each =
     go i (yes k) = each i k
     go i (no f) = rw (List·getD-eq-default lists [] {n = i} (omega arith)) (omega arith)
 
-module _ (F : PrimeField) (s h : List ℕ) (e : Passed (F .p) s) (q : length h ≡ maxWords) where
-  reply-zero : allZero (listsOf s) ≡ true → reply (lowest (albumGcdRefusals (F .p) s h)) (albumGcdValues F (listsOf s)) ≡ record { number = 9; values = [] }
-  reply-zero z = ap (λ o. reply o (albumGcdValues F (listsOf s))) (sym (judged-zero (F .p) s h e z))
+module _ (F : PrimeField) (most : ℕ) (s h : List ℕ) (e : Passed (F .p) s) (q : length h ≡ most) where
+  reply-zero : allZero (listsOf s) ≡ true → reply (lowest (albumGcdRows (F .p) most s h)) (albumGcdValues F (listsOf s)) ≡ record { number = 9; values = [] }
+  reply-zero z = ap (λ o. reply o (albumGcdValues F (listsOf s))) (sym (judged-zero (F .p) most s h e z))
 
   reply-done : allZero (listsOf s) ≡ false
-      → reply (lowest (albumGcdRefusals (F .p) s h)) (albumGcdValues F (listsOf s)) ≡ record { number = 0; values = albumGcdValues F (listsOf s) }
-  reply-done z = ap (λ o. reply o (albumGcdValues F (listsOf s))) (sym (judged-done (F .p) s h e z q))
+      → reply (lowest (albumGcdRows (F .p) most s h)) (albumGcdValues F (listsOf s)) ≡ record { number = 0; values = albumGcdValues F (listsOf s) }
+  reply-done z = ap (λ o. reply o (albumGcdValues F (listsOf s))) (sym (judged-done (F .p) most s h e z q))
 
   -- a refusal says that all lists are zero
-  module _ (why : Refusal) (a : gcdReply (G.Refused why) ≡ reply (lowest (albumGcdRefusals (F .p) s h)) (albumGcdValues F (listsOf s))) where
+  module _ (why : Refusal) (a : gcdReply (G.Refused why) ≡ reply (lowest (albumGcdRows (F .p) most s h)) (albumGcdValues F (listsOf s))) where
     pub refused-zero : allZero (listsOf s) ≡ true
     refused-zero = go (allZero (listsOf s)) refl
       where
@@ -79,8 +79,8 @@ module _ (F : PrimeField) (s h : List ℕ) (e : Passed (F .p) s) (q : length h �
     refused-line = ap (λ n. line (⟨refused⟩ ∷ decimal n ∷ [])) (ap (λ r. r .number) (a ∙ reply-zero refused-zero))
 
   module _ {h′ : List ℕ} (w : NaiveDegree) (c k : ℕ)
-      (a : gcdReply (G.Done w c k) ≡ reply (lowest (albumGcdRefusals (F .p) s h)) (albumGcdValues F (listsOf s)))
-      (b : h′ ≡ written (lowest (albumGcdRefusals (F .p) s h)) (padded maxWords (albumGcd F (listsOf s) .list)) h)
+      (a : gcdReply (G.Done w c k) ≡ reply (lowest (albumGcdRows (F .p) most s h)) (albumGcdValues F (listsOf s)))
+      (b : h′ ≡ written (lowest (albumGcdRows (F .p) most s h)) (padded most (albumGcd F (listsOf s) .list)) h)
       (g : AlbumGreatestSo F (listsOf s) h′ (w .0) c) where
     done-some : allZero (listsOf s) ≡ false
     done-some = go (allZero (listsOf s)) refl
@@ -92,11 +92,11 @@ module _ (F : PrimeField) (s h : List ℕ) (e : Passed (F .p) s) (q : length h �
     values : w .0 ∷ c ∷ k ∷ [] ≡ albumGcdValues F (listsOf s)
     values = ap (λ r. r .values) (a ∙ reply-done done-some)
 
-    slice : h′ ≡ padded maxWords (albumGcd F (listsOf s) .list)
-    slice = b ∙ ap (λ o. written o (padded maxWords (albumGcd F (listsOf s) .list)) h) (sym (judged-done (F .p) s h e done-some q))
+    slice : h′ ≡ padded most (albumGcd F (listsOf s) .list)
+    slice = b ∙ ap (λ o. written o (padded most (albumGcd F (listsOf s) .list)) h) (sym (judged-done (F .p) most s h e done-some q))
 
     word : (j : ℕ) → getD (albumGcd F (listsOf s) .list) j 0 ≡ getD h′ j 0
-    word j = sym (ap (λ l. getD l j 0) slice ∙ getD-padded maxWords (albumGcd F (listsOf s) .list) j)
+    word j = sym (ap (λ l. getD l j 0) slice ∙ getD-padded most (albumGcd F (listsOf s) .list) j)
 
     -- h ends in 1, so it has a word w
     words : length (albumGcd F (listsOf s) .list) ≡ w .0 + 1
@@ -117,18 +117,18 @@ module _ (F : PrimeField) (s h : List ℕ) (e : Passed (F .p) s) (q : length h �
           some = done-some;
           list = ap (take (w .0 + 1)) slice ∙ take-at (albumGcd F (listsOf s) .list) _ (w .0 + 1) words;
           words = words;
-          short = omega (arith, ap length slice, padded-inside maxWords (albumGcd F (listsOf s) .list));
+          short = omega (arith, ap length slice, padded-inside most (albumGcd F (listsOf s) .list));
           word = word;
           power = ap (λ v. getD v 1 0) values;
         }
 
 -- the same of any answer
-pub answered : (F : PrimeField) (s h : List ℕ) → Passed (F .p) s → length h ≡ maxWords → {h′ : List ℕ} {w : NaiveDegree} {c k : ℕ} {r : Gcd}
-    → r ≡ G.Done w c k → gcdReply r ≡ reply (lowest (albumGcdRefusals (F .p) s h)) (albumGcdValues F (listsOf s))
-    → h′ ≡ written (lowest (albumGcdRefusals (F .p) s h)) (padded maxWords (albumGcd F (listsOf s) .list)) h
+pub answered : (F : PrimeField) (most : ℕ) (s h : List ℕ) → Passed (F .p) s → length h ≡ most → {h′ : List ℕ} {w : NaiveDegree} {c k : ℕ} {r : Gcd}
+    → r ≡ G.Done w c k → gcdReply r ≡ reply (lowest (albumGcdRows (F .p) most s h)) (albumGcdValues F (listsOf s))
+    → h′ ≡ written (lowest (albumGcdRows (F .p) most s h)) (padded most (albumGcd F (listsOf s) .list)) h
     → AlbumGreatest F (listsOf s) h′ r → Answer (listsOf s) (albumGcd F (listsOf s) .list) h′ (w .0) c
-answered F s h e q {h′} {w} {c} {k} {r} i a b g =
-    done-answer F s h e q w c k (ap gcdReply (sym i) ∙ a) b (subst (AlbumGreatest F (listsOf s) h′) i g)
+answered F most s h e q {h′} {w} {c} {k} {r} i a b g =
+    done-answer F most s h e q w c k (ap gcdReply (sym i) ∙ a) b (subst (AlbumGreatest F (listsOf s) h′) i g)
 
 -- the report's lines after those of the lists
 module _ (F : PrimeField) (lists : List (List ℕ)) where
@@ -145,13 +145,13 @@ module _ (F : PrimeField) (lists : List (List ℕ)) where
   unfolding soundReport answerLines
   sound-lines = refl
 
-pub refused-answer : (F : PrimeField) (s h : List ℕ) → Passed (F .p) s → length h ≡ maxWords → {why : Refusal} {r : Gcd} → r ≡ G.Refused why
-    → gcdReply r ≡ reply (lowest (albumGcdRefusals (F .p) s h)) (albumGcdValues F (listsOf s)) → refusedLine why ≡ answerLines F (listsOf s)
-refused-answer F s h e q {why} {r} i a =
+pub refused-answer : (F : PrimeField) (most : ℕ) (s h : List ℕ) → Passed (F .p) s → length h ≡ most → {why : Refusal} {r : Gcd} → r ≡ G.Refused why
+    → gcdReply r ≡ reply (lowest (albumGcdRows (F .p) most s h)) (albumGcdValues F (listsOf s)) → refusedLine why ≡ answerLines F (listsOf s)
+refused-answer F most s h e q {why} {r} i a =
     let b = ap gcdReply (sym i) ∙ a in
-    refused-line F s h e q why b ∙ sym (answer-zero F (listsOf s) (refused-zero F s h e q why b))
+    refused-line F most s h e q why b ∙ sym (answer-zero F (listsOf s) (refused-zero F most s h e q why b))
 
-pub answer-fits : {lists : List (List ℕ)} {h slice : List ℕ} {w c : ℕ} → Answer lists h slice w c → length slice ≡ maxWords
+pub answer-fits : {lists : List (List ℕ)} {h slice : List ℕ} {w c : ℕ} → Answer lists h slice w c → length slice ≤ maxWords
     → c < maxWords → ((k : ℕ) → getD slice k 0 < 65536) → length (gcdLines h c) ≤ maxAnswer
 answer-fits {lists} {h} {slice} {w} {c} a e l small =
     let words = a .words in

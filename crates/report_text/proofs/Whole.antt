@@ -2,21 +2,22 @@
 -- Assumes nothing.
 use mathlib.Core.Path.{_≡_, refl, sym, _∙_, ap, ap₂}
 use mathlib.Core.List.{List, [], _∷_, _++_}
-use Prim.Native.Nat.{ℕ, _+_, _≤_, _<_}
+use Prim.Native.Nat.{ℕ, _+_, _*_, _≤_, _<_}
 use native.Mathlib.Omega.{arith}
 use lib.ListN.{length, getD, take}
 use borrow.Author.Tests.{eq-eqb, ne-eqb}
-use Rattle.algebra.specs.PrimeField.{PrimeField, F65521}
+use Rattle.lists.specs.Bytes.{Bytes}
+use Rattle.algebra.specs.PrimeField.{PrimeField}
+use Rattle.refusal.specs.Limits.{maxLists}
 use Rattle.refusal.specs.Refusal.{reply, written}
 use Rattle.refusal.specs.Lowest.{lower, lowest}
 use Rattle.refusal.specs.declared.Refusal.{Refusal}
 use Rattle.refusal.specs.declared.Refusal.the-variants.{Misfit}
 use Rattle.refusal.specs.declared.Outcome.{Outcome}
 use Rattle.refusal.specs.declared.Outcome.the-variants.{Done, Refused}
-use Rattle.field.specs.Field.{p}
 use Rattle.euclid.specs.Gcds.{padded}
 use Rattle.euclid.specs.Loops.{padded-inside}
-use Rattle.layout.specs.Layout.{count, listsOf}
+use Rattle.layout.specs.Layout.{count, entryWords, listsOf}
 use Rattle.layout.specs.Calls.{albumRefusals}
 use Rattle.layout.specs.Workers.{Passed}
 use Rattle.layout.specs.Places.{length-lists}
@@ -31,18 +32,18 @@ use Rattle.report_text.proofs.Puts.{put-is, put-then}
 use Rattle.report_text.proofs.Fits.{named-fits, lines-fit}
 use Rattle.report_text.proofs.Sound.{sound-lines}
 
-module _ (p : ℕ) (s : List ℕ) (e : Passed p s) (bytes : (k : ℕ) → getD s k 0 < 256) where
+module _ (p : ℕ) (s : List ℕ) (e : Passed p s) (bytes : Bytes s) where
   abbrev first : List ℕ
   first = line (⟨lists⟩ ∷ decimal (count s) ∷ [])
 
   first-fits : length first ≤ 12
   first-fits = let few = passed-obeys p s e .few in named-fits ⟨lists⟩ (count s) (omega arith)
 
-  lists-fit : length (listLines 0 (listsOf s)) ≤ 384
+  lists-fit : length (listLines 0 (listsOf s)) ≤ 24 * maxLists
   lists-fit =
       let few = passed-obeys p s e .few in
       let n = length-lists s in
-      let fits = lines-fit (listsOf s) 0 (omega arith) (λ j l. let h = passed-each p s e bytes j l .short in omega arith) in
+      let fits = lines-fit (listsOf s) 0 (omega arith) (λ j l. let h = passed-each p s e bytes entryWords (omega arith) j l .short in omega arith) in
       omega arith
 
   module _ {a : List ℕ} (q : length a ≡ maxText) where
@@ -104,7 +105,6 @@ inside-so t a Done {c} {k} e z =
 inside-so t a (Refused why) {c} {k} e z =
     absurd (let n = ap (λ v. length (v .values)) e in omega arith)
 
-pub text-inside : (s a : List ℕ) {c : List ℕ} {k : ℕ} {r : Text} → r ≡ T.Done k
-    → textReply r ≡ reply (lowest (reportRefusals a)) (length (reportOf p F65521 s) ∷ [])
-    → c ≡ written (lowest (reportRefusals a)) (padded maxText (reportOf p F65521 s)) a → k ≤ length c
-text-inside s a i e z = inside-so (reportOf p F65521 s) a (lowest (reportRefusals a)) (ap textReply (sym i) ∙ e) z
+pub text-inside : (t a : List ℕ) {c : List ℕ} {k : ℕ} {r : Text} → r ≡ T.Done k → textReply r ≡ reply (lowest (reportRefusals a)) (length t ∷ [])
+    → c ≡ written (lowest (reportRefusals a)) (padded maxText t) a → k ≤ length c
+text-inside t a i e z = inside-so t a (lowest (reportRefusals a)) (ap textReply (sym i) ∙ e) z

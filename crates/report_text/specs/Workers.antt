@@ -3,7 +3,7 @@
 --     Put             a slice after a text is put at a place: the bytes before it stay, and r is the place after it
 --     lineEnd         a list's line after its naive degree: a space, then the extent and the power, or `-` for each
 --     answerLines     the report's lines after those of the lists
---     maxAnswer       a bound on their bytes: `gcd` and two numbers, then at most 256 words, each of at most five digits
+--     maxAnswer       a bound on their bytes: `gcd` and two numbers, then at most maxWords words, each of at most five digits
 -- Assumes nothing.
 use mathlib.Core.Path.{_≡_}
 use mathlib.Core.Bool.{cond}

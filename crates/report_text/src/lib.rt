@@ -3,11 +3,10 @@ ghost use mathlib.Core.Path.{_≡_};
 ghost use mathlib.Core.List.{[], _∷_, map};
 ghost use Prim.Native.Nat.{_+_, _≤_, _<_};
 ghost use lib.ListN.{length, take};
-ghost use Rattle.algebra.specs.PrimeField.{F65521};
+ghost use Rattle.field.specs.Fields.{F65521, p, modulus, fieldAt, longest};
 ghost use Rattle.refusal.specs.Limits.{maxWords};
 ghost use Rattle.refusal.specs.Refusal.{reply, written};
 ghost use Rattle.refusal.specs.Lowest.{lowest};
-ghost use Rattle.field.specs.Field.{p};
 ghost use Rattle.euclid.specs.Gcds.{padded};
 ghost use Rattle.layout.specs.Layout.{listsOf};
 ghost use Rattle.layout.specs.Workers.{Passed};
@@ -19,8 +18,9 @@ use gcd::Gcd;
 use refusal::Outcome;
 use refusal::Refusal;
 
-// The bytes of the result slice.
-pub const MAX_TEXT: usize = 2048;
+// The bytes of the result slice, eight for each word of the longest list: a word of h takes at most six, five digits and a space, and the
+// other lines take less than two for each word.
+pub const MAX_TEXT: usize = 8 * refusal::MAX_WORDS;
 
 // The answer of writing a report: the number of its bytes.
 pub enum Text {
@@ -33,12 +33,20 @@ pub fn write_report(album: &[u8], out: &mut [u8]) -> Text
     ensures answer { λ r. ⌜ textReply r ≡ reply (lowest (reportRefusals (now (out .entry)))) (length (reportOf p F65521 (now (album .entry))) ∷ []) ⌝ }
     ensures writes { λ _. ⌜ now (out .exit) ≡ written (lowest (reportRefusals (now (out .entry)))) (padded maxText (reportOf p F65521 (now (album .entry)))) (now (out .entry)) ⌝ }
 {
+    report_over(0, album, out)
+}
+
+// The same over a field.
+pub fn report_over(field: u8, album: &[u8], out: &mut [u8]) -> Text
+    ensures answer { λ r. ⌜ textReply r ≡ reply (lowest (reportRefusals (now (out .entry)))) (length (reportOf (modulus field) (fieldAt field) (now (album .entry))) ∷ []) ⌝ }
+    ensures writes { λ _. ⌜ now (out .exit) ≡ written (lowest (reportRefusals (now (out .entry)))) (padded maxText (reportOf (modulus field) (fieldAt field) (now (album .entry)))) (now (out .entry)) ⌝ }
+{
     if out.len() != MAX_TEXT {
         return Text::Refused(Refusal::Misfit);
     }
-    let mut list = [0u16; 256];
-    let mut h = [0u16; 256];
-    let n = report_in(album, &mut list, &mut h, out);
+    let mut list = [0u16; refusal::MAX_WORDS];
+    let mut h = [0u16; refusal::MAX_WORDS];
+    let n = report_between(field, album, &mut list, &mut h, out);
     clear(n, out);
     Text::Done(n)
 }
@@ -55,35 +63,44 @@ fn clear(from: usize, out: &mut [u8])
     }
 }
 
-// The report by way of buffers for a list and for h.
-fn report_in(album: &[u8], list: &mut [u16], h: &mut [u16], out: &mut [u8]) -> usize
+// The report by way of as much of two arrays as the longest list takes.
+fn report_between(field: u8, album: &[u8], list: &mut [u16], h: &mut [u16], out: &mut [u8]) -> usize
     requires { ⌜ (length (now list) ≡ maxWords) × (length (now h) ≡ maxWords) × (length (now out) ≡ maxText) ⌝ }
-    ensures { λ r. ⌜ Put (reportOf p F65521 (now (album .entry))) 0 (now (out .entry)) (now (out .exit)) r ⌝ }
+    ensures { λ r. ⌜ Put (reportOf (modulus field) (fieldAt field) (now (album .entry))) 0 (now (out .entry)) (now (out .exit)) r ⌝ }
 {
-    match layout::judge_album(album) {
+    let n = field::longest_of(field);
+    report_in(field, album, &mut list[..n], &mut h[..n], out)
+}
+
+// The same by way of buffers for a list and for h.
+fn report_in(field: u8, album: &[u8], list: &mut [u16], h: &mut [u16], out: &mut [u8]) -> usize
+    requires { ⌜ (length (now list) ≡ longest field) × (length (now h) ≡ longest field) × (length (now out) ≡ maxText) ⌝ }
+    ensures { λ r. ⌜ Put (reportOf (modulus field) (fieldAt field) (now (album .entry))) 0 (now (out .entry)) (now (out .exit)) r ⌝ }
+{
+    match layout::judge_album(field, album) {
         Outcome::Refused(why) => put_refused(why, 0, out),
-        Outcome::Done => put_sound(album, list, h, out),
+        Outcome::Done => put_sound(field, album, list, h, out),
     }
 }
 
 // The report on an album that is not refused.
-fn put_sound(album: &[u8], list: &mut [u16], h: &mut [u16], out: &mut [u8]) -> usize
-    requires { ⌜ Passed p (now album) ⌝ }
-    requires { ⌜ (length (now list) ≡ maxWords) × (length (now h) ≡ maxWords) × (length (now out) ≡ maxText) ⌝ }
-    ensures { λ r. ⌜ Put (soundReport F65521 (listsOf (now (album .entry)))) 0 (now (out .entry)) (now (out .exit)) r ⌝ }
+fn put_sound(field: u8, album: &[u8], list: &mut [u16], h: &mut [u16], out: &mut [u8]) -> usize
+    requires { ⌜ Passed (modulus field) (now album) ⌝ }
+    requires { ⌜ (length (now list) ≡ longest field) × (length (now h) ≡ longest field) × (length (now out) ≡ maxText) ⌝ }
+    ensures { λ r. ⌜ Put (soundReport (fieldAt field) (listsOf (now (album .entry)))) 0 (now (out .entry)) (now (out .exit)) r ⌝ }
 {
     let first = put_named(b"lists", album[0] as usize, 0, out);
-    let at = put_lists(album, list, first, out);
-    put_answer(album, h, at, out)
+    let at = put_lists(field, album, list, first, out);
+    put_answer(field, album, h, at, out)
 }
 
 // What the report says of the GCD; h is room for it.
-fn put_answer(album: &[u8], h: &mut [u16], at: usize, out: &mut [u8]) -> usize
-    requires { ⌜ (Passed p (now album)) × (length (now h) ≡ maxWords) ⌝ }
+fn put_answer(field: u8, album: &[u8], h: &mut [u16], at: usize, out: &mut [u8]) -> usize
+    requires { ⌜ (Passed (modulus field) (now album)) × (length (now h) ≡ longest field) ⌝ }
     requires { ⌜ at + maxAnswer ≤ length (now out) ⌝ }
-    ensures { λ r. ⌜ Put (answerLines F65521 (listsOf (now (album .entry)))) at (now (out .entry)) (now (out .exit)) r ⌝ }
+    ensures { λ r. ⌜ Put (answerLines (fieldAt field) (listsOf (now (album .entry)))) at (now (out .entry)) (now (out .exit)) r ⌝ }
 {
-    match album_gcd::gcd_of_album(album, h) {
+    match album_gcd::album_gcd_over(field, album, h) {
         Gcd::Done(w, c, _) => put_gcd(&h[..w.0 + 1], c, at, out),
         Gcd::Refused(why) => put_refused(why, at, out),
     }
@@ -204,8 +221,8 @@ fn put_gcd(h: &[u16], c: usize, at: usize, out: &mut [u8]) -> usize
 }
 
 // The lines of the lists; `list` is room for one.
-fn put_lists(album: &[u8], list: &mut [u16], at: usize, out: &mut [u8]) -> usize
-    requires { ⌜ (Passed p (now album)) × (length (now list) ≡ maxWords) ⌝ }
+fn put_lists(field: u8, album: &[u8], list: &mut [u16], at: usize, out: &mut [u8]) -> usize
+    requires { ⌜ (Passed (modulus field) (now album)) × (length (now list) ≡ longest field) ⌝ }
     requires { ⌜ Room (listLines 0 (listsOf (now album))) at (now out) ⌝ }
     ensures { λ r. ⌜ Put (listLines 0 (listsOf (now (album .entry)))) at (now (out .entry)) (now (out .exit)) r ⌝ }
 {
@@ -213,7 +230,7 @@ fn put_lists(album: &[u8], list: &mut [u16], at: usize, out: &mut [u8]) -> usize
     let mut place = at;
     let mut i = 0;
     while i < n {
-        let m = album::read(album, i, list);
+        let m = album::read(field, album, i, list);
         place = put_list(i, &list[..m], place, out);
         i += 1;
     }

@@ -3,7 +3,7 @@
 --     round-remainder, round-quotient         the words of a round stand for the remainder and for the quotient
 --     round-euclid, round-smaller             a round goes on with (y, remainder), and y falls
 --     end-euclid, rounds-few                  where y is zero, no round is left; at most n rounds in buffers of n words
---     round-fits, write-fits                  what the two guards ask
+--     round-fits                              what the guard asks
 -- Assumes nothing.
 use mathlib.Core.Path.{_≡_, refl, sym, _∙_, ap, subst}
 use mathlib.Core.Bool.{true}
@@ -30,7 +30,7 @@ use Rattle.lists.specs.Words.{seriesOf, coeff-seriesOf, Carries, carries-series
 use Rattle.lists.proofs.Parts.{getD-then-zeros}
 use Rattle.reduction.specs.Reduction.{reduced, digits}
 use Rattle.reduction.proofs.Steps.{length-reduced, length-digits, reduced-remainder, digits-quotient}
-use Rattle.rounds.specs.Round.{lastWord, roundSteps, roundFits, remaining, quotientWords, writeFits}
+use Rattle.rounds.specs.Round.{lastWord, roundSteps, roundFits, remaining, quotientWords}
 
 -- the significant words are all that a list says
 getD-significant : (c : List ℕ) (k : ℕ) → getD (take (significant c) c) k 0 ≡ getD c k 0
@@ -52,12 +52,6 @@ pub round-ready : (p : ℕ) (x y q : List ℕ) → 0 < significant y → lastWor
 unfolding roundFits
 round-ready p x y q some low room =
     rw (le-leb 1 (significant y) some, lt-ltb (lastWord y) p low, le-leb (roundSteps x y) (length q) room)
-
-pub write-fits : (most words : ℕ) (form out : List ℕ) → words ≤ length form → words ≤ length out → words ≤ most
-    → writeFits most words form out ≡ true
-unfolding writeFits
-write-fits most words form out lf lo lm =
-    rw (le-leb words (length form) lf, le-leb words (length out) lo, le-leb words most lm)
 
 module _ (F : PrimeField) where
   open CommRing (F .series .ring) using (Carrier as S)

@@ -16,24 +16,31 @@ use Rattle.algebra.specs.Series.{C, ext, coeff-C-mul}
 use Rattle.algebra.specs.PrimeField.{PrimeField, scalars, residue, residue-0, residue-mul-mod}
 use Rattle.lists.specs.Tabulate.{length-tabulate, getD-tabulate}
 use Rattle.lists.specs.Lists.{unscaled}
-use Rattle.lists.specs.Scaled.{length-unscaled}
 use Rattle.lists.specs.Words.{seriesOf, coeff-seriesOf}
-use Rattle.kernels.specs.Kernels.{unscaleFits}
+use Rattle.tables.specs.Factorials.{Tables}
+use Rattle.kernels.specs.Kernels.{weighted, weighFits}
+use Rattle.kernels.proofs.Weights.{length-weighted, unscaled-is}
 use Rattle.euclid.specs.Gcds.{padded}
 use Rattle.euclid.specs.Loops.{padded-is}
-use Rattle.rounds.specs.Round.{multiplied, zeroedFrom, writeFits, writtenList}
+use Rattle.rounds.specs.Round.{multiplied, zeroedFrom, writeFits, writtenWords, writtenList}
 
-pub unfit : (most words : ℕ) (form out : List ℕ) → (words ≤ length form → words ≤ length out → words ≤ most → ⊥)
-    → writeFits most words form out ≡ false
-unfolding writeFits
-unfit most words form out h = go (decLe words (length form)) (decLe words (length out)) (decLe words most)
-  where
-    go : Dec (words ≤ length form) → Dec (words ≤ length out) → Dec (words ≤ most)
-        → (leb words (length form) && (leb words (length out) && leb words most)) ≡ false
-    go (no a) b c = rw (lt-leb words (length form) (omega arith))
-    go (yes a) (no b) c = rw (le-leb words (length form) a, lt-leb words (length out) (omega arith))
-    go (yes a) (yes b) (no c) = rw (le-leb words (length form) a, le-leb words (length out) b, lt-leb words most (omega arith))
-    go (yes a) (yes b) (yes c) = absurd (h a b c)
+module _ (words : ℕ) (whole part form out : List ℕ) where
+  pub write-fits : words ≤ length form → words ≤ length out → words ≤ length whole → words ≤ length part → writeFits words whole part form out ≡ true
+  unfolding writeFits
+  write-fits f o w p = rw (le-leb words (length form) f, le-leb words (length out) o, le-leb words (length whole) w, le-leb words (length part) p)
+
+  pub unfit : (words ≤ length form → words ≤ length out → words ≤ length whole → words ≤ length part → ⊥) → writeFits words whole part form out ≡ false
+  unfolding writeFits
+  unfit h = go (decLe words (length form)) (decLe words (length out)) (decLe words (length whole)) (decLe words (length part))
+    where
+      go : Dec (words ≤ length form) → Dec (words ≤ length out) → Dec (words ≤ length whole) → Dec (words ≤ length part)
+          → (leb words (length form) && (leb words (length out) && (leb words (length whole) && leb words (length part)))) ≡ false
+      go (no a) b c d = rw (lt-leb words (length form) (omega arith))
+      go (yes a) (no b) c d = rw (le-leb words (length form) a, lt-leb words (length out) (omega arith))
+      go (yes a) (yes b) (no c) d = rw (le-leb words (length form) a, le-leb words (length out) b, lt-leb words (length whole) (omega arith))
+      go (yes a) (yes b) (yes c) (no d) =
+          rw (le-leb words (length form) a, le-leb words (length out) b, le-leb words (length whole) c, lt-leb words (length part) (omega arith))
+      go (yes a) (yes b) (yes c) (yes d) = absurd (h a b c d)
 
 -- the rule of zeroedFrom before and from the word on
 module _ (from : ℕ) (x : List ℕ) where
@@ -77,31 +84,46 @@ module _ (F : PrimeField) where
           ap (residue F) (List·getD-eq-default (multiplied (F .p) m x) 0 {n = k} (omega arith)) ∙ residue-0 F
           ∙ sym (ap (λ a. a ⊗ residue F m) (ap (residue F) (List·getD-eq-default x 0 (omega arith)) ∙ residue-0 F) ∙ R.zero-mul (scalars F) _)
 
-  pub written : {p : ℕ} → F .p ≡ p → (most words m : ℕ) (form out : List ℕ) {form′ w out′ : List ℕ} → words ≤ length form
-      → words ≤ length out → words ≤ most → form′ ≡ multiplied p m form
-      → w ≡ cond (unscaleFits most form′ (take words out)) (unscaled F (length (take words out)) (seriesOf F form′)) (take words out)
-      → out′ ≡ zeroedFrom words (w ++ drop words out) → out′ ≡ writtenList F words m form out
-  unfolding writtenList
-  written {p} e most words m form out {form′} {w} {out′} lf lo lm ef ew eo =
-      eo ∙ ap (λ n. zeroedFrom n (w ++ drop words out)) (sym length-w) ∙ zeros-after w (drop words out) ∙ ap₂ padded whole is-list
-    where
-      part : length (take words out) ≡ words
-      part = length-take-le words out lo
+-- what is written, word by word
+pub written : (p : ℕ) (whole part : List ℕ) (words m : ℕ) (form out : List ℕ) {form′ w out′ : List ℕ} → words ≤ length form
+    → words ≤ length out → words ≤ length whole → words ≤ length part → form′ ≡ multiplied p m form
+    → w ≡ cond (weighFits form′ part whole (take words out)) (weighted p part whole (length (take words out)) form′) (take words out)
+    → out′ ≡ zeroedFrom words (w ++ drop words out) → out′ ≡ writtenWords p whole part words m form out
+unfolding writtenWords
+written p whole part words m form out {form′} {w} {out′} lf lo lw lp ef ew eo =
+    eo ∙ ap (λ n. zeroedFrom n (w ++ drop words out)) (sym length-w) ∙ zeros-after w (drop words out) ∙ ap₂ padded whole-length is-list
+  where
+    part-length : length (take words out) ≡ words
+    part-length = length-take-le words out lo
 
-      size : length form′ ≡ length form
-      size = ap length ef ∙ unfold multiplied in length-tabulate (length form) _
+    size : length form′ ≡ length form
+    size = ap length ef ∙ unfold multiplied in length-tabulate (length form) _
 
-      fits : unscaleFits most form′ (take words out) ≡ true
-      fits = unfold unscaleFits in rw (part, size, le-leb words (length form) lf, le-leb words most lm)
+    fits : weighFits form′ part whole (take words out) ≡ true
+    fits = unfold weighFits in rw (part-length, size, le-leb words (length form) lf, le-leb words (length whole) lw, le-leb words (length part) lp)
 
-      series : seriesOf F form′ ≡ C (F .series) (residue F m) *ˢ seriesOf F form
-      series = ap (seriesOf F) (ef ∙ ap (λ n. multiplied n m form) (sym e)) ∙ multiplied-series m form
+    is-list : w ≡ weighted p part whole words (multiplied p m form)
+    is-list = (rw fits at ew) ∙ ap₂ (weighted p part whole) part-length ef
 
-      is-list : w ≡ unscaled F words (C (F .series) (residue F m) *ˢ seriesOf F form)
-      is-list = (rw fits at ew) ∙ ap₂ (unscaled F) part series
+    length-w : length w ≡ words
+    length-w = ap length is-list ∙ length-weighted p part whole words (multiplied p m form)
 
-      length-w : length w ≡ words
-      length-w = ap length is-list ∙ length-unscaled F words _
+    whole-length : length (w ++ drop words out) ≡ length out
+    whole-length = length-append w (drop words out) ∙ rw (length-w, length-drop words out) (omega arith)
 
-      whole : length (w ++ drop words out) ≡ length out
-      whole = length-append w (drop words out) ∙ rw (length-w, length-drop words out) (omega arith)
+-- with the tables of factorials: the list
+pub write-is : (F : PrimeField) {p : ℕ} → F .p ≡ p → (n : ℕ) → n ≤ F .p → (whole part : List ℕ) → Tables F n whole part
+    → (words m : ℕ) (form out : List ℕ) {form′ out′ : List ℕ} → words ≤ n → words ≤ length form → words ≤ length out
+    → (form′ ≡ cond (writeFits words whole part form out) (multiplied p m form) form)
+    × (out′ ≡ cond (writeFits words whole part form out) (writtenWords p whole part words m form out) out)
+    → (form′ ≡ multiplied p m form) × (out′ ≡ writtenList F words m form out)
+unfolding writtenWords writtenList
+write-is F {p} e n short whole part t words m form out lw lf lo h =
+    let hw = t .factorials .long in
+    let hp = t .inverses .long in
+    let fits = write-fits words whole part form out lf lo (omega arith) (omega arith) in (
+      rw fits at (h .0),
+      (rw fits at (h .1)) ∙ ap (padded (length out))
+          (unscaled-is F e n short whole part t (multiplied p m form) words lw
+          ∙ ap (unscaled F words) (ap (λ q. seriesOf F (multiplied q m form)) (sym e) ∙ multiplied-series F m form)),
+    )

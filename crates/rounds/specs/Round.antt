@@ -5,7 +5,9 @@
 --     quotientWords      the words of the round's quotient
 --     roundFits          y is not zero, its last word is a coefficient, and there is room for the quotient; else nothing is done
 --     multiplied         the words of x times m
---     writtenList        the list of so many words whose scaled form is m times the words of form, zeros after it
+--     writtenWords       the words of form times m, weighed with the tables part and whole, zeros after so many
+--     writtenList        the list of so many words whose scaled form is m times the words of form, zeros after it: writtenWords of tables of
+--                        factorials
 --     writeFits          the lengths fit; else nothing is written
 --     zeroedFrom         the words of x, zeros from a word on
 -- Assumes nothing.
@@ -21,6 +23,7 @@ use Rattle.lists.specs.Tabulate.{tabulate}
 use Rattle.lists.specs.Degrees.{significant}
 use Rattle.lists.specs.Lists.{unscaled}
 use Rattle.lists.specs.Words.{seriesOf}
+use Rattle.kernels.specs.Kernels.{weighted}
 use Rattle.euclid.specs.Gcds.{padded}
 use Rattle.reduction.specs.Reduction.{reduced, digits}
 
@@ -36,8 +39,12 @@ roundFits p x y q = leb 1 (significant y) && (ltb (lastWord y) p && leb (roundSt
 unfoldable pub multiplied : (p m : ℕ) → List ℕ → List ℕ
 multiplied p m x = tabulate (length x) (λ i. (getD x i 0 * m) % p)
 
-unfoldable pub writeFits : (most words : ℕ) → (form out : List ℕ) → Bool
-writeFits most words form out = leb words (length form) && (leb words (length out) && leb words most)
+unfoldable pub writeFits : (words : ℕ) → (whole part form out : List ℕ) → Bool
+writeFits words whole part form out =
+    leb words (length form) && (leb words (length out) && (leb words (length whole) && leb words (length part)))
+
+unfoldable pub writtenWords : (p : ℕ) → (whole part : List ℕ) → (words m : ℕ) → (form out : List ℕ) → List ℕ
+writtenWords p whole part words m form out = padded (length out) (weighted p part whole words (multiplied p m form))
 
 unfoldable pub zeroedFrom : (from : ℕ) → List ℕ → List ℕ
 zeroedFrom from x = tabulate (length x) (λ i. cond (ltb i from) (getD x i 0) 0)

@@ -3,17 +3,16 @@ ghost use mathlib.Core.Path.{_≡_};
 ghost use mathlib.Core.Bool.{cond};
 ghost use mathlib.Core.List.{[], _∷_, _++_};
 ghost use lib.ListN.{drop};
-ghost use Rattle.algebra.specs.PrimeField.{F65521};
-ghost use Rattle.refusal.specs.Limits.{maxWords};
-ghost use Rattle.field.specs.Field.{p};
+ghost use Rattle.field.specs.Fields.{modulus, fieldAt};
 ghost use Rattle.euclid.specs.Gcds.{commonPower};
-ghost use Rattle.rounds.specs.Round.{roundSteps, roundFits, remaining, quotientWords, multiplied, zeroedFrom, writeFits, writtenList};
+ghost use Rattle.rounds.specs.Round.{roundSteps, roundFits, remaining, quotientWords, multiplied, zeroedFrom, writeFits, writtenWords};
 
 // x becomes the remainder of x by y; the words of the quotient go to q. Their number.
-pub fn round(x: &mut [u16], y: &[u16], q: &mut [u16]) -> usize
-    ensures steps { λ r. ⌜ r ≡ cond (roundFits p (now (x .entry)) (now (y .entry)) (now (q .entry))) (roundSteps (now (x .entry)) (now (y .entry))) 0 ⌝ }
-    ensures left { λ _. ⌜ now (x .exit) ≡ cond (roundFits p (now (x .entry)) (now (y .entry)) (now (q .entry))) (remaining F65521 (now (x .entry)) (now (y .entry))) (now (x .entry)) ⌝ }
-    ensures quotient { λ _. ⌜ now (q .exit) ≡ cond (roundFits p (now (x .entry)) (now (y .entry)) (now (q .entry))) (quotientWords F65521 (now (x .entry)) (now (y .entry)) ++ drop (roundSteps (now (x .entry)) (now (y .entry))) (now (q .entry))) (now (q .entry)) ⌝ }
+// The table of inverses saves time; nothing depends on it.
+pub fn round(field: u8, inverses: &[u16], x: &mut [u16], y: &[u16], q: &mut [u16]) -> usize
+    ensures steps { λ r. ⌜ r ≡ cond (roundFits (modulus field) (now (x .entry)) (now (y .entry)) (now (q .entry))) (roundSteps (now (x .entry)) (now (y .entry))) 0 ⌝ }
+    ensures left { λ _. ⌜ now (x .exit) ≡ cond (roundFits (modulus field) (now (x .entry)) (now (y .entry)) (now (q .entry))) (remaining (fieldAt field) (now (x .entry)) (now (y .entry))) (now (x .entry)) ⌝ }
+    ensures quotient { λ _. ⌜ now (q .exit) ≡ cond (roundFits (modulus field) (now (x .entry)) (now (y .entry)) (now (q .entry))) (quotientWords (fieldAt field) (now (x .entry)) (now (y .entry)) ++ drop (roundSteps (now (x .entry)) (now (y .entry))) (now (q .entry))) (now (q .entry)) ⌝ }
 {
     let nx = lists::significant_words(x);
     let ny = lists::significant_words(y);
@@ -21,7 +20,7 @@ pub fn round(x: &mut [u16], y: &[u16], q: &mut [u16]) -> usize
         return 0;
     }
     let last = y[ny - 1];
-    if 65521 <= last {
+    if field::modulus_of(field) <= last {
         return 0;
     }
     if nx < ny {
@@ -31,15 +30,24 @@ pub fn round(x: &mut [u16], y: &[u16], q: &mut [u16]) -> usize
     if q.len() < k {
         return 0;
     }
-    let inv = inverses::inverse_or_zero(last);
-    reduction::reduce(&mut x[..nx], &y[..ny], inv, &mut q[..k]);
+    let inv = inverses::inverse_or_zero(field, inverses, last);
+    reduction::reduce(field, &mut x[..nx], &y[..ny], inv, &mut q[..k]);
     k
 }
 
-// The list of `words` words whose scaled form is m times the words of form, and zeros after it.
-pub fn write_list(form: &mut [u16], m: u16, words: usize, out: &mut [u16])
-    ensures form { λ _. ⌜ now (form .exit) ≡ cond (writeFits maxWords words (now (form .entry)) (now (out .entry))) (multiplied p m (now (form .entry))) (now (form .entry)) ⌝ }
-    ensures writes { λ _. ⌜ now (out .exit) ≡ cond (writeFits maxWords words (now (form .entry)) (now (out .entry))) (writtenList F65521 words m (now (form .entry)) (now (out .entry))) (now (out .entry)) ⌝ }
+// With the factorials as whole and their inverses as part: the list of `words` words whose scaled form is m times the words of form, and zeros
+// after it.
+pub fn write_list(
+    field: u8,
+    whole: &[u16],
+    part: &[u16],
+    form: &mut [u16],
+    m: u16,
+    words: usize,
+    out: &mut [u16],
+)
+    ensures form { λ _. ⌜ now (form .exit) ≡ cond (writeFits words (now (whole .entry)) (now (part .entry)) (now (form .entry)) (now (out .entry))) (multiplied (modulus field) m (now (form .entry))) (now (form .entry)) ⌝ }
+    ensures writes { λ _. ⌜ now (out .exit) ≡ cond (writeFits words (now (whole .entry)) (now (part .entry)) (now (form .entry)) (now (out .entry))) (writtenWords (modulus field) (now (whole .entry)) (now (part .entry)) words m (now (form .entry)) (now (out .entry))) (now (out .entry)) ⌝ }
 {
     if form.len() < words {
         return;
@@ -47,11 +55,14 @@ pub fn write_list(form: &mut [u16], m: u16, words: usize, out: &mut [u16])
     if out.len() < words {
         return;
     }
-    if 256 < words {
+    if whole.len() < words {
         return;
     }
-    times_word(form, m);
-    kernels::unscale(form, &mut out[..words]);
+    if part.len() < words {
+        return;
+    }
+    times_word(field, form, m);
+    kernels::weigh(field, form, part, whole, &mut out[..words]);
     zero_from(out, words);
 }
 
@@ -79,12 +90,12 @@ pub fn common_power(f: &[u16], g: &[u16]) -> usize
 }
 
 // Each word times m.
-fn times_word(x: &mut [u16], m: u16)
-    ensures { λ _. ⌜ now (x .exit) ≡ multiplied p m (now (x .entry)) ⌝ }
+fn times_word(field: u8, x: &mut [u16], m: u16)
+    ensures { λ _. ⌜ now (x .exit) ≡ multiplied (modulus field) m (now (x .entry)) ⌝ }
 {
     let mut i = 0;
     while i < x.len() {
-        x[i] = field::mul(x[i], m);
+        x[i] = field::mul(field, x[i], m);
         i += 1;
     }
 }

@@ -10,6 +10,8 @@ use mathlib.Core.Path.{_≡_, sym, ap, _∙_}
 use Prim.Native.Nat.{ℕ, _+_, _-_, _*_, _/_, _%_, _<_, _≤_}
 use native.Mathlib.Nat.{mod-lt, mod-add-div, mod-add-mod, add-mod-mod, mul-comm, zero-add}
 use native.Mathlib.Omega.{arith}
+use Rattle.field.specs.Fields.{modulus, wordInverse, square}
+use Rattle.field.specs.FieldsLaws.{modulus-half, word-inverse, square-is}
 use Rattle.montgomery.specs.Montgomery.{same}
 use Rattle.montgomery.proofs.Words.{remainder}
 use Rattle.rows.specs.Montgomery.{Modulus, Factor}
@@ -74,3 +76,7 @@ lifted-factor {p} {m = m} o eg es = record {
 
 pub factor-below : {p e m g s : ℕ} → Factor p e m g s → g < p
 factor-below {p} {m = m} f = omega (arith, f .lifted, f .half, mod-lt (m * 65536) {m = p} (omega (arith, f .half)))
+
+-- the constants of a field
+pub modulus-at : (k : ℕ) {p e r : ℕ} → p ≡ modulus k → e ≡ wordInverse k → r ≡ square k → Modulus p e r
+modulus-at k a b c = rw (a, b, c) (record { half = modulus-half k; inverse = word-inverse k; square = square-is k })

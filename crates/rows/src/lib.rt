@@ -1,30 +1,37 @@
-// The row step on words below 65,521: x plus m times y, by Montgomery's products.
+// The row step on words: x plus m times y, by Montgomery's products.
 ghost use mathlib.Core.Path.{_≡_};
 ghost use Prim.Native.Nat.{ℕ, _+_, _-_, _*_, _%_, _<_, _≤_};
 ghost use lib.ListN.{length};
-ghost use Rattle.field.specs.Field.{p};
+ghost use Rattle.field.specs.Fields.{modulus};
 ghost use Rattle.rows.specs.Rows.{row, Partway};
 ghost use Rattle.rows.specs.Montgomery.{Modulus, Factor};
 
-// x plus m times y, as far as both reach: whole groups of 8 words by Montgomery's products, and the rest word by word. 4,369 is 1/p
-// modulo 2^16, and 225 is 2^32 modulo p.
-pub fn add_row(x: &mut [u16], m: u16, y: &[u16])
-    ensures { λ _. ⌜ now (x .exit) ≡ row p (now (x .entry)) m (now (y .entry)) ⌝ }
+// x plus m times y, as far as both reach: whole groups of 8 words by Montgomery's products, and the rest word by word.
+pub fn add_row(field: u8, x: &mut [u16], m: u16, y: &[u16])
+    ensures { λ _. ⌜ now (x .exit) ≡ row (modulus field) (now (x .entry)) m (now (y .entry)) ⌝ }
 {
     let n = lists::smaller(x.len(), y.len());
     let wide = n - n % 8;
-    montgomery_row(x, m, y, wide, 65521, 4369, 225);
-    add_rest(&mut x[wide..], m, &y[wide..]);
+    montgomery_row(
+        x,
+        m,
+        y,
+        wide,
+        field::modulus_of(field),
+        field::word_inverse_of(field),
+        field::square_of(field),
+    );
+    add_rest(field, &mut x[wide..], m, &y[wide..]);
 }
 
 // x plus m times y word by word, for the fewer than 8 words at a row's end.
-fn add_rest(x: &mut [u16], m: u16, y: &[u16])
-    ensures { λ _. ⌜ now (x .exit) ≡ row p (now (x .entry)) m (now (y .entry)) ⌝ }
+fn add_rest(field: u8, x: &mut [u16], m: u16, y: &[u16])
+    ensures { λ _. ⌜ now (x .exit) ≡ row (modulus field) (now (x .entry)) m (now (y .entry)) ⌝ }
 {
     let n = lists::smaller(x.len(), y.len());
     let mut i = 0;
     while i < n {
-        x[i] = field::add_mul(x[i], m, y[i]);
+        x[i] = field::add_mul(field, x[i], m, y[i]);
         i += 1;
     }
 }

@@ -9,7 +9,6 @@ use native.Mathlib.Omega.{arith}
 use lib.ListN.{length, getD}
 use Rattle.algebra.specs.Ring.{CommRing}
 use Rattle.algebra.specs.PrimeField.{PrimeField, scalars, positive, residue, value, residue-add-mod, residue-neg}
-use Rattle.refusal.specs.Limits.{maxWords}
 use Rattle.refusal.specs.Refusal.{written}
 use Rattle.refusal.specs.Lowest.{lowest}
 use Rattle.refusal.specs.declared.Outcome.the-variants.{Done}
@@ -20,7 +19,7 @@ use Rattle.lists.specs.Operations.{raise, larger, sumOf, differenceOf}
 use Rattle.lists.specs.Refused.{Listed}
 use Rattle.lists.specs.Words.{value-is}
 use Rattle.lists.specs.Products.{length-raise}
-use Rattle.products.specs.Calls.{raiseRefusals}
+use Rattle.products.specs.Calls.{raiseRows}
 use Rattle.products.proofs.Judged.{raise-completes}
 use Rattle.sums.specs.Workers.{SumFits, combinedWords, combined}
 
@@ -37,29 +36,29 @@ module _ (F : PrimeField) where
       ap (λ n. tabulate n (λ k. value F (word F (raise F (larger F f g) f) k ⊕ word F (raise F (larger F f g) g) k))) (length-raise F (larger F f g) f)
 
   -- f and g raised to the naive degree of the result, in buffers as long as it
-  module _ {p : ℕ} (big : 0 < p) (f g out : List ℕ) (fits : SumFits p maxWords f g out) where
+  module _ {p most : ℕ} (big : 0 < p) (f g out : List ℕ) (fits : SumFits p most f g out) where
     degree : length out - 1 ≡ larger F f g
     unfolding naiveDegree larger
     degree = let s = fits .size in let l = fits .first .some in let r = fits .second .some in omega arith
 
     -- the raise refuses nothing, so the buffer holds its result
-    in-buffer : (c a : List ℕ) {a′ : List ℕ} → Listed p maxWords c → length c ≤ length out → length a ≡ length out
-        → a′ ≡ written (lowest (raiseRefusals p c (length out - 1) a)) (raise F (length out - 1) c) a → a′ ≡ raise F (larger F f g) c
+    in-buffer : (c a : List ℕ) {a′ : List ℕ} → Listed p most c → length c ≤ length out → length a ≡ length out
+        → a′ ≡ written (lowest (raiseRows p most c (length out - 1) a)) (raise F (length out - 1) c) a → a′ ≡ raise F (larger F f g) c
     in-buffer c a l room e q =
         q ∙ ap (λ o. written o (raise F (length out - 1) c) a) completes ∙ ap (λ n. raise F n c) degree
       where
-        completes : lowest (raiseRefusals p c (length out - 1) a) ≡ Done
+        completes : lowest (raiseRows p most c (length out - 1) a) ≡ Done
         completes =
             let some = l .some in
             let first = fits .first .short in
             let second = fits .second .short in
             let size = fits .size in
-            raise-completes p big c (length out - 1) a l (omega arith) (omega arith) (omega arith)
+            raise-completes p most big c (length out - 1) a l (omega arith) (omega arith) (omega arith)
 
     -- their sum or difference
     pub combined-is : (minus : Bool) (a b : List ℕ) {a′ b′ out′ : List ℕ} → length a ≡ length out → length b ≡ length out
-        → a′ ≡ written (lowest (raiseRefusals p f (length out - 1) a)) (raise F (length out - 1) f) a
-        → b′ ≡ written (lowest (raiseRefusals p g (length out - 1) b)) (raise F (length out - 1) g) b
+        → a′ ≡ written (lowest (raiseRows p most f (length out - 1) a)) (raise F (length out - 1) f) a
+        → b′ ≡ written (lowest (raiseRows p most g (length out - 1) b)) (raise F (length out - 1) g) b
         → out′ ≡ combinedWords F minus a′ b′ → out′ ≡ combined F minus f g
     combined-is minus a b la lb qa qb q =
         let s = fits .size in

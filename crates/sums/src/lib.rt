@@ -4,13 +4,11 @@ ghost use mathlib.Core.Bool.{cond};
 ghost use mathlib.Core.List.{[]};
 ghost use Prim.Native.Nat.{_+_, _-_, _%_};
 ghost use lib.ListN.{length};
-ghost use Rattle.algebra.specs.PrimeField.{F65521};
-ghost use Rattle.refusal.specs.Limits.{maxWords};
+ghost use Rattle.field.specs.Fields.{F65521, p, modulus, fieldAt, longest};
 ghost use Rattle.refusal.specs.Refusal.{reply, outcomeReply, written};
 ghost use Rattle.refusal.specs.Lowest.{lowest};
-ghost use Rattle.field.specs.Field.{p};
 ghost use Rattle.lists.specs.Operations as of;
-ghost use Rattle.sums.specs.Calls.{sumRefusals};
+ghost use Rattle.sums.specs.Calls.{sumRows, sumRefusals};
 ghost use Rattle.sums.specs.Workers.{SumFits, combinedWords, combined};
 use lists::NaiveDegree;
 use refusal::Outcome;
@@ -21,7 +19,7 @@ pub fn sum(f: &[u16], g: &[u16], out: &mut [u16]) -> Outcome
     ensures answer { λ r. ⌜ outcomeReply r ≡ reply (lowest (sumRefusals p (now (f .entry)) (now (g .entry)) (now (out .entry)))) [] ⌝ }
     ensures writes { λ _. ⌜ now (out .exit) ≡ written (lowest (sumRefusals p (now (f .entry)) (now (g .entry)) (now (out .entry)))) (of.sumOf F65521 (now (f .entry)) (now (g .entry))) (now (out .entry)) ⌝ }
 {
-    combine(f, g, false, out)
+    sum_over(0, f, g, out)
 }
 
 // f less g, the shorter list raised first.
@@ -29,18 +27,34 @@ pub fn difference(f: &[u16], g: &[u16], out: &mut [u16]) -> Outcome
     ensures answer { λ r. ⌜ outcomeReply r ≡ reply (lowest (sumRefusals p (now (f .entry)) (now (g .entry)) (now (out .entry)))) [] ⌝ }
     ensures writes { λ _. ⌜ now (out .exit) ≡ written (lowest (sumRefusals p (now (f .entry)) (now (g .entry)) (now (out .entry)))) (of.differenceOf F65521 (now (f .entry)) (now (g .entry))) (now (out .entry)) ⌝ }
 {
-    combine(f, g, true, out)
+    difference_over(0, f, g, out)
+}
+
+// The sum over a field.
+pub fn sum_over(field: u8, f: &[u16], g: &[u16], out: &mut [u16]) -> Outcome
+    ensures answer { λ r. ⌜ outcomeReply r ≡ reply (lowest (sumRows (modulus field) (longest field) (now (f .entry)) (now (g .entry)) (now (out .entry)))) [] ⌝ }
+    ensures writes { λ _. ⌜ now (out .exit) ≡ written (lowest (sumRows (modulus field) (longest field) (now (f .entry)) (now (g .entry)) (now (out .entry)))) (of.sumOf (fieldAt field) (now (f .entry)) (now (g .entry))) (now (out .entry)) ⌝ }
+{
+    combine(field, f, g, false, out)
+}
+
+// The difference over a field.
+pub fn difference_over(field: u8, f: &[u16], g: &[u16], out: &mut [u16]) -> Outcome
+    ensures answer { λ r. ⌜ outcomeReply r ≡ reply (lowest (sumRows (modulus field) (longest field) (now (f .entry)) (now (g .entry)) (now (out .entry)))) [] ⌝ }
+    ensures writes { λ _. ⌜ now (out .exit) ≡ written (lowest (sumRows (modulus field) (longest field) (now (f .entry)) (now (g .entry)) (now (out .entry)))) (of.differenceOf (fieldAt field) (now (f .entry)) (now (g .entry))) (now (out .entry)) ⌝ }
+{
+    combine(field, f, g, true, out)
 }
 
 // f plus g, or f less g.
-fn combine(f: &[u16], g: &[u16], minus: bool, out: &mut [u16]) -> Outcome
-    ensures answer { λ r. ⌜ outcomeReply r ≡ reply (lowest (sumRefusals p (now (f .entry)) (now (g .entry)) (now (out .entry)))) [] ⌝ }
-    ensures writes { λ _. ⌜ now (out .exit) ≡ written (lowest (sumRefusals p (now (f .entry)) (now (g .entry)) (now (out .entry)))) (combined F65521 minus (now (f .entry)) (now (g .entry))) (now (out .entry)) ⌝ }
+fn combine(field: u8, f: &[u16], g: &[u16], minus: bool, out: &mut [u16]) -> Outcome
+    ensures answer { λ r. ⌜ outcomeReply r ≡ reply (lowest (sumRows (modulus field) (longest field) (now (f .entry)) (now (g .entry)) (now (out .entry)))) [] ⌝ }
+    ensures writes { λ _. ⌜ now (out .exit) ≡ written (lowest (sumRows (modulus field) (longest field) (now (f .entry)) (now (g .entry)) (now (out .entry)))) (combined (fieldAt field) minus (now (f .entry)) (now (g .entry))) (now (out .entry)) ⌝ }
 {
-    let answer = judge_sum(f, g, out);
+    let answer = judge_sum(field, f, g, out);
     match answer {
         Outcome::Done => {
-            combine_into(f, g, minus, out);
+            combine_into(field, f, g, minus, out);
         }
         Outcome::Refused(_) => {}
     }
@@ -48,10 +62,10 @@ fn combine(f: &[u16], g: &[u16], minus: bool, out: &mut [u16]) -> Outcome
 }
 
 // What a sum and a difference refuse.
-fn judge_sum(f: &[u16], g: &[u16], out: &[u16]) -> Outcome
-    ensures { λ r. ⌜ r ≡ lowest (sumRefusals p (now (f .entry)) (now (g .entry)) (now (out .entry))) ⌝ }
+fn judge_sum(field: u8, f: &[u16], g: &[u16], out: &[u16]) -> Outcome
+    ensures { λ r. ⌜ r ≡ lowest (sumRows (modulus field) (longest field) (now (f .entry)) (now (g .entry)) (now (out .entry))) ⌝ }
 {
-    if let Outcome::Refused(of_lists) = lists::judge_lists(f, g) {
+    if let Outcome::Refused(of_lists) = lists::judge_lists(field, f, g) {
         return Outcome::Refused(of_lists);
     }
     if out.len() != lists::larger(f.len(), g.len()) {
@@ -61,46 +75,54 @@ fn judge_sum(f: &[u16], g: &[u16], out: &[u16]) -> Outcome
 }
 
 // a plus b, or a less b.
-fn combine_word(a: u16, b: u16, minus: bool) -> u16
-    ensures { λ r. ⌜ r ≡ cond minus ((a + (p - b % p)) % p) ((a + b) % p) ⌝ }
+fn combine_word(field: u8, a: u16, b: u16, minus: bool) -> u16
+    ensures { λ r. ⌜ r ≡ cond minus ((a + (modulus field - b % modulus field)) % modulus field) ((a + b) % modulus field) ⌝ }
 {
     if minus {
-        field::sub(a, b)
+        field::sub(field, a, b)
     } else {
-        field::add(a, b)
+        field::add(field, a, b)
     }
 }
 
 // The same word by word.
-fn combine_words(a: &[u16], b: &[u16], minus: bool, out: &mut [u16])
+fn combine_words(field: u8, a: &[u16], b: &[u16], minus: bool, out: &mut [u16])
     requires { ⌜ (length (now a) ≡ length (now out)) × (length (now b) ≡ length (now out)) ⌝ }
-    ensures { λ _. ⌜ now (out .exit) ≡ combinedWords F65521 minus (now (a .entry)) (now (b .entry)) ⌝ }
+    ensures { λ _. ⌜ now (out .exit) ≡ combinedWords (fieldAt field) minus (now (a .entry)) (now (b .entry)) ⌝ }
 {
     let mut k = 0;
     while k < out.len() {
-        out[k] = combine_word(a[k], b[k], minus);
+        out[k] = combine_word(field, a[k], b[k], minus);
         k += 1;
     }
 }
 
 // f and g raised into a and b, and their sum or difference.
-fn combine_in(f: &[u16], g: &[u16], minus: bool, a: &mut [u16], b: &mut [u16], out: &mut [u16])
-    requires { ⌜ SumFits p maxWords (now f) (now g) (now out) ⌝ }
+fn combine_in(
+    field: u8,
+    f: &[u16],
+    g: &[u16],
+    minus: bool,
+    a: &mut [u16],
+    b: &mut [u16],
+    out: &mut [u16],
+)
+    requires { ⌜ SumFits (modulus field) (longest field) (now f) (now g) (now out) ⌝ }
     requires { ⌜ (length (now a) ≡ length (now out)) × (length (now b) ≡ length (now out)) ⌝ }
-    ensures { λ _. ⌜ now (out .exit) ≡ combined F65521 minus (now (f .entry)) (now (g .entry)) ⌝ }
+    ensures { λ _. ⌜ now (out .exit) ≡ combined (fieldAt field) minus (now (f .entry)) (now (g .entry)) ⌝ }
 {
     let degree = out.len() - 1;
-    products::raise(f, NaiveDegree(degree), a);
-    products::raise(g, NaiveDegree(degree), b);
-    combine_words(a, b, minus, out);
+    products::raise_over(field, f, NaiveDegree(degree), a);
+    products::raise_over(field, g, NaiveDegree(degree), b);
+    combine_words(field, a, b, minus, out);
 }
 
-fn combine_into(f: &[u16], g: &[u16], minus: bool, out: &mut [u16])
-    requires { ⌜ SumFits p maxWords (now f) (now g) (now out) ⌝ }
-    ensures { λ _. ⌜ now (out .exit) ≡ combined F65521 minus (now (f .entry)) (now (g .entry)) ⌝ }
+fn combine_into(field: u8, f: &[u16], g: &[u16], minus: bool, out: &mut [u16])
+    requires { ⌜ SumFits (modulus field) (longest field) (now f) (now g) (now out) ⌝ }
+    ensures { λ _. ⌜ now (out .exit) ≡ combined (fieldAt field) minus (now (f .entry)) (now (g .entry)) ⌝ }
 {
     let n = out.len();
     let mut a = [0u16; refusal::MAX_WORDS];
     let mut b = [0u16; refusal::MAX_WORDS];
-    combine_in(f, g, minus, &mut a[..n], &mut b[..n], out);
+    combine_in(field, f, g, minus, &mut a[..n], &mut b[..n], out);
 }

@@ -11,8 +11,8 @@ use mathlib.Core.List.{List, [], _∷_, map}
 use Prim.Native.Nat.{ℕ}
 use Rattle.algebra.specs.Sum.{total}
 use Rattle.algebra.specs.Choose.{choose}
-use Rattle.algebra.specs.PrimeField as A
-use Rattle.algebra.specs.PrimeField.{F65521}
+use Rattle.field.specs.Fields as A
+use Rattle.field.specs.Fields.{F65521}
 use Rattle.lists.specs.Tabulate.{tabulate}
 use Rattle.lists.specs.Degrees.{naiveDegree, significantIn, significant, extent, power}
 use Rattle.lists.specs.Lists.{word, binomial, coefficient, scaled, unscaled}

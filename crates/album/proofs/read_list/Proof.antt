@@ -1,60 +1,20 @@
--- `album::read_list` meets its contract: the number of words says whether the call is refused.
+-- `album::read_list` meets its contract: field 0.
 -- Assumes nothing.
-use mathlib.Core.Path.{sym, _∙_}
+use Rattle.field.specs.Fields.{longest}
+use Rattle.album.specs.Calls.{readRefusals}
 use borrow.Author.Needs.{needs}
-use Rattle.album.proofs.Judged.{listed-done, listed-misfit, listed-refused}
 use Rattle.album.proofs.read_list.Statement.{statement}
 use Rattle.album.proofs.read_list.Tie as tie
 
-read-requires : tie.Need-read-requires
-read-requires c κs = search needs
-
-sub-t9 : tie.Need-sub-t9
-sub-t9 c = search needs
+read-list-over-requires : tie.Need-read-list-over-requires
+read-list-over-requires c κs = search needs
 
 same-length : tie.Need-same-length
 same-length c = search needs
 
 returns : tie.Need-returns
-returns c = let found = c .before .before .before .read .ensures in (listed-done 65521 _ _ _ (found .0) (c .if1 .taken), found .1)
-
-judge-call-requires : tie.Need-judge-call-requires
-judge-call-requires c κs = search needs
-
-enum-known-why : tie.Need-enum-known-why
-enum-known-why c = search needs
-
-enum-told : tie.Need-enum-told
-enum-told c = search needs
-
-same-length-2 : tie.Need-same-length-2
-same-length-2 c = search needs
-
-returns-2 : tie.Need-returns-2
-returns-2 c =
-    let found = c .before .before .before .before .before .before .before .read .ensures in
-    (listed-refused 65521 _ _ _ (sym (c .before .before .before .judge-call .ensures) ∙ c .before .why .given .1), found .1)
-
-same-length-3 : tie.Need-same-length-3
-same-length-3 c = search needs
-
-returns-3 : tie.Need-returns-3
-returns-3 c =
-    let found = c .before .before .before .before .before .before .read .ensures in
-    (listed-misfit 65521 _ _ _ (found .0) (c .before .before .before .if1 .left) (sym (c .before .before .judge-call .ensures) ∙ c .enum-told .given .1), found .1)
+unfolding longest readRefusals
+returns c = c .before .before .read-list-over .ensures
 
 pub read-list-spec : {M : Type 1} → statement M
-read-list-spec =
-    tie.close
-    (tie.spec
-    read-requires
-    sub-t9
-    same-length
-    returns
-    judge-call-requires
-    enum-known-why
-    enum-told
-    same-length-2
-    returns-2
-    same-length-3
-    returns-3)
+read-list-spec = tie.close (tie.spec read-list-over-requires same-length returns)

@@ -6,10 +6,11 @@ use Prim.Native.Nat.{_≤_, _-_}
 use native.Mathlib.Omega.{arith}
 use lib.ListN.{length, getD, drop}
 use borrow.Author.Needs.{needs}
-use Rattle.refusal.specs.Limits.{maxWords}
+use Rattle.field.specs.Fields.{modulus, longest}
 use Rattle.lists.specs.Degrees.{significant}
 use Rattle.layout.specs.Layout.{listAt, listsOf}
 use Rattle.layout.specs.Places.{length-lists, list-at}
+use Rattle.layout.proofs.Passed.{passed-obeys}
 use Rattle.album.specs.Workers.{Held}
 use Rattle.album.proofs.Held.{held-take, held-inside, held-count, read-held}
 use Rattle.album_gcd.specs.Calls.{allZero}
@@ -18,13 +19,13 @@ use Rattle.album_gcd.proofs.all_zero.Statement.{statement}
 use Rattle.album_gcd.proofs.all_zero.Tie as tie
 
 abbrev Inv-loop : tie.InvT-loop
-Inv-loop album list₀ n i₀ list i = (i ≤ n) × (length list ≡ maxWords) × (allZero (listsOf album) ≡ allZero (drop i (listsOf album)))
+Inv-loop field album list₀ n i₀ list i = (i ≤ n) × (length list ≡ longest field) × (allZero (listsOf album) ≡ allZero (drop i (listsOf album)))
 
 abbrev μ-loop : tie.MeasureT-loop
-μ-loop album list₀ n i₀ list i = n - i
+μ-loop field album list₀ n i₀ list i = n - i
 
 count-lists-requires : tie.Need-count-lists-requires Inv-loop μ-loop
-count-lists-requires c κs = search needs
+count-lists-requires c κs = passed-obeys _ _ (c .before .before .pre .0) .some
 
 loop-holds : tie.Need-loop-holds Inv-loop μ-loop
 loop-holds c = (search needs, search needs, refl)
@@ -33,10 +34,10 @@ read-requires : tie.Need-read-requires Inv-loop μ-loop
 read-requires c κs = search needs
 
 -- list i, as it is read
-held : (c : tie.After-read Inv-loop μ-loop) → Held 65521 (c .read .last .1 .1 .0) (c .read .result) (listAt (c .before .before .before .before .before .before .before .args .album .now) (c .before .before .before .loop .i))
+held : (c : tie.After-read Inv-loop μ-loop) → Held (modulus (c .before .before .before .before .before .before .before .args .field)) (longest (c .before .before .before .before .before .before .before .args .field)) (c .read .last .1 .1 .1 .0) (c .read .result) (listAt (c .before .before .before .before .before .before .before .args .album .now) (c .before .before .before .loop .i))
 held c =
     let counted = c .before .before .before .before .count-lists .ensures in
-    read-held 65521 _ _ _ (c .before .before .before .before .before .before .before .pre .0) (omega arith) (c .before .before .before .loop .inv .1) (c .read .kept .1 .1 .0) (c .read .ensures .0) (c .read .ensures .1)
+    read-held _ _ _ _ _ (c .before .before .before .before .before .before .before .pre .0) (omega arith) (c .before .before .before .loop .inv .1) (c .read .kept .1 .1 .1 .0) (c .read .ensures .0) (c .read .ensures .1)
 
 slice-reshare-prefix-significant-words :
     tie.Need-slice-reshare-prefix-significant-words Inv-loop μ-loop

@@ -1,5 +1,5 @@
 -- `album_gcd::common_power` meets its contract. The loop's invariant: `least` is at most the power of each list below j that is not zero,
--- and is 256 or the power of a list that is not zero. The measure is the number of lists left.
+-- and is the words of the longest list or the power of a list that is not zero. The measure is the number of lists left.
 -- Assumes nothing.
 use mathlib.Core.Path.{_≡_, sym, _∙_}
 use mathlib.Core.List.{[]}
@@ -8,11 +8,12 @@ use Prim.Native.Nat.{_≤_, _<_, _-_}
 use native.Mathlib.Omega.{arith}
 use lib.ListN.{length, getD}
 use borrow.Author.Needs.{needs}
-use Rattle.refusal.specs.Limits.{maxWords}
+use Rattle.field.specs.Fields.{modulus, longest}
+use Rattle.field.specs.FieldsLaws.{longest-full}
 use Rattle.lists.specs.Degrees.{significant, power}
 use Rattle.layout.specs.Layout.{listAt, listsOf}
 use Rattle.layout.specs.Places.{length-lists, list-at}
-use Rattle.layout.proofs.Passed.{passed-each}
+use Rattle.layout.proofs.Passed.{passed-obeys, passed-each}
 use Rattle.album.specs.Workers.{Held}
 use Rattle.album.proofs.Held.{held-inside, held-count, read-held}
 use Rattle.album_gcd.proofs.Zeros.{nonzero}
@@ -21,25 +22,28 @@ use Rattle.album_gcd.proofs.common_power.Statement.{statement}
 use Rattle.album_gcd.proofs.common_power.Tie as tie
 
 abbrev Inv-loop : tie.InvT-loop
-Inv-loop album list₀ n least₀ j₀ list least j = (j ≤ n) × (length list ≡ maxWords) × Lowest (listsOf album) j least
+Inv-loop field album list₀ n least₀ j₀ list least j = (j ≤ n) × (length list ≡ longest field) × Lowest (longest field) (listsOf album) j least
 
 abbrev μ-loop : tie.MeasureT-loop
-μ-loop album list₀ n least₀ j₀ list least j = n - j
+μ-loop field album list₀ n least₀ j₀ list least j = n - j
 
 count-lists-requires : tie.Need-count-lists-requires Inv-loop μ-loop
-count-lists-requires c κs = search needs
+count-lists-requires c κs = passed-obeys _ _ (c .before .before .pre .0 .0) .some
+
+longest-of-requires : tie.Need-longest-of-requires Inv-loop μ-loop
+longest-of-requires c κs = search needs
 
 loop-holds : tie.Need-loop-holds Inv-loop μ-loop
-loop-holds c = (search needs, search needs, lowest-start _)
+loop-holds c = (search needs, search needs, lowest-start _ _ (c .longest-of .ensures))
 
 read-requires : tie.Need-read-requires Inv-loop μ-loop
 read-requires c κs = search needs
 
 -- list j, as it is read
-held : (c : tie.After-read Inv-loop μ-loop) → Held 65521 (c .read .last .1 .1 .0) (c .read .result) (listAt (c .before .before .before .before .before .before .before .args .album .now) (c .before .before .before .loop .j))
+held : (c : tie.After-read Inv-loop μ-loop) → Held (modulus (c .before .before .before .before .before .before .before .before .args .field)) (longest (c .before .before .before .before .before .before .before .before .args .field)) (c .read .last .1 .1 .1 .0) (c .read .result) (listAt (c .before .before .before .before .before .before .before .before .args .album .now) (c .before .before .before .loop .j))
 held c =
-    let counted = c .before .before .before .before .count-lists .ensures in
-    read-held 65521 _ _ _ (c .before .before .before .before .before .before .before .pre .0 .0) (omega arith) (c .before .before .before .loop .inv .1) (c .read .kept .1 .1 .0) (c .read .ensures .0) (c .read .ensures .1)
+    let counted = c .before .before .before .before .before .count-lists .ensures in
+    read-held _ _ _ _ _ (c .before .before .before .before .before .before .before .before .pre .0 .0) (omega arith) (c .before .before .before .loop .inv .1) (c .read .kept .1 .1 .1 .0) (c .read .ensures .0) (c .read .ensures .1)
 
 slice-reshare-prefix-significant-words :
     tie.Need-slice-reshare-prefix-significant-words Inv-loop μ-loop
@@ -53,12 +57,12 @@ significant-words-requires c κs = search needs
 
 -- what is found of list j: its significant words, at most as many as its words; the difference is its power
 listed : (c : tie.After-significant-words Inv-loop μ-loop)
-    → (c .significant-words .result ≡ significant (getD (listsOf (c .before .before .before .before .before .before .before .before .before .before .before .args .album .now)) (c .before .before .before .before .before .before .before .loop .j) []))
+    → (c .significant-words .result ≡ significant (getD (listsOf (c .before .before .before .before .before .before .before .before .before .before .before .before .args .album .now)) (c .before .before .before .before .before .before .before .loop .j) []))
     × (c .significant-words .result ≤ c .before .before .before .before .read .result)
-    × (0 < c .significant-words .result → c .before .before .before .before .read .result - c .significant-words .result ≡ power (getD (listsOf (c .before .before .before .before .before .before .before .before .before .before .before .args .album .now)) (c .before .before .before .before .before .before .before .loop .j) []))
+    × (0 < c .significant-words .result → c .before .before .before .before .read .result - c .significant-words .result ≡ power (getD (listsOf (c .before .before .before .before .before .before .before .before .before .before .before .before .args .album .now)) (c .before .before .before .before .before .before .before .loop .j) []))
 listed c =
-    let s = c .before .before .before .before .before .before .before .before .before .before .before .args .album .now in
-    let counted = c .before .before .before .before .before .before .before .before .count-lists .ensures in
+    let s = c .before .before .before .before .before .before .before .before .before .before .before .before .args .album .now in
+    let counted = c .before .before .before .before .before .before .before .before .before .count-lists .ensures in
     list-power (sym (list-at s _ (omega arith))) (held (c .before .before .before .before)) (c .significant-words .ensures)
 
 sub-if2 : tie.Need-sub-if2 Inv-loop μ-loop
@@ -80,10 +84,10 @@ loop-again c =
       omega arith,
       search needs,
       ⊎-elim
-          (λ came. let some = came .0 .taken in let less = came .1 .taken in lowest-less _ inv (omega (arith, list .0)) (came .2 ∙ list .2 (omega arith)) (omega (arith, came .2)))
+          (λ came. let some = came .0 .taken in let less = came .1 .taken in lowest-less _ _ inv (omega (arith, list .0)) (came .2 ∙ list .2 (omega arith)) (omega (arith, came .2)))
           (⊎-elim
-          (λ came. let some = came .0 .taken in let more = came .1 .left in lowest-keep _ inv (came .2) (λ z. omega (arith, list .2 (omega arith))))
-          (λ came. let none = came .0 .left in lowest-keep _ inv (came .1) (λ z. absurd (omega (arith, list .0)))))
+          (λ came. let some = came .0 .taken in let more = came .1 .left in lowest-keep _ _ inv (came .2) (λ z. omega (arith, list .2 (omega arith))))
+          (λ came. let none = came .0 .left in lowest-keep _ _ inv (came .1) (λ z. absurd (omega (arith, list .0)))))
           (c .if1 .came),
     )
 
@@ -92,12 +96,12 @@ same-length c = search needs
 
 returns : tie.Need-returns Inv-loop μ-loop
 returns c =
-    let start = c .before .before .before .before .before in
+    let start = c .before .before .before .before .before .before in
     let s = start .args .album .now in
-    let bytes = c .before .before .before .before .shared-slice-known .given in
-    let counted = c .before .before .count-lists .ensures in
-    lowest-end (listsOf s) (c .before .loop .inv .2) (omega (arith, length-lists s)) (nonzero (listsOf s) (start .pre .0 .1))
-    (λ j k. passed-each 65521 s (start .pre .0 .0) (λ i. omega (arith, bytes i)) j k .short)
+    let bytes = c .before .before .before .before .before .shared-slice-known .given in
+    let counted = c .before .before .before .count-lists .ensures in
+    lowest-end _ (listsOf s) (c .before .loop .inv .2) (omega (arith, length-lists s)) (nonzero (listsOf s) (start .pre .0 .1))
+    (λ j k. passed-each _ s (start .pre .0 .0) (λ i. omega (arith, bytes i)) _ (omega (arith, longest-full (start .args .field))) j k .short)
 
 pub common-power-spec : {M : Type 1} → statement M
 common-power-spec =
@@ -106,6 +110,7 @@ common-power-spec =
     Inv-loop
     μ-loop
     count-lists-requires
+    longest-of-requires
     loop-holds
     read-requires
     slice-reshare-prefix-significant-words

@@ -1,13 +1,12 @@
--- `album_gcd::count_lists` meets its contract: an album that passed has a first byte.
+-- `album_gcd::count_lists` meets its contract.
 -- Assumes nothing.
 use native.Mathlib.Omega.{arith}
 use borrow.Author.Needs.{needs}
-use Rattle.layout.proofs.Passed.{passed-obeys}
 use Rattle.album_gcd.proofs.count_lists.Statement.{statement}
 use Rattle.album_gcd.proofs.count_lists.Tie as tie
 
 shared-slice-read-result : tie.Need-shared-slice-read-result
-shared-slice-read-result c = omega (arith, passed-obeys 65521 _ (c .before .pre) .some)
+shared-slice-read-result c = search needs
 
 cast-result : tie.Need-cast-result
 cast-result c = omega (arith, c .shared-slice-known .given 0)

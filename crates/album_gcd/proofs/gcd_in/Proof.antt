@@ -2,7 +2,7 @@
 -- Assumes nothing.
 use mathlib.Core.Path.{sym, _∙_}
 use borrow.Author.Needs.{needs}
-use Rattle.algebra.specs.PrimeField.{F65521}
+use Rattle.field.specs.Fields.{fieldAt}
 use Rattle.album_gcd.proofs.Judging.{judged-fine}
 use Rattle.album_gcd.proofs.Finish.{refused}
 use Rattle.album_gcd.proofs.gcd_in.Statement.{statement}
@@ -19,7 +19,7 @@ enum-told c = search needs
 
 gcd-into-requires : tie.Need-gcd-into-requires
 gcd-into-requires c κs =
-    let fine = judged-fine 65521 _ _ (sym (c .before .before .before .before .before .before .before .judge .ensures) ∙ c .before .before .before .enum-told .given .1) in
+    let fine = judged-fine _ _ _ _ (sym (c .before .before .before .before .before .before .before .judge .ensures) ∙ c .before .before .before .enum-told .given .1) in
     ((fine .0, fine .1), ((search needs, search needs, fine .2), search needs))
 
 same-length : tie.Need-same-length
@@ -29,8 +29,8 @@ same-length-2 : tie.Need-same-length-2
 same-length-2 c = search needs
 
 returns : tie.Need-returns
-unfolding F65521
-returns c = refused F65521 _ _ (sym (c .before .before .before .before .before .judge .ensures) ∙ c .before .answer .given .1)
+unfolding fieldAt
+returns c = refused (fieldAt _) _ _ _ (sym (c .before .before .before .before .before .judge .ensures) ∙ c .before .answer .given .1)
 
 same-length-3 : tie.Need-same-length-3
 same-length-3 c = search needs

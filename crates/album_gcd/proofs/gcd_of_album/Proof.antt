@@ -1,30 +1,20 @@
--- `album_gcd::gcd_of_album` meets its contract: it lends arrays of zeros.
+-- `album_gcd::gcd_of_album` meets its contract: field 0.
 -- Assumes nothing.
-use mathlib.Core.Path.{refl}
 use borrow.Author.Needs.{needs}
-use Rattle.algebra.specs.PrimeField.{F65521}
-use Rattle.refusal.specs.Limits.{maxWords}
-use Rattle.gcd.proofs.Buffers.{getD-zeros}
+use Rattle.field.specs.Fields.{longest}
+use Rattle.album_gcd.specs.Calls.{albumGcdRefusals}
 use Rattle.album_gcd.proofs.gcd_of_album.Statement.{statement}
 use Rattle.album_gcd.proofs.gcd_of_album.Tie as tie
 
-slice-aggregate-gcd-in : tie.Need-slice-aggregate-gcd-in
-slice-aggregate-gcd-in c = search needs
-
-slice-aggregate-gcd-in-2 : tie.Need-slice-aggregate-gcd-in-2
-slice-aggregate-gcd-in-2 c = search needs
-
-gcd-in-requires : tie.Need-gcd-in-requires
-gcd-in-requires c κs = ((refl, refl), getD-zeros maxWords)
+album-gcd-over-requires : tie.Need-album-gcd-over-requires
+album-gcd-over-requires c κs = search needs
 
 same-length : tie.Need-same-length
 same-length c = search needs
 
 returns : tie.Need-returns
-unfolding F65521
-returns c = let ensures = c .before .before .before .before .gcd-in .ensures in (ensures .answer, (ensures .writes, ensures .greatest))
+unfolding longest albumGcdRefusals
+returns c = c .before .before .album-gcd-over .ensures
 
 pub gcd-of-album-spec : {M : Type 1} → statement M
-gcd-of-album-spec =
-    tie.close
-    (tie.spec slice-aggregate-gcd-in slice-aggregate-gcd-in-2 gcd-in-requires same-length returns)
+gcd-of-album-spec = tie.close (tie.spec album-gcd-over-requires same-length returns)

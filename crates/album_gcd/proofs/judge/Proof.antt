@@ -1,7 +1,9 @@
 -- `album_gcd::judge` meets its contract: the tests stand in the order of the numbers.
 -- Assumes nothing.
 use mathlib.Core.Path.{sym, _∙_}
+use native.Mathlib.Omega.{arith}
 use borrow.Author.Needs.{needs}
+use Rattle.field.specs.Fields.{modulus}
 use Rattle.layout.specs.Workers.{Passed}
 use Rattle.album_gcd.proofs.Judging.{judged-album, judged-zero, judged-misfit, judged-done}
 use Rattle.album_gcd.proofs.judge.Statement.{statement}
@@ -14,13 +16,13 @@ enum-known-why : tie.Need-enum-known-why
 enum-known-why c = search needs
 
 returns : tie.Need-returns
-returns c = judged-album 65521 _ _ (sym (c .before .before .before .judge-album .ensures) ∙ c .before .why .given .1)
+returns c = judged-album _ _ _ _ (sym (c .before .before .before .judge-album .ensures) ∙ c .before .why .given .1)
 
 enum-told : tie.Need-enum-told
 enum-told c = search needs
 
 -- the album passed
-passed : (c : tie.After-enum-told) → Passed 65521 (c .before .before .before .before .before .before .args .album .now)
+passed : (c : tie.After-enum-told) → Passed (modulus (c .before .before .before .before .before .before .args .field)) (c .before .before .before .before .before .before .args .album .now)
 passed c = sym (c .before .before .judge-album .ensures) ∙ c .enum-told .given .1
 
 all-zero-requires : tie.Need-all-zero-requires
@@ -30,19 +32,22 @@ same-length : tie.Need-same-length
 same-length c = search needs
 
 returns-2 : tie.Need-returns-2
-returns-2 c = judged-zero 65521 _ _ (passed (c .before .before .before .before .before)) (sym (c .before .before .before .all-zero .ensures) ∙ c .if1 .taken)
+returns-2 c = judged-zero _ _ _ _ (passed (c .before .before .before .before .before)) (sym (c .before .before .before .all-zero .ensures) ∙ c .if1 .taken)
+
+longest-of-requires : tie.Need-longest-of-requires
+longest-of-requires c κs = search needs
 
 same-length-2 : tie.Need-same-length-2
 same-length-2 c = search needs
 
 returns-3 : tie.Need-returns-3
-returns-3 c = judged-misfit 65521 _ _ (passed (c .before .before .before .before .before .before)) (sym (c .before .before .before .before .all-zero .ensures) ∙ c .before .if1 .left) (c .if2 .taken)
+returns-3 c = judged-misfit _ _ _ _ (passed (c .before .before .before .before .before .before .before)) (sym (c .before .before .before .before .before .all-zero .ensures) ∙ c .before .before .if1 .left) (λ e. omega arith)
 
 same-length-3 : tie.Need-same-length-3
 same-length-3 c = search needs
 
 returns-4 : tie.Need-returns-4
-returns-4 c = judged-done 65521 _ _ (passed (c .before .before .before .before .before .before)) (sym (c .before .before .before .before .all-zero .ensures) ∙ c .before .if1 .left) (c .if2 .left)
+returns-4 c = judged-done _ _ _ _ (passed (c .before .before .before .before .before .before .before)) (sym (c .before .before .before .before .before .all-zero .ensures) ∙ c .before .before .if1 .left) (omega arith)
 
 pub judge-spec : {M : Type 1} → statement M
 judge-spec =
@@ -55,6 +60,7 @@ judge-spec =
     all-zero-requires
     same-length
     returns-2
+    longest-of-requires
     same-length-2
     returns-3
     same-length-3

@@ -2,17 +2,18 @@
 -- The measure is the number of entries left.
 -- Assumes nothing.
 use mathlib.Core.Path.{_≡_}
-use Prim.Native.Nat.{_-_, _≤_}
+use Prim.Native.Nat.{_-_, _*_, _≤_}
 use lib.ListN.{length}
+use Rattle.refusal.specs.Limits.{maxWords, maxLists}
 use borrow.Author.Needs.{needs}
 use Rattle.album_table.proofs.entries.Statement.{statement}
 use Rattle.album_table.proofs.entries.Tie as tie
 
 abbrev Inv-loop : tie.InvT-loop
-Inv-loop bytes₀ degree step k₀ at₀ bytes k at = (k ≤ 16) × (at ≤ 65535) × (step ≤ 512) × (length bytes ≡ length bytes₀)
+Inv-loop bytes₀ degree step k₀ at₀ bytes k at = (k ≤ maxLists) × (at ≤ 65535) × (step ≤ 2 * maxWords) × (length bytes ≡ length bytes₀)
 
 abbrev μ-loop : tie.MeasureT-loop
-μ-loop bytes₀ degree step k₀ at₀ bytes k at = 16 - k
+μ-loop bytes₀ degree step k₀ at₀ bytes k at = maxLists - k
 
 put-requires : tie.Need-put-requires Inv-loop μ-loop
 put-requires c κs = search needs
@@ -26,32 +27,23 @@ mul-step c = search needs
 loop-holds : tie.Need-loop-holds Inv-loop μ-loop
 loop-holds c = search needs
 
-mul-put : tie.Need-mul-put Inv-loop μ-loop
-mul-put c = search needs
+mul-entry : tie.Need-mul-entry Inv-loop μ-loop
+mul-entry c = search needs
 
-add-put : tie.Need-add-put Inv-loop μ-loop
-add-put c = search needs
+add-entry : tie.Need-add-entry Inv-loop μ-loop
+add-entry c = search needs
 
 put-requires-2 : tie.Need-put-requires-2 Inv-loop μ-loop
 put-requires-2 c κs = search needs
 
-mul-put-2 : tie.Need-mul-put-2 Inv-loop μ-loop
-mul-put-2 c = search needs
+add-put-word : tie.Need-add-put-word Inv-loop μ-loop
+add-put-word c = search needs
 
-add-put-2 : tie.Need-add-put-2 Inv-loop μ-loop
-add-put-2 c = search needs
+cast-put-word : tie.Need-cast-put-word Inv-loop μ-loop
+cast-put-word c = search needs
 
-put-requires-3 : tie.Need-put-requires-3 Inv-loop μ-loop
-put-requires-3 c κs = search needs
-
-mul-put-3 : tie.Need-mul-put-3 Inv-loop μ-loop
-mul-put-3 c = search needs
-
-add-put-3 : tie.Need-add-put-3 Inv-loop μ-loop
-add-put-3 c = search needs
-
-put-requires-4 : tie.Need-put-requires-4 Inv-loop μ-loop
-put-requires-4 c κs = search needs
+put-word-requires : tie.Need-put-word-requires Inv-loop μ-loop
+put-word-requires c κs = search needs
 
 add-at : tie.Need-add-at Inv-loop μ-loop
 add-at c = search needs
@@ -81,15 +73,12 @@ entries-spec =
     add-step
     mul-step
     loop-holds
-    mul-put
-    add-put
+    mul-entry
+    add-entry
     put-requires-2
-    mul-put-2
-    add-put-2
-    put-requires-3
-    mul-put-3
-    add-put-3
-    put-requires-4
+    add-put-word
+    cast-put-word
+    put-word-requires
     add-at
     add-k
     loop-less

@@ -2,10 +2,9 @@
 -- Assumes nothing.
 use mathlib.Core.Path.{_≡_, sym, ap, _∙_}
 use borrow.Author.Needs.{needs}
-use Rattle.algebra.specs.PrimeField.{F65521}
+use Rattle.field.specs.Fields.{F65521, p}
 use Rattle.refusal.specs.Refusal.{outcomeNumber}
 use Rattle.refusal.specs.Lowest.{lowest}
-use Rattle.field.specs.Field.{p}
 use Rattle.gcd.specs.Calls.{gcdReply, gcdValues}
 use Rattle.cofactors.specs.Calls.{cofactorRefusals}
 use Rattle.refusal.proofs.Answers.{number-is}

@@ -3,9 +3,9 @@
 use mathlib.Core.Path.{_≡_, sym, ap, _∙_}
 use lib.ListN.{getD}
 use borrow.Author.Needs.{needs}
-use Rattle.algebra.specs.PrimeField.{F65521}
+use Rattle.field.specs.Fields.{F65521, p}
 use Rattle.refusal.specs.Lowest.{lowest}
-use Rattle.field.specs.Field.{p, wordReply}
+use Rattle.field.specs.Field.{wordReply}
 use Rattle.lists.specs.Operations.{evaluate}
 use Rattle.evaluation.specs.Calls.{evaluateRefusals}
 use Rattle.bench_calls.specs.Values.{valueOrZero}

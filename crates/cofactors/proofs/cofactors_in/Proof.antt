@@ -1,16 +1,28 @@
 -- `cofactors::cofactors_in` meets its contract: the row of the last x, written, is what the definitions name.
 -- Assumes nothing.
+use Prim.Native.Nat.{_<_}
+use native.Mathlib.Omega.{arith}
 use borrow.Author.Needs.{needs}
-use Rattle.algebra.specs.PrimeField.{F65521}
+use Rattle.field.specs.Fields.{fieldAt}
+use Rattle.field.specs.FieldsLaws.{longest-more}
 use Rattle.cofactors.proofs.Results.{last-row, slices-short, results}
 use Rattle.cofactors.proofs.cofactors_in.Statement.{statement}
 use Rattle.cofactors.proofs.cofactors_in.Tie as tie
 
+-- a row's parts have more than 1 word
+more : (s : tie.Start) → 1 < s .args .n
+more s = omega (arith, longest-more (s .args .field))
+
 find-last-requires : tie.Need-find-last-requires
-find-last-requires c κs = search needs
+find-last-requires c κs =
+    let pre = c .before .before .before .before .before .before .before .before .before .before .before .before .before .before .pre in
+    (pre .0, (pre .1 .0, (pre .1 .1 .0, pre .1 .1 .1 .1)))
 
 write-last-requires : tie.Need-write-last-requires
-write-last-requires c κs = (last-row F65521 (c .before .before .before .before .before .before .before .before .before .before .before .find-last .ensures), slices-short F65521 (c .before .before .before .before .before .before .before .before .before .before .before .before .before .before .before .before .before .before .before .before .before .before .before .pre .0) (c .before .before .before .before .before .before .before .before .before .before .before .before .before .before .before .before .before .before .before .before .before .before .before .pre .1 .0))
+write-last-requires c κs =
+    let start = c .before .before .before .before .before .before .before .before .before .before .before .before .before .before .before .before .before .before .before .before .before .before .before .before .before .before in
+    let pre = start .pre in
+    (pre .0, (pre .1 .0, (last-row (fieldAt _) (c .before .before .before .before .before .before .before .before .before .before .before .find-last .ensures), slices-short (fieldAt _) _ (more start) (pre .1 .1 .0) (pre .1 .1 .1 .0))))
 
 common-power-requires : tie.Need-common-power-requires
 common-power-requires c κs = search needs
@@ -34,7 +46,10 @@ same-length-6 : tie.Need-same-length-6
 same-length-6 c = search needs
 
 returns : tie.Need-returns
-returns c = results F65521 _ _ (c .before .before .before .before .before .before .before .before .before .before .before .before .before .before .before .before .before .before .before .before .before .before .before .before .before .before .before .before .before .before .before .before .before .before .before .args .h .now) _ _ (c .before .before .before .before .before .before .before .before .before .before .before .before .before .before .before .before .before .before .before .before .before .before .before .before .before .before .before .before .before .before .before .before .before .before .before .pre .0) (c .before .before .before .before .before .before .before .before .before .before .before .before .before .before .before .before .before .before .before .before .before .before .before .before .before .before .before .before .before .before .before .before .before .before .before .pre .1 .0) (c .before .before .before .before .before .before .before .before .before .before .before .before .before .before .before .before .before .before .before .before .before .before .before .find-last .ensures) (c .before .before .before .before .before .before .before .before .before .before .before .write-last .ensures) (c .common-power .ensures)
+returns c =
+    let start = c .before .before .before .before .before .before .before .before .before .before .before .before .before .before .before .before .before .before .before .before .before .before .before .before .before .before .before .before .before .before .before .before .before .before .before .before .before .before in
+    let pre = start .pre in
+    results (fieldAt _) _ (more start) _ _ (start .args .h .now) _ _ (pre .1 .1 .0) (pre .1 .1 .1 .0) (c .before .before .before .before .before .before .before .before .before .before .before .before .before .before .before .before .before .before .before .before .before .before .before .find-last .ensures) (c .before .before .before .before .before .before .before .before .before .before .before .write-last .ensures) (c .common-power .ensures)
 
 pub cofactors-in-spec : {M : Type 1} → statement M
 cofactors-in-spec =

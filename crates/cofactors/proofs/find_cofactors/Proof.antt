@@ -1,40 +1,13 @@
--- `cofactors::find_cofactors` meets its contract: a call that is not refused has all that the work requires.
+-- `cofactors::find_cofactors` meets its contract: field 0.
 -- Assumes nothing.
-use mathlib.Core.List.{List}
-use mathlib.Core.Path.{_≡_, sym, _∙_}
-use Prim.Native.Nat.{ℕ}
-use lib.Dec.{leb→le}
-use borrow.Author.Needs.{needs}
-use Rattle.algebra.specs.PrimeField.{F65521}
-use Rattle.refusal.specs.declared.Outcome.the-variants.{Done}
-use Rattle.refusal.specs.Lowest.{lowest}
-use Rattle.refusal.specs.Limits.{maxWords}
-use Rattle.field.specs.Field.{p}
-use Rattle.euclid.specs.Gcds.{cofactorA, cofactorB}
-use Rattle.gcd.specs.Workers.{Ready}
-use Rattle.gcd.proofs.Finish.{refused}
-use Rattle.cofactors.specs.Workers.{Slices}
-use Rattle.cofactors.proofs.Results.{cofactors-ready, cofactors-answered}
-use Rattle.refusal.proofs.Answers.{kept}
+use Rattle.field.specs.Fields.{longest}
 use Rattle.cofactors.specs.Calls.{cofactorRefusals}
+use borrow.Author.Needs.{needs}
 use Rattle.cofactors.proofs.find_cofactors.Statement.{statement}
 use Rattle.cofactors.proofs.find_cofactors.Tie as tie
 
-found-ready : (f g h a b : List ℕ) → lowest (cofactorRefusals p f g h a b) ≡ Done → Ready F65521 maxWords f g × Slices f g h a b
-unfolding F65521
-found-ready f g h a b e = cofactors-ready F65521 (leb→le 256 65521 tt) f g h a b e
-
-judge-cofactors-requires : tie.Need-judge-cofactors-requires
-judge-cofactors-requires c κs = search needs
-
-enum-known-answer : tie.Need-enum-known-answer
-enum-known-answer c = search needs
-
-enum-told : tie.Need-enum-told
-enum-told c = search needs
-
-cofactors-into-requires : tie.Need-cofactors-into-requires
-cofactors-into-requires c κs = found-ready _ _ _ _ _ (sym (c .before .before .before .before .before .judge-cofactors .ensures) ∙ c .before .before .before .enum-told .given .1)
+cofactors-over-requires : tie.Need-cofactors-over-requires
+cofactors-over-requires c κs = search needs
 
 same-length : tie.Need-same-length
 same-length c = search needs
@@ -46,41 +19,10 @@ same-length-3 : tie.Need-same-length-3
 same-length-3 c = search needs
 
 returns : tie.Need-returns
-returns c =
-    let start = c .before .before .before .before .before .before .before .before .before .before .before .before in
-    let found = sym (c .before .before .before .judge-cofactors .ensures) ∙ c .before .answer .given .1 in
-    let of-gcd = refused F65521 (start .args .f .now) (start .args .g .now) (start .args .h .now) found in
-    (of-gcd .0, (of-gcd .1, (kept (cofactorA F65521 (start .args .f .now) (start .args .g .now)) (start .args .a .now) found, (kept (cofactorB F65521 (start .args .f .now) (start .args .g .now)) (start .args .b .now) found, (tt, tt)))))
-
-same-length-4 : tie.Need-same-length-4
-same-length-4 c = search needs
-
-same-length-5 : tie.Need-same-length-5
-same-length-5 c = search needs
-
-same-length-6 : tie.Need-same-length-6
-same-length-6 c = search needs
-
-returns-2 : tie.Need-returns-2
-returns-2 c =
-    let start = c .before .before .before .before .before .before .before .before .before .before .before .before .before .before .before .before .before .before .before .before .before in
-    let found = sym (c .before .before .before .before .before .before .before .before .before .before .before .before .judge-cofactors .ensures) ∙ c .before .before .before .before .before .before .before .before .before .before .enum-told .given .1 in
-    let all = cofactors-answered F65521 (start .args .f .now) (start .args .g .now) (start .args .h .now) (start .args .a .now) (start .args .b .now) found (found-ready _ _ _ _ _ found .0) (c .before .before .before .before .before .before .cofactors-into .ensures) in
-    (all .0, (all .1, (all .2, (all .3, (all .4, all .5)))))
+unfolding longest cofactorRefusals
+returns c = c .before .before .before .before .before .before .cofactors-over .ensures
 
 pub find-cofactors-spec : {M : Type 1} → statement M
 find-cofactors-spec =
     tie.close
-    (tie.spec
-    judge-cofactors-requires
-    enum-known-answer
-    enum-told
-    cofactors-into-requires
-    same-length
-    same-length-2
-    same-length-3
-    returns
-    same-length-4
-    same-length-5
-    same-length-6
-    returns-2)
+    (tie.spec cofactors-over-requires same-length same-length-2 same-length-3 returns)

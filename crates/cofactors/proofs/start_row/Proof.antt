@@ -3,20 +3,20 @@
 use native.Mathlib.Omega.{arith}
 use lib.ListN.{length-take}
 use borrow.Author.Needs.{needs}
-use Rattle.algebra.specs.PrimeField.{F65521}
-use Rattle.refusal.specs.Limits.{maxWords}
+use Rattle.field.specs.Fields.{fieldAt}
+use Rattle.field.specs.FieldsLaws.{p-at, longest-in}
 use Rattle.cofactors.proofs.Start.{row-started}
 use Rattle.cofactors.proofs.start_row.Statement.{statement}
 use Rattle.cofactors.proofs.start_row.Tie as tie
 
-slice-relend-prefix-scale : tie.Need-slice-relend-prefix-scale
-slice-relend-prefix-scale c = search needs
+slice-relend-prefix-weigh : tie.Need-slice-relend-prefix-weigh
+slice-relend-prefix-weigh c = search needs
 
-slice-aggregate-scale : tie.Need-slice-aggregate-scale
-slice-aggregate-scale c = simp length-take (omega arith)
+slice-aggregate-weigh : tie.Need-slice-aggregate-weigh
+slice-aggregate-weigh c = simp length-take (omega arith)
 
-scale-requires : tie.Need-scale-requires
-scale-requires c κs = search needs
+weigh-requires : tie.Need-weigh-requires
+weigh-requires c κs = search needs
 
 mul-row : tie.Need-mul-row
 mul-row c = search needs
@@ -28,15 +28,17 @@ same-length : tie.Need-same-length
 same-length c = search needs
 
 returns : tie.Need-returns
-returns c = row-started F65521 maxWords _ _ _ (c .before .before .before .before .before .before .pre .0 .0) (c .before .before .before .before .before .before .pre .0 .1) (c .before .before .before .before .before .before .pre .1 .0 .0) (c .before .before .before .before .before .before .pre .1 .0 .1) (c .before .before .before .before .before .before .pre .1 .1) (c .before .before .scale .ensures)
+returns c =
+    let pre = c .before .before .before .before .before .before .before .before .pre in
+    row-started (fieldAt _) _ (p-at _) (longest-in _) _ _ (pre .0) _ _ _ (pre .1 .0 .0) (pre .1 .0 .1) (pre .1 .1 .0 .0) (pre .1 .1 .0 .1) (pre .1 .1 .1) (c .before .before .weigh .ensures)
 
 pub start-row-spec : {M : Type 1} → statement M
 start-row-spec =
     tie.close
     (tie.spec
-    slice-relend-prefix-scale
-    slice-aggregate-scale
-    scale-requires
+    slice-relend-prefix-weigh
+    slice-aggregate-weigh
+    weigh-requires
     mul-row
     slice-write-row
     same-length

@@ -3,6 +3,7 @@
 use native.Mathlib.Omega.{arith}
 use lib.ListN.{length-take}
 use borrow.Author.Needs.{needs}
+use Rattle.field.specs.Fields.{modulus}
 use Rattle.cofactors.proofs.Parts.{taken-off}
 use Rattle.cofactors.proofs.take_off.Statement.{statement}
 use Rattle.cofactors.proofs.take_off.Tie as tie
@@ -19,6 +20,9 @@ slice-aggregate-sub-product-2 c = simp length-take (omega arith)
 sub-product-requires : tie.Need-sub-product-requires
 sub-product-requires c κs = search needs
 
+mul-sub-product : tie.Need-mul-sub-product
+mul-sub-product c = search needs
+
 sub-sub-product : tie.Need-sub-sub-product
 sub-sub-product c = search needs
 
@@ -30,6 +34,9 @@ part-sub-product-end c = search needs
 
 add-sub-product : tie.Need-add-sub-product
 add-sub-product c = search needs
+
+mul-sub-product-2 : tie.Need-mul-sub-product-2
+mul-sub-product-2 c = search needs
 
 sub-sub-product-2 : tie.Need-sub-sub-product-2
 sub-sub-product-2 c = search needs
@@ -47,7 +54,9 @@ same-length : tie.Need-same-length
 same-length c = search needs
 
 returns : tie.Need-returns
-returns c = taken-off 65521 256 (c .before .before .before .before .before .before .before .before .before .before .before .before .before .args .n) (c .before .before .before .before .before .before .before .before .before .before .before .before .before .args .s .now) (c .before .before .before .before .before .before .before .before .before .before .before .before .before .args .q .now) (c .before .before .before .before .before .before .before .before .before .before .before .before .before .args .t .now) (c .before .before .before .before .before .before .before .before .before .before .before .before .before .pre .0) (c .before .before .before .before .before .before .before .before .before .before .before .before .before .pre .2) (c .before .before .before .before .before .before .before .sub-product .ensures) (c .before .before .sub-product2 .ensures)
+returns c =
+    let start = c .before .before .before .before .before .before .before .before .before .before .before .before .before in
+    taken-off (modulus (start .args .field)) (start .args .n) (start .args .read) (start .args .s .now) (start .args .q .now) (start .args .t .now) (start .pre .0) (start .pre .2) (c .before .before .before .before .before .before .before .sub-product .ensures) (c .before .before .sub-product2 .ensures)
 
 pub take-off-spec : {M : Type 1} → statement M
 take-off-spec =
@@ -57,10 +66,12 @@ take-off-spec =
     slice-aggregate-sub-product
     slice-aggregate-sub-product-2
     sub-product-requires
+    mul-sub-product
     sub-sub-product
     part-sub-product-start
     part-sub-product-end
     add-sub-product
+    mul-sub-product-2
     sub-sub-product-2
     part-sub-product-start-2
     part-sub-product-end-2

@@ -1,59 +1,64 @@
 -- `cofactors::turn` meets its contract: a round on the significant words of the parts x, and its quotient taken off the cofactors.
 -- Assumes nothing.
 use mathlib.Core.Path.{_≡_, sym, _∙_, ap}
+use mathlib.Core.List.{_++_}
 use Prim.Native.Nat.{_≤_}
 use native.Mathlib.Omega.{arith}
-use lib.ListN.{length, length-append, length-take, length-drop, take}
+use lib.ListN.{length, length-take, take, drop}
 use lib.Seq.{length-take-le}
 use borrow.Author.Needs.{needs}
-use Rattle.algebra.specs.PrimeField.{F65521}
+use Rattle.field.specs.Fields.{fieldAt}
 use Rattle.lists.specs.Degrees.{significant}
 use Rattle.lists.specs.Extents.{significant-le}
 use Rattle.cofactors.specs.Workers.{partX}
+use Rattle.cofactors.proofs.Parts.{length-rest, length-put}
 use Rattle.cofactors.proofs.Turns.{turn-steps, turn-left, turn-row}
 use Rattle.cofactors.proofs.turn.Statement.{statement}
 use Rattle.cofactors.proofs.turn.Tie as tie
 
 -- the significant words of the parts x stand in the rows
-few-u : (s : tie.Start) → s .args .nu ≤ 256
-few-u s = omega (arith, significant-le (partX 256 (s .args .u .now)), s .pre .1 .0 .size)
+few-u : (s : tie.Start) → s .args .nu ≤ s .args .n
+few-u s = omega (arith, significant-le (partX (s .args .n) (s .args .u .now)), s .pre .1 .0 .size)
 
-few-v : (s : tie.Start) → s .args .nv ≤ 256
-few-v s = omega (arith, significant-le (partX 256 (s .args .v .now)), s .pre .1 .1 .0 .size)
+few-v : (s : tie.Start) → s .args .nv ≤ s .args .n
+few-v s = omega (arith, significant-le (partX (s .args .n) (s .args .v .now)), s .pre .1 .1 .0 .size)
 
--- the quotient has at most 256 words
-few : (c : tie.After-round) → c .round .result ≤ 256
-unfolding F65521
+-- the quotient has at most n words
+few : (c : tie.After-round) → c .round .result ≤ c .before .before .before .before .before .before .before .before .args .n
+unfolding fieldAt
 few c =
-    let pre = c .before .before .before .before .before .before .before .pre in
-    turn-steps F65521 256 _ _ _ _ _ (pre .0 .0) (pre .0 .2) (pre .1 .0) (pre .1 .1 .0) (pre .1 .1 .1 .0 .0) (pre .1 .1 .1 .0 .1) (pre .1 .1 .1 .0 .2) (c .round .ensures .0)
+    let pre = c .before .before .before .before .before .before .before .before .pre in
+    turn-steps (fieldAt _) _ _ _ _ _ _ (pre .0 .0) (pre .0 .2) (pre .1 .0) (pre .1 .1 .0) (pre .1 .1 .1 .0 .0) (pre .1 .1 .1 .0 .1) (pre .1 .1 .1 .0 .2) (c .round .ensures .0)
 
 -- the part of u has its length again
-long : (c : tie.After-round) → length (c .round .last .0) ≡ c .before .before .before .before .before .before .before .args .nu
+long : (c : tie.After-round) → length (c .round .last .1 .1 .0) ≡ c .before .before .before .before .before .before .before .before .args .nu
 long c =
-    let s = c .before .before .before .before .before .before .before in
-    c .round .kept .0 ∙ length-take-le (s .args .nu) (s .args .u .now) (omega (arith, few-u s))
+    let s = c .before .before .before .before .before .before .before .before in
+    c .round .kept .1 .1 .0 ∙ length-take-le (s .args .nu) (s .args .u .now) (omega (arith, few-u s))
 
 slice-relend-prefix-round : tie.Need-slice-relend-prefix-round
-slice-relend-prefix-round c = omega (arith, few-u (c .before .before .before))
+slice-relend-prefix-round c = omega (arith, few-u (c .before .before .before .before))
 
 slice-aggregate-round : tie.Need-slice-aggregate-round
-slice-aggregate-round c = simp length-take (omega (arith, few-u (c .before .before .before .before)))
+slice-aggregate-round c = simp length-take (omega (arith, few-u (c .before .before .before .before .before)))
 
 slice-aggregate-round-2 : tie.Need-slice-aggregate-round-2
-slice-aggregate-round-2 c = simp length-take (omega (arith, few-v (c .before .before .before .before .before)))
+slice-aggregate-round-2 c = simp length-take (omega (arith, few-v (c .before .before .before .before .before .before)))
 
 round-requires : tie.Need-round-requires
 round-requires c κs = search needs
 
 slice-reshare-prefix-significant-words : tie.Need-slice-reshare-prefix-significant-words
-slice-reshare-prefix-significant-words c = omega (arith, few-u (c .before .before .before .before .before .before .before .before .before .before .before))
+slice-reshare-prefix-significant-words c = omega (arith, few-u (c .before .before .before .before .before .before .before .before .before .before .before .before))
 
 slice-aggregate-significant-words : tie.Need-slice-aggregate-significant-words
-slice-aggregate-significant-words c = simp length-take (omega (arith, few-u (c .before .before .before .before .before .before .before .before .before .before .before .before)))
+slice-aggregate-significant-words c = simp length-take (omega (arith, few-u (c .before .before .before .before .before .before .before .before .before .before .before .before .before)))
 
 significant-words-requires : tie.Need-significant-words-requires
 significant-words-requires c κs = search needs
+
+mul-take-off : tie.Need-mul-take-off
+mul-take-off c = search needs
 
 sub-take-off : tie.Need-sub-take-off
 sub-take-off c = search needs
@@ -70,6 +75,9 @@ slice-reshare-prefix-take-off c = let steps = few (c .before .before .before .be
 slice-aggregate-take-off : tie.Need-slice-aggregate-take-off
 slice-aggregate-take-off c = let steps = few (c .before .before .before .before .before .before .before .before) in simp length-take (omega arith)
 
+mul-take-off-2 : tie.Need-mul-take-off-2
+mul-take-off-2 c = search needs
+
 sub-take-off-2 : tie.Need-sub-take-off-2
 sub-take-off-2 c = search needs
 
@@ -81,15 +89,16 @@ part-take-off-end-2 c = search needs
 
 words-read-requires : tie.Need-words-read-requires
 words-read-requires c κs =
-    let s = c .before .before .before .before .before .before .before .before .before .before .before .before .before .before .before .before in
-    (omega (arith, few-u s), omega (arith, few-v s), omega arith)
+    let s = c .before .before .before .before .before .before .before .before .before .before .before .before .before .before .before .before .before in
+    (s .pre .1 .1 .1 .1 .1, few-u s, few-v s, omega arith)
 
 take-off-requires : tie.Need-take-off-requires
 take-off-requires c κs =
     let steps = few (c .before .before .before .before .before .before .before .before .before .before) in
+    let z = c .before .before .before .before .before .before .before .before .before .before .round .last .1 .1 .0 in
     let size = long (c .before .before .before .before .before .before .before .before .before .before) in
-    let s = c .before .before .before .before .before .before .before .before .before .before .before .before .before .before .before .before .before in
-    (simp (length-take, length-drop, length-append) (omega (arith, few-u s)), simp (length-take, length-drop) (omega arith), simp length-take (omega arith), omega arith)
+    let s = c .before .before .before .before .before .before .before .before .before .before .before .before .before .before .before .before .before .before in
+    (length-rest (s .args .n) _ (z ++ drop (s .args .nu) (s .args .u .now)) (length-put _ _ z size (omega (arith, few-u s)) ∙ s .pre .0 .0), length-rest (s .args .n) _ (s .args .v .now) (s .pre .0 .1), simp length-take (omega arith), c .words-read .ensures .1)
 
 same-length : tie.Need-same-length
 same-length c = search needs
@@ -98,13 +107,14 @@ same-length-2 : tie.Need-same-length-2
 same-length-2 c = search needs
 
 returns : tie.Need-returns
-unfolding F65521
+unfolding fieldAt
 returns c =
-    let pre = c .before .before .before .before .before .before .before .before .before .before .before .before .before .before .before .before .before .before .before .before .pre in
+    let start = c .before .before .before .before .before .before .before .before .before .before .before .before .before .before .before .before .before .before .before .before .before in
+    let pre = start .pre in
     let r = c .before .before .before .before .before .before .before .before .before .before .before .before .before .round in
-    let row = turn-row F65521 256 _ _ _ _ _ (pre .0 .0) (pre .0 .2) (pre .1 .0) (pre .1 .1 .0) (pre .1 .1 .1 .0 .0) (pre .1 .1 .1 .0 .1) (pre .1 .1 .1 .0 .2) (r .ensures .0) (r .ensures .1 .1) (r .ensures .1 .0) (c .before .before .before .words-read .result) (c .before .before .before .words-read .ensures .0) (c .before .before .before .words-read .ensures .1) (pre .1 .1 .1 .1) (c .before .before .take-off .ensures) in
-    let left = turn-left F65521 256 _ _ _ _ _ (pre .0 .0) (pre .0 .2) (pre .1 .0) (pre .1 .1 .0) (pre .1 .1 .1 .0 .0) (pre .1 .1 .1 .0 .1) (pre .1 .1 .1 .0 .2) (r .ensures .0) (r .ensures .1 .1) (r .ensures .1 .0) (long (c .before .before .before .before .before .before .before .before .before .before .before .before .before)) in
-    (c .before .before .before .before .before .before .before .significant-words .ensures ∙ left ∙ ap (λ l. significant (take 256 l)) (sym row), row)
+    let row = turn-row (fieldAt _) _ _ _ _ _ _ (pre .0 .0) (pre .0 .2) (pre .1 .0) (pre .1 .1 .0) (pre .1 .1 .1 .0 .0) (pre .1 .1 .1 .0 .1) (pre .1 .1 .1 .0 .2) (r .ensures .0) (r .ensures .1 .1) (r .ensures .1 .0) (c .before .before .before .words-read .result) (c .before .before .before .words-read .ensures .0) (c .before .before .before .words-read .ensures .1) (pre .1 .1 .1 .1 .0) (c .before .before .take-off .ensures) in
+    let left = turn-left (fieldAt _) _ _ _ _ _ _ (pre .0 .0) (pre .0 .2) (pre .1 .0) (pre .1 .1 .0) (pre .1 .1 .1 .0 .0) (pre .1 .1 .1 .0 .1) (pre .1 .1 .1 .0 .2) (r .ensures .0) (r .ensures .1 .1) (r .ensures .1 .0) (long (c .before .before .before .before .before .before .before .before .before .before .before .before .before)) in
+    (c .before .before .before .before .before .before .before .significant-words .ensures ∙ left ∙ ap (λ l. significant (take (start .args .n) l)) (sym row), row)
 
 pub turn-spec : {M : Type 1} → statement M
 turn-spec =
@@ -117,11 +127,13 @@ turn-spec =
     slice-reshare-prefix-significant-words
     slice-aggregate-significant-words
     significant-words-requires
+    mul-take-off
     sub-take-off
     part-take-off-start
     part-take-off-end
     slice-reshare-prefix-take-off
     slice-aggregate-take-off
+    mul-take-off-2
     sub-take-off-2
     part-take-off-start-2
     part-take-off-end-2

@@ -5,7 +5,7 @@ use Rattle.cofactors.proofs.write_last.Statement.{statement}
 use Rattle.cofactors.proofs.write_last.Tie as tie
 
 write-row-requires : tie.Need-write-row-requires
-write-row-requires c κs = simp (c .before .before .before .before .if1 .taken) at (c .before .before .before .before .before .before .before .before .before .before .pre)
+write-row-requires c κs = simp (c .before .before .before .before .if1 .taken) at (c .before .before .before .before .before .before .before .before .before .before .before .before .before .pre)
 
 same-length : tie.Need-same-length
 same-length c = search needs
@@ -23,7 +23,7 @@ returns : tie.Need-returns
 returns c = simp (c .before .before .before .before .before .before .before .before .before .before .before .before .before .if1 .taken) (c .before .before .before .before .before .before .before .before .write-row .ensures)
 
 write-row-requires-2 : tie.Need-write-row-requires-2
-write-row-requires-2 c κs = simp (c .before .before .before .before .if1 .left) at (c .before .before .before .before .before .before .before .before .before .before .pre)
+write-row-requires-2 c κs = simp (c .before .before .before .before .if1 .left) at (c .before .before .before .before .before .before .before .before .before .before .before .before .before .pre)
 
 same-length-5 : tie.Need-same-length-5
 same-length-5 c = search needs

@@ -6,11 +6,15 @@ use Prim.Native.Nat.{_-_}
 use native.Mathlib.Omega.{arith}
 use lib.ListN.{length, take, drop, length-take, length-drop}
 use borrow.Author.Needs.{needs}
-use Rattle.algebra.specs.PrimeField.{F65521}
+use Rattle.field.specs.Fields.{fieldAt}
+use Rattle.field.specs.FieldsLaws.{p-at, longest-in}
 use Rattle.cofactors.proofs.Parts.{rest-is}
 use Rattle.cofactors.proofs.Results.{front-kept, pair-written}
 use Rattle.cofactors.proofs.write_pair.Statement.{statement}
 use Rattle.cofactors.proofs.write_pair.Tie as tie
+
+mul-write-list : tie.Need-mul-write-list
+mul-write-list c = search needs
 
 sub-write-list : tie.Need-sub-write-list
 sub-write-list c = search needs
@@ -43,15 +47,22 @@ same-length-3 : tie.Need-same-length-3
 same-length-3 c = search needs
 
 returns : tie.Need-returns
-returns c = (
-  pair-written F65521 256 _ (c .before .before .before .before .before .before .before .before .before .before .before .before .before .before .before .before .before .args .m) (drop 256 (c .before .before .before .before .before .before .before .before .before .before .before .before .before .before .before .before .before .args .forms .now)) (c .before .before .before .before .before .before .before .before .before .before .before .before .before .before .before .before .before .args .a .now) (rest-is 256 (c .before .before .before .before .before .before .before .before .before .before .before .before .before .before .before .before .before .args .forms .now)) (simp length-drop (omega arith)) refl (c .before .before .before .before .before .before .before .before .before .before .before .before .before .before .before .before .before .pre .1) (c .before .before .before .before .before .before .before .before .before .before .before .write-list .ensures .1),
-  pair-written F65521 256 _ (c .before .before .before .before .before .before .before .before .before .before .before .before .before .before .before .before .before .args .m) (take 256 (c .before .before .before .before .before .before .before .before .before .before .before .before .before .before .before .before .before .args .forms .now)) (c .before .before .before .before .before .before .before .before .before .before .before .before .before .before .before .before .before .args .b .now) (front-kept 256 (c .before .before .before .before .before .before .before .before .before .before .before .before .before .before .before .before .before .args .forms .now) (c .before .before .before .before .before .before .before .before .before .before .before .write-list .last .0 ++ drop (length (c .before .before .before .before .before .before .before .before .before .before .before .before .before .before .before .before .before .args .forms .now) - 256) (drop 256 (c .before .before .before .before .before .before .before .before .before .before .before .before .before .before .before .before .before .args .forms .now))) (omega arith)) (simp length-take (omega arith)) refl (c .before .before .before .before .before .before .before .before .before .before .before .before .before .before .before .before .before .pre .2) (c .before .before .before .before .write-list2 .ensures .1),
-)
+returns c =
+    let start = c .before .before .before .before .before .before .before .before .before .before .before .before .before .before .before .before .before .before .before in
+    let pre = start .pre in
+    let n = start .args .n in
+    let forms = start .args .forms .now in
+    let short = longest-in (start .args .field) in
+    let first = c .before .before .before .before .before .before .before .before .before .before .before .write-list in (
+      pair-written (fieldAt _) (p-at _) n (omega arith) _ _ (pre .1 .0) _ (start .args .m) (drop n forms) (start .args .a .now) (rest-is n forms) (simp length-drop (omega arith)) refl (pre .1 .1 .1) (first .ensures),
+      pair-written (fieldAt _) (p-at _) n (omega arith) _ _ (pre .1 .0) _ (start .args .m) (take n forms) (start .args .b .now) (front-kept n forms (first .last .1 .1 .1 .0 ++ drop (length forms - n) (drop n forms)) (omega arith)) (simp length-take (omega arith)) refl (pre .1 .1 .2) (c .before .before .before .before .write-list2 .ensures),
+    )
 
 pub write-pair-spec : {M : Type 1} → statement M
 write-pair-spec =
     tie.close
     (tie.spec
+    mul-write-list
     sub-write-list
     part-write-list-start
     part-write-list-end

@@ -63,7 +63,7 @@ use Rattle.refusal.specs.Lowest.{lowest}
 use Rattle.refusal.specs.declared.Outcome.{Outcome}
 use Rattle.refusal.proofs.Outcome as S
 use Rattle.refusal.proofs.Outcome.Laws as S′
-use Rattle.field.specs.Field.{p}
+use Rattle.field.specs.Fields.{p}
 use Rattle.contents.specs.Calls.{recordAt, recordsFrom, contentsRefusals, filled}
 use Rattle.contents.specs.Workers.{fitRefusals, recordsDue}
 use Rattle.contents.specs.declared.Entry.{Entry}
@@ -195,15 +195,17 @@ module _ {M : Type 1} (𝓤 : URA M) (H : Heap 𝓤) (A : Atoms 𝓤) (W : Given
       -- [what the arguments own; Own; the token]
       nothing ! $ move ! (3 ∷ 0 ∷ []) $ join ! $ move ! (0 ∷ 1 ∷ []) $ use2 W (raw P) asked $ frame ! $ done !
 
-  -- ---- the call of `judge_contents` at n
+  -- ---- the call of `judge_contents` at field 0 and n
   abbrev to-judge : Judge 𝓤 H A mem run .Ghost
-  to-judge = (((κ, tt), (q, tt), tt, (s, (n, tt)), passed n), tt)
+  to-judge = (((κ, tt), (q, tt), tt, (0, (s, (n, tt))), (vint w8 0 ∷ [], passed n)), tt)
 
   asked-judge : ent 𝓤 (Asked n) (Judge 𝓤 H A mem run .pre to-judge)
-  asked-judge = qed W ((‵ (flft κ q) ⊛ ‵ ftrue) ∷ ‵ (owns (ShrSlice (named 0) κ u8 ∷ usize ∷ []) (s, (n, tt)) (passed n)) ∷ []) ∵ join ! $ frame ! $ done !
+  asked-judge =
+      qed W ((‵ (flft κ q) ⊛ ‵ ftrue) ∷ ‵ (owns (ShrSlice (named 0) κ u8 ∷ usize ∷ []) (s, (n, tt)) (passed n)) ∷ []) ∵
+      move ! (1 ∷ 0 ∷ []) $ owned ! u8 (Is u8) (uint-makes 𝓤 H A W w8) 0 _ (refl, lit< tt) $ fjoin ! $ move ! (1 ∷ 0 ∷ []) $ join ! $ frame ! $ done !
 
-  said-judge : (r : Outcome) → ent 𝓤 (ensured 𝓤 H A judge.ended (judge.clauses 𝓤 H A mem run) (κ, tt) (s, (n, tt)) tt r) (fact 𝓤 (Judged r))
-  said-judge r = exE 𝓤 _ (λ ws. snd∗ 𝓤 (sem 𝓤 H A (lasts judge.ended (κ, tt) (s, (n, tt)) ws)) (fact 𝓤 (Judged r)))
+  said-judge : (r : Outcome) → ent 𝓤 (ensured 𝓤 H A judge.ended (judge.clauses 𝓤 H A mem run) (κ, tt) (0, (s, (n, tt))) tt r) (fact 𝓤 (Judged r))
+  said-judge r = exE 𝓤 _ (λ ws. snd∗ 𝓤 (sem 𝓤 H A (lasts judge.ended (κ, tt) (0, (s, (n, tt))) ws)) (fact 𝓤 (Judged r)))
 
   -- ---- the call of `records_due` at the answer
   abbrev to-due : Outcome → Val → Due 𝓤 H A mem run .Ghost
@@ -366,8 +368,8 @@ module _ {M : Type 1} (𝓤 : URA M) (H : Heap 𝓤) (A : Atoms 𝓤) (W : Given
       opens-slice ! tt T.the-row xs b o $
       -- [the row; the open borrow; obs; auth; true; the token of s; true; what s owns; _10; …; _0; …]
       move ! (7 ∷ 5 ∷ []) $ use2 W (raw (Judge 𝓤 H A mem run .pre to-judge) ⊛ ‵ Own) (asks (Judge 𝓤 H A mem run .pre to-judge) n (room .0) asked-judge) $ split ! $
-      calls-at ! (fmOf 𝓤 H (W .laws) 𝓣) (Judge 𝓤 H A mem run) known-judge to-judge (and-then ! (load ! (from ! (stop !)) (look ! 26 refl)) (and-then ! (load ! (from ! (stop !)) (look ! 16 refl)) (no-more !))) (λ u.
-      use1 W (later (some (λ (r : Outcome). ((‵ (flft κ q) ⊛ ‵ ftrue) ⊛ ‵ (S.the-row .own r (u ∷ []))) ⊛ raw (ensured 𝓤 H A judge.ended (judge.clauses 𝓤 H A mem run) (κ, tt) (s, (n, tt)) tt r)))) (id⊢ 𝓤 _) $ await ! tt $ pick ! (λ r.
+      calls-at ! (fmOf 𝓤 H (W .laws) 𝓣) (Judge 𝓤 H A mem run) known-judge to-judge (and-then ! (lit ! tt) (and-then ! (load ! (from ! (stop !)) (look ! 26 refl)) (and-then ! (load ! (from ! (stop !)) (look ! 16 refl)) (no-more !)))) (λ u.
+      use1 W (later (some (λ (r : Outcome). ((‵ (flft κ q) ⊛ ‵ ftrue) ⊛ ‵ (S.the-row .own r (u ∷ []))) ⊛ raw (ensured 𝓤 H A judge.ended (judge.clauses 𝓤 H A mem run) (κ, tt) (0, (s, (n, tt))) tt r)))) (id⊢ 𝓤 _) $ await ! tt $ pick ! (λ r.
       split ! $ move ! (1 ∷ []) $ use1 W (raw (fact 𝓤 (Judged r))) (said-judge r) $ heard ! (Judged r) (λ e. split ! $ move ! (1 ∷ []) $
       -- [the answer; the token of s; what s owns; the row; the open borrow; obs; auth; true; true; _10; …; _0; …]
       peeks ! S.the-row (Is S.the-row) (shows 𝓤 H A S.the-row) r (u ∷ []) (λ is.

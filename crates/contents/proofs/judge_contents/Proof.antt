@@ -2,6 +2,7 @@
 -- Assumes nothing.
 use mathlib.Core.Path.{sym, _∙_}
 use borrow.Author.Needs.{needs}
+use Rattle.field.specs.Fields.{modulus}
 use Rattle.layout.specs.Workers.{Passed}
 use Rattle.contents.proofs.Judged.{fit-refused, fit-misfit, fit-done}
 use Rattle.contents.proofs.judge_contents.Statement.{statement}
@@ -14,20 +15,20 @@ enum-known-why : tie.Need-enum-known-why
 enum-known-why c = search needs
 
 returns : tie.Need-returns
-returns c = fit-refused 65521 _ _ (sym (c .before .before .before .judge-album .ensures) ∙ c .before .why .given .1)
+returns c = fit-refused _ _ _ (sym (c .before .before .before .judge-album .ensures) ∙ c .before .why .given .1)
 
 enum-told : tie.Need-enum-told
 enum-told c = search needs
 
 -- the album passed
-passed : (c : tie.After-enum-told) → Passed 65521 (c .before .before .before .before .args .album .now)
+passed : (c : tie.After-enum-told) → Passed (modulus (c .before .before .before .before .args .field)) (c .before .before .before .before .args .album .now)
 passed c = sym (c .before .before .judge-album .ensures) ∙ c .enum-told .given .1
 
 returns-2 : tie.Need-returns-2
-returns-2 c = fit-misfit 65521 _ _ (passed (c .before)) (c .if1 .taken)
+returns-2 c = fit-misfit _ _ _ (passed (c .before)) (c .if1 .taken)
 
 returns-3 : tie.Need-returns-3
-returns-3 c = fit-done 65521 _ _ (passed (c .before)) (c .if1 .left)
+returns-3 c = fit-done _ _ _ (passed (c .before)) (c .if1 .left)
 
 pub judge-contents-spec : {M : Type 1} → statement M
 judge-contents-spec =

@@ -3,7 +3,8 @@
 use mathlib.Core.Path.{_∙_}
 use native.Mathlib.Omega.{arith}
 use lib.ListN.{length}
-use Rattle.algebra.specs.PrimeField.{F65521, p-is}
+use Rattle.field.specs.Fields.{fieldAt}
+use Rattle.field.specs.FieldsLaws.{p-at}
 use Rattle.convolution.proofs.Convolution.{convolution-is}
 use borrow.Author.Needs.{needs}
 use Rattle.convolution.proofs.convolve_in.Statement.{statement}
@@ -31,7 +32,7 @@ returns : tie.Need-returns
 returns c =
     let start = c .before .before .before .before .before .before .before .before .before .before .before .before .before .before .before .before .before .before .before .before .before in
     c .before .before .reduce-words .ensures
-    ∙ convolution-is F65521 _ _ p-is (length (start .args .out .now)) (omega arith) (c .before .before .before .before .before .before .before .before .before .before .before .multiply-lists .ensures)
+    ∙ convolution-is (fieldAt _) _ _ (p-at _) (length (start .args .out .now)) (omega arith) (c .before .before .before .before .before .before .before .before .before .before .before .multiply-lists .ensures)
 
 pub convolve-in-spec : {M : Type 1} → statement M
 convolve-in-spec =

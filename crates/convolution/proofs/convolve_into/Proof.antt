@@ -1,6 +1,8 @@
 -- `convolution::convolve_into` meets its contract: it lends arrays of zeros.
 -- Assumes nothing.
 use mathlib.Core.Path.{refl}
+use Prim.Native.Nat.{_+_, _*_}
+use Rattle.refusal.specs.Limits.{maxWords}
 use borrow.Author.Needs.{needs}
 use Rattle.convolution.proofs.Sums.{zeros-are}
 use Rattle.convolution.proofs.convolve_into.Statement.{statement}
@@ -18,7 +20,7 @@ slice-aggregate-convolve-in-3 c = search needs
 convolve-in-requires : tie.Need-convolve-in-requires
 convolve-in-requires c κs =
     let start = c .before .before .before .before .before .before .before in
-    (start .pre, ((refl, refl, refl), (zeros-are 256, zeros-are 272, zeros-are 512)))
+    (start .pre, ((refl, refl, refl), (zeros-are (maxWords + 8), zeros-are (maxWords + 16), zeros-are (2 * maxWords + 8))))
 
 same-length : tie.Need-same-length
 same-length c = search needs

@@ -26,7 +26,7 @@ add-halves-requires : tie.Need-add-halves-requires
 add-halves-requires c κs =
     let start = c .before .before .before .before .before .before .before .before .before .before .before in
     let word = c .before .before .before .before .before .before .before .before .before .before .shared-slice-known .given in
-    let low = placed-below 65536 (c .before .before .before .before .before .before .before .widen .ensures) (zero-below (start .pre .4)) (λ k. omega (arith, word (0 + k))) in
+    let low = placed-below 65536 (c .before .before .before .before .before .before .before .widen .ensures) (zero-below (start .pre .3)) (λ k. omega (arith, word (0 + k))) in
     (omega arith, below-small _ (placed-below 65536 (c .before .before .before .widen2 .ensures) low (λ k. omega (arith, word (start .args .h + k)))))
 
 same-length : tie.Need-same-length
@@ -35,7 +35,7 @@ same-length c = search needs
 returns : tie.Need-returns
 returns c =
     let start = c .before .before .before .before .before .before .before .before .before .before .before .before .before .before in
-    second-halves (start .args .h) _ (start .pre .4) (c .before .before .before .before .before .before .before .before .before .before .widen .ensures) (c .before .before .before .before .before .before .widen2 .ensures) (start .pre .0) (start .pre .1) (c .before .before .add-halves .ensures)
+    second-halves (start .args .h) _ (start .pre .3) (c .before .before .before .before .before .before .before .before .before .before .widen .ensures) (c .before .before .before .before .before .before .widen2 .ensures) (start .pre .0) (start .pre .1) (c .before .before .add-halves .ensures)
 
 pub halve-second-spec : {M : Type 1} → statement M
 halve-second-spec =

@@ -10,6 +10,15 @@ use Rattle.convolution.proofs.halving.Tie as tie
 add-g : tie.Need-add-g
 add-g c = search needs
 
+mul-if1 : tie.Need-mul-if1
+mul-if1 c = search needs
+
+add-if1 : tie.Need-add-if1
+add-if1 c = search needs
+
+mul-if1-2 : tie.Need-mul-if1-2
+mul-if1-2 c = search needs
+
 returns : tie.Need-returns
 returns c = search needs
 
@@ -44,7 +53,7 @@ add-if4-3 : tie.Need-add-if4-3
 add-if4-3 c = search needs
 
 -- the words that the groups of the halves reach
-reached : (c : tie.Else3) → 24 * ((c .before .before .before .args .n + 15) / 16) * ((c .before .before .before .args .n + 15) / 16 + 1) ≤ 90000
+reached : (c : tie.Else3) → 24 * ((c .before .before .before .args .n + 15) / 16) * ((c .before .before .before .args .n + 15) / 16 + 1) ≤ 4294967296
 reached c = small (omega arith) (omega arith)
 
 mul-if4-3 : tie.Need-mul-if4-3
@@ -64,6 +73,9 @@ halving-spec =
     tie.close
     (tie.spec
     add-g
+    mul-if1
+    add-if1
+    mul-if1-2
     returns
     mul-if2
     returns-2

@@ -41,7 +41,7 @@ halve-second-requires : tie.Need-halve-second-requires
 halve-second-requires c κs =
     let start = c .before .before .before .before .before .before .before .before .before .before .before .before .before .before in
     let cut = start .pre .0 .2 .fits (omega arith) in
-    (cut .2, omega arith, omega arith, omega arith, start .pre .1 .3)
+    (cut .2, omega arith, omega arith, start .pre .1 .3)
 
 same-length-3 : tie.Need-same-length-3
 same-length-3 c = search needs

@@ -32,7 +32,7 @@ multiply-requires c κs =
     let words-a = word-a (c .before .before .before .before .before .before .before .before .before .before .before .before .before .before .before .before) in
     let words-b = word-b (c .before .before .before .before .before .before .before .before .before .before .before .before .before .before .before) in
     let plan = c .before .before .before .plan-of .ensures in (
-      blocks-fit _ _ words-a words-b _ _ _ _ _ _ _ (c .before .before .before .before .before .before .before .before .before .before .before .halving .ensures) (c .before .before .before .before .before .before .before .before .lay .ensures)
+      blocks-fit _ _ words-a words-b _ (omega arith) _ _ _ _ _ _ _ (c .before .before .before .before .before .before .before .before .before .before .before .halving .ensures) (c .before .before .before .before .before .before .before .before .lay .ensures)
           (plan .0) (plan .1) (plan .2) (omega arith) (omega arith) (omega arith) (omega arith) (omega arith),
       start .pre .1 .1 .2,
     )
@@ -44,9 +44,9 @@ join-requires c κs =
     let plan = c .before .before .before .before .before .before .before .plan-of .ensures in
     let cut = c .before .before .before .before .before .before .before .before .before .before .before .before .before .before .before .halving .ensures in (
       omega (arith, cut-few cut),
-      small-is _ _ words-a words-b _ _ _ _ _ _ _ cut (c .before .before .before .before .before .before .before .before .before .before .before .before .lay .ensures) (plan .0) (plan .1)
+      small-is _ _ words-a words-b _ (omega arith) _ _ _ _ _ _ _ cut (c .before .before .before .before .before .before .before .before .before .before .before .before .lay .ensures) (plan .0) (plan .1)
           (plan .2) (c .before .before .before .multiply .ensures),
-      enough-is _ _ words-a words-b _ _ _ _ _ _ _ cut (c .before .before .before .before .before .before .before .before .before .before .before .before .lay .ensures) (plan .0) (plan .1)
+      enough-is _ _ words-a words-b _ (omega arith) _ _ _ _ _ _ _ cut (c .before .before .before .before .before .before .before .before .before .before .before .before .lay .ensures) (plan .0) (plan .1)
           (plan .2) (c .before .before .before .multiply .ensures),
     )
 
@@ -64,7 +64,7 @@ returns c =
     let words-a = word-a (c .before .before .before .before .before .before .before .before .before .before .before .before .before .before .before .before .before .before .before .before .before .before .before) in
     let words-b = word-b (c .before .before .before .before .before .before .before .before .before .before .before .before .before .before .before .before .before .before .before .before .before .before) in
     let plan = c .before .before .before .before .before .before .before .before .before .before .plan-of .ensures in
-    whole-is _ _ words-a words-b _ _ _ _ _ _ _ (c .before .before .before .before .before .before .before .before .before .before .before .before .before .before .before .before .before .before .halving .ensures) (c .before .before .before .before .before .before .before .before .before .before .before .before .before .before .before .lay .ensures)
+    whole-is _ _ words-a words-b _ (omega arith) _ _ _ _ _ _ _ (c .before .before .before .before .before .before .before .before .before .before .before .before .before .before .before .before .before .before .halving .ensures) (c .before .before .before .before .before .before .before .before .before .before .before .before .before .before .before .lay .ensures)
     (plan .0) (plan .1) (plan .2) (c .before .before .before .before .before .before .multiply .ensures) (c .before .before .join .ensures)
 
 pub multiply-lists-spec : {M : Type 1} → statement M

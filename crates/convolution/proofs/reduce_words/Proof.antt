@@ -5,7 +5,7 @@ use Prim.Native.Nat.{_≤_, _-_}
 use native.Mathlib.Omega.{arith}
 use lib.ListN.{length, length-set}
 use borrow.Author.Needs.{needs}
-use Rattle.field.specs.Field.{p}
+use Rattle.field.specs.Fields.{modulus}
 use Rattle.lists.proofs.Filled.{Filled, fill-start, fill-step, fill-end}
 use Rattle.convolution.specs.Rows.{remainders}
 use Rattle.convolution.proofs.Convolution.{length-remainders, getD-remainders}
@@ -13,10 +13,10 @@ use Rattle.convolution.proofs.reduce_words.Statement.{statement}
 use Rattle.convolution.proofs.reduce_words.Tie as tie
 
 abbrev Inv-loop : tie.InvT-loop
-Inv-loop s out₀ k₀ out k = (k ≤ length out) × (length out ≡ length out₀) × Filled out k (remainders p (length out₀) s)
+Inv-loop field s out₀ k₀ out k = (k ≤ length out) × (length out ≡ length out₀) × Filled out k (remainders (modulus field) (length out₀) s)
 
 abbrev μ-loop : tie.MeasureT-loop
-μ-loop s out₀ k₀ out k = length out₀ - k
+μ-loop field s out₀ k₀ out k = length out₀ - k
 
 loop-holds : tie.Need-loop-holds Inv-loop μ-loop
 loop-holds c = (search needs, search needs, fill-start _ _)
@@ -49,7 +49,7 @@ loop-again c =
       simp length-set (omega arith),
       simp length-set (omega arith),
       fill-step _ (c .before .before .before .loop .inv .2) (omega arith)
-          (c .reduce .ensures ∙ sym (getD-remainders p (length (start .out .now)) (start .s .now) k (omega arith))),
+          (c .reduce .ensures ∙ sym (getD-remainders _ (length (start .out .now)) (start .s .now) k (omega arith))),
     )
 
 same-length : tie.Need-same-length Inv-loop μ-loop
@@ -58,7 +58,7 @@ same-length c = search needs
 returns : tie.Need-returns Inv-loop μ-loop
 returns c =
     let start = c .before .before .before .before .args in
-    fill-end (c .before .loop .inv .2) (omega (arith, length-remainders p (length (start .out .now)) (start .s .now))) (omega arith)
+    fill-end (c .before .loop .inv .2) (omega (arith, length-remainders (modulus (start .field)) (length (start .out .now)) (start .s .now))) (omega arith)
 
 pub reduce-words-spec : {M : Type 1} → statement M
 reduce-words-spec =

@@ -2,7 +2,7 @@
 -- Assumes nothing.
 use native.Mathlib.Omega.{arith}
 use borrow.Author.Needs.{needs}
-use Rattle.algebra.specs.PrimeField.{F65521}
+use Rattle.field.specs.Fields.{fieldAt}
 use Rattle.derivatives.proofs.Derived.{constant}
 use Rattle.derivatives.proofs.derivative_into.Statement.{statement}
 use Rattle.derivatives.proofs.derivative_into.Tie as tie
@@ -17,7 +17,7 @@ same-length : tie.Need-same-length
 same-length c = search needs
 
 returns : tie.Need-returns
-returns c = constant F65521 (c .before .before .before .args .f .now) (c .before .before .before .args .out .now) (c .if1 .taken) (omega arith)
+returns c = constant (fieldAt _) (c .before .before .before .args .f .now) (c .before .before .before .args .out .now) (c .if1 .taken) (omega arith)
 
 same-length-2 : tie.Need-same-length-2
 same-length-2 c = search needs

@@ -5,7 +5,8 @@ use Prim.Native.Nat.{_≤_, _-_}
 use native.Mathlib.Omega.{arith}
 use lib.ListN.{length, length-set}
 use borrow.Author.Needs.{needs}
-use Rattle.algebra.specs.PrimeField.{F65521, p-is}
+use Rattle.field.specs.Fields.{fieldAt}
+use Rattle.field.specs.FieldsLaws.{p-at, longest-room}
 use Rattle.lists.specs.Operations.{derivative}
 use Rattle.lists.proofs.Filled.{Filled, fill-start, fill-step, fill-end}
 use Rattle.derivatives.proofs.Derived.{length-is, word-is}
@@ -13,10 +14,10 @@ use Rattle.derivatives.proofs.differences.Statement.{statement}
 use Rattle.derivatives.proofs.differences.Tie as tie
 
 abbrev Inv-loop : tie.InvT-loop
-Inv-loop f out₀ n k₀ out k = (k ≤ n) × (length out ≡ n) × Filled out k (derivative F65521 f)
+Inv-loop field f out₀ n k₀ out k = (k ≤ n) × (length out ≡ n) × Filled out k (derivative (fieldAt field) f)
 
 abbrev μ-loop : tie.MeasureT-loop
-μ-loop f out₀ n k₀ out k = n - k
+μ-loop field f out₀ n k₀ out k = n - k
 
 loop-holds : tie.Need-loop-holds Inv-loop μ-loop
 loop-holds c = (search needs, search needs, fill-start _ _)
@@ -37,7 +38,7 @@ shared-slice-read-next : tie.Need-shared-slice-read-next Inv-loop μ-loop
 shared-slice-read-next c = search needs
 
 cast-mul : tie.Need-cast-mul Inv-loop μ-loop
-cast-mul c = search needs
+cast-mul c = omega (arith, longest-room (c .before .before .before .before .before .before .args .field))
 
 sub-requires : tie.Need-sub-requires Inv-loop μ-loop
 sub-requires c κs = search needs
@@ -61,7 +62,7 @@ loop-again : tie.Need-loop-again Inv-loop μ-loop
 loop-again c =
     let at-loop = c .before .before .before .before .before in
     let args = at-loop .before .before .before .args in
-    let word = word-is F65521 (args .f .now) (length (args .out .now)) (search needs) (search needs) p-is in (
+    let word = word-is (fieldAt _) (args .f .now) (length (args .out .now)) (search needs) (search needs) (p-at _) in (
       search needs,
       simp length-set (omega arith),
       fill-step _ (at-loop .loop .inv .2) (omega arith) (word _ _ _ (omega arith) (c .before .sub .ensures) (c .mul .ensures)),
@@ -73,7 +74,7 @@ same-length c = search needs
 returns : tie.Need-returns Inv-loop μ-loop
 returns c =
     let args = c .before .before .before .before .args in
-    let size = length-is F65521 (args .f .now) (length (args .out .now)) (search needs) (search needs) in
+    let size = length-is (fieldAt (args .field)) (args .f .now) (length (args .out .now)) (search needs) (search needs) in
     fill-end (c .before .loop .inv .2) (omega arith) (omega arith)
 
 pub differences-spec : {M : Type 1} → statement M

@@ -1,7 +1,8 @@
 -- `division::divide_in` meets its contract: the quotient and the remainder of the scaled forms, unscaled again.
 -- Assumes nothing.
 use mathlib.Core.Path.{_∙_}
-use Rattle.algebra.specs.PrimeField.{F65521, p-is}
+use Rattle.field.specs.Fields.{fieldAt}
+use Rattle.field.specs.FieldsLaws.{p-at, longest-in}
 use Rattle.division.proofs.Forms.{last-inverse, quotient-is, remainder-is}
 use borrow.Author.Needs.{needs}
 use Rattle.division.proofs.divide_in.Statement.{statement}
@@ -19,20 +20,20 @@ shared-slice-read-inverse-or-zero c = search needs
 inverse-or-zero-requires : tie.Need-inverse-or-zero-requires
 inverse-or-zero-requires c κs = search needs
 
-scale-requires : tie.Need-scale-requires
-scale-requires c κs = search needs
+weigh-requires : tie.Need-weigh-requires
+weigh-requires c κs = search needs
 
-scale-requires-2 : tie.Need-scale-requires-2
-scale-requires-2 c κs = search needs
+weigh-requires-2 : tie.Need-weigh-requires-2
+weigh-requires-2 c κs = search needs
 
 reduce-requires : tie.Need-reduce-requires
 reduce-requires c κs = search needs
 
-unscale-requires : tie.Need-unscale-requires
-unscale-requires c κs = search needs
+weigh-requires-3 : tie.Need-weigh-requires-3
+weigh-requires-3 c κs = search needs
 
-unscale-requires-2 : tie.Need-unscale-requires-2
-unscale-requires-2 c κs = search needs
+weigh-requires-4 : tie.Need-weigh-requires-4
+weigh-requires-4 c κs = search needs
 
 same-length : tie.Need-same-length
 same-length c = search needs
@@ -51,17 +52,18 @@ same-length-5 c = search needs
 
 returns : tie.Need-returns
 returns c =
-    let s = c .before .before .before .before .before .before .before .before .before .before .before .before .before .before .before .before .before .before .before .before .before .before .before .before .before .before .before .before .before .before .before .before .before .before .before in
-    let fits = s .pre .0 in
-    let lx = s .pre .1 .0 in
-    let ly = s .pre .1 .1 in
-    let lk = s .pre .1 .2 in
-    let top = c .before .before .before .before .before .before .before .before .before .before .before .before .before .before .before .before .before .before .before .before .before .before .before .before .before .before .inverse-or-zero .ensures ∙ last-inverse F65521 fits in
-    let x = c .before .before .before .before .before .before .before .before .before .before .before .before .before .before .before .before .before .before .before .before .before .before .before .before .scale .ensures in
-    let y = c .before .before .before .before .before .before .before .before .before .before .before .before .before .before .before .before .before .before .before .before .scale2 .ensures in
+    let s = c .before .before .before .before .before .before .before .before .before .before .before .before .before .before .before .before .before .before .before .before .before .before .before .before .before .before .before .before .before .before .before .before .before .before .before .before .before .before in
+    let tables = s .pre .0 in
+    let fits = s .pre .1 .0 in
+    let lx = s .pre .1 .1 .0 in
+    let ly = s .pre .1 .1 .1 in
+    let lk = s .pre .1 .1 .2 in
+    let top = c .before .before .before .before .before .before .before .before .before .before .before .before .before .before .before .before .before .before .before .before .before .before .before .before .before .before .inverse-or-zero .ensures ∙ last-inverse (fieldAt _) fits in
+    let x = c .before .before .before .before .before .before .before .before .before .before .before .before .before .before .before .before .before .before .before .before .before .before .before .before .weigh .ensures in
+    let y = c .before .before .before .before .before .before .before .before .before .before .before .before .before .before .before .before .before .before .before .before .weigh2 .ensures in
     let parts = c .before .before .before .before .before .before .before .before .before .before .before .before .before .before .reduce .ensures in (
-      quotient-is F65521 256 p-is _ _ _ _ _ _ _ fits lx ly lk top x y (parts .1) (c .before .before .before .before .before .before .before .unscale .ensures),
-      remainder-is F65521 256 p-is _ _ _ _ _ _ _ fits lx ly lk top x y (parts .0) (c .before .before .unscale2 .ensures),
+      quotient-is (fieldAt _) (p-at _) _ (longest-in _) _ _ tables _ _ _ _ _ _ _ fits lx ly lk top x y (parts .1) (c .before .before .before .before .before .before .before .weigh3 .ensures),
+      remainder-is (fieldAt _) (p-at _) _ (longest-in _) _ _ tables _ _ _ _ _ _ _ fits lx ly lk top x y (parts .0) (c .before .before .weigh4 .ensures),
     )
 
 pub divide-in-spec : {M : Type 1} → statement M
@@ -72,11 +74,11 @@ divide-in-spec =
     mul-inverse-or-zero
     shared-slice-read-inverse-or-zero
     inverse-or-zero-requires
-    scale-requires
-    scale-requires-2
+    weigh-requires
+    weigh-requires-2
     reduce-requires
-    unscale-requires
-    unscale-requires-2
+    weigh-requires-3
+    weigh-requires-4
     same-length
     same-length-2
     same-length-3

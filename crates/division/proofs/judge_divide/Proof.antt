@@ -3,9 +3,9 @@
 use mathlib.Core.Path.{_≡_, sym, _∙_}
 use mathlib.Core.List.{[], _∷_}
 use Prim.Native.Nat.{_<_}
-use lib.Dec.{lit<}
 use lib.ListN.{length}
-use Rattle.refusal.specs.Limits.{maxWords}
+use Rattle.field.specs.Fields.{modulus, longest}
+use Rattle.field.specs.FieldsLaws.{modulus-some}
 use Rattle.refusal.specs.Lowest.{lowest}
 use Rattle.refusal.specs.declared.Outcome.the-variants.{Done}
 use Rattle.lists.specs.Refused.{listRefusals}
@@ -21,21 +21,21 @@ enum-known-why : tie.Need-enum-known-why
 enum-known-why c = search needs
 
 returns : tie.Need-returns
-returns c = divide-refused 65521 (lit< tt) _ _ _ _ (sym (c .before .before .before .judge-lists .ensures) ∙ c .before .why .given .1)
+returns c = divide-refused _ _ (modulus-some _) _ _ _ _ (sym (c .before .before .before .judge-lists .ensures) ∙ c .before .why .given .1)
 
 enum-told : tie.Need-enum-told
 enum-told c = search needs
 
 -- past the first test the lists are not refused
 listed :
-    (c : tie.After-enum-told) → lowest (listRefusals 65521 maxWords (c .before .before .before .before .before .before .before .args .g .now ∷ c .before .before .before .before .before .before .before .args .f .now ∷ [])) ≡ Done
+    (c : tie.After-enum-told) → lowest (listRefusals (modulus (c .before .before .before .before .before .before .before .args .field)) (longest (c .before .before .before .before .before .before .before .args .field)) (c .before .before .before .before .before .before .before .args .g .now ∷ c .before .before .before .before .before .before .before .args .f .now ∷ [])) ≡ Done
 listed c = sym (c .before .before .judge-lists .ensures) ∙ c .enum-told .given .1
 
 some : (c : tie.After-enum-told) → 0 < length (c .before .before .before .before .before .before .before .args .f .now)
-some c = divisor-some 65521 (lit< tt) _ _ (listed c)
+some c = divisor-some _ _ (modulus-some _) _ _ (listed c)
 
 returns-2 : tie.Need-returns-2
-returns-2 c = divide-backwards 65521 (lit< tt) _ _ _ _ (listed (c .before)) (c .if1 .taken)
+returns-2 c = divide-backwards _ _ (modulus-some _) _ _ _ _ (listed (c .before)) (c .if1 .taken)
 
 sub-if2 : tie.Need-sub-if2
 sub-if2 c = let divisor = some (c .before) in search needs
@@ -47,7 +47,7 @@ shared-slice-read-if2 : tie.Need-shared-slice-read-if2
 shared-slice-read-if2 c = let divisor = some (c .before .before) in search needs
 
 returns-3 : tie.Need-returns-3
-returns-3 c = divide-vanishes 65521 (lit< tt) _ _ _ _ (listed (c .before .before .before)) (c .before .before .if1 .left) (c .if2 .taken)
+returns-3 c = divide-vanishes _ _ (modulus-some _) _ _ _ _ (listed (c .before .before .before)) (c .before .before .if1 .left) (c .if2 .taken)
 
 sub-if3 : tie.Need-sub-if3
 sub-if3 c = search needs
@@ -56,16 +56,16 @@ add-if3 : tie.Need-add-if3
 add-if3 c = search needs
 
 returns-4 : tie.Need-returns-4
-returns-4 c = divide-misfit-q 65521 (lit< tt) _ _ _ _ (listed (c .before .before .before .before)) (c .before .before .before .if1 .left) (c .before .if2 .left) (c .if3 .taken)
+returns-4 c = divide-misfit-q _ _ (modulus-some _) _ _ _ _ (listed (c .before .before .before .before)) (c .before .before .before .if1 .left) (c .before .if2 .left) (c .if3 .taken)
 
 sub-if4 : tie.Need-sub-if4
 sub-if4 c = let divisor = some (c .before .before .before .before) in search needs
 
 returns-5 : tie.Need-returns-5
-returns-5 c = divide-misfit-r 65521 (lit< tt) _ _ _ _ (listed (c .before .before .before .before .before)) (c .before .before .before .before .if1 .left) (c .before .before .if2 .left) (c .before .if3 .left) (c .if4 .taken)
+returns-5 c = divide-misfit-r _ _ (modulus-some _) _ _ _ _ (listed (c .before .before .before .before .before)) (c .before .before .before .before .if1 .left) (c .before .before .if2 .left) (c .before .if3 .left) (c .if4 .taken)
 
 returns-6 : tie.Need-returns-6
-returns-6 c = divide-done 65521 (lit< tt) _ _ _ _ (listed (c .before .before .before .before .before)) (c .before .before .before .before .if1 .left) (c .before .before .if2 .left) (c .before .if3 .left) (c .if4 .left)
+returns-6 c = divide-done _ _ (modulus-some _) _ _ _ _ (listed (c .before .before .before .before .before)) (c .before .before .before .before .if1 .left) (c .before .before .if2 .left) (c .before .if3 .left) (c .if4 .left)
 
 pub judge-divide-spec : {M : Type 1} → statement M
 judge-divide-spec =

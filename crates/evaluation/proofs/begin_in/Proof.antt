@@ -2,7 +2,8 @@
 -- Assumes nothing.
 use mathlib.Core.Path.{_∙_, ap}
 use borrow.Author.Needs.{needs}
-use Rattle.algebra.specs.PrimeField.{F65521, p-is}
+use Rattle.field.specs.Fields.{fieldAt}
+use Rattle.field.specs.FieldsLaws.{p-at}
 use Rattle.evaluation.specs.Workers.{powerOf}
 use Rattle.evaluation.proofs.Weights.{weights-are}
 use Rattle.evaluation.proofs.Groups.{ungrouped}
@@ -37,8 +38,8 @@ returns c =
     let by-x = c .before .before .before .before .before .before .before .before .before .before .before .before .before .before .fill-powers .ensures in
     let by-y = c .before .before .before .before .before .before .before .before .before .before .fill-powers2 .ensures in
     let weights =
-    weights-are F65521 p-is (args .x) (args .y) 8 (start .pre .0) (start .pre .1) (start .pre .2) (by-x .0) (by-y .0) (c .before .before .before .before .fill-weights .ensures) in
-    ungrouped F65521 p-is (args .x) (args .y) 8 weights (args .s .now) _ (by-x .1 ∙ ap (powerOf F65521 (args .x)) (start .pre .0)) (by-y .1 ∙ ap (powerOf F65521 (args .y)) (start .pre .1)) (c .sum-groups .ensures)
+    weights-are (fieldAt _) (p-at _) (args .x) (args .y) 8 (start .pre .0) (start .pre .1) (start .pre .2) (by-x .0) (by-y .0) (c .before .before .before .before .fill-weights .ensures) in
+    ungrouped (fieldAt _) (p-at _) (args .x) (args .y) 8 weights (args .s .now) _ (by-x .1 ∙ ap (powerOf (fieldAt _) (args .x)) (start .pre .0)) (by-y .1 ∙ ap (powerOf (fieldAt _) (args .y)) (start .pre .1)) (c .sum-groups .ensures)
 
 pub begin-in-spec : {M : Type 1} → statement M
 begin-in-spec =

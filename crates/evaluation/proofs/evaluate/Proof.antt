@@ -1,35 +1,17 @@
--- `evaluation::evaluate` meets its contract: it answers what its judge found, and the value where nothing is refused.
+-- `evaluation::evaluate` meets its contract: field 0.
 -- Assumes nothing.
-use mathlib.Core.Path.{sym, ap, _∙_}
-use mathlib.Core.List.{[], _∷_}
-use Prim.Native.Nat.{ℕ}
-use lib.Dec.{lit<}
 use borrow.Author.Needs.{needs}
-use Rattle.refusal.specs.Refusal.{reply}
-use Rattle.refusal.specs.declared.Outcome.the-variants.{Done}
-use Rattle.evaluation.proofs.Judged.{evaluate-short}
+use Rattle.field.specs.Fields.{longest}
+use Rattle.evaluation.specs.Calls.{evaluateRefusals}
 use Rattle.evaluation.proofs.evaluate.Statement.{statement}
 use Rattle.evaluation.proofs.evaluate.Tie as tie
 
-judge-evaluate-requires : tie.Need-judge-evaluate-requires
-judge-evaluate-requires c κs = search needs
-
-enum-known-why : tie.Need-enum-known-why
-enum-known-why c = search needs
+evaluate-over-requires : tie.Need-evaluate-over-requires
+evaluate-over-requires c κs = search needs
 
 returns : tie.Need-returns
-returns c = simp (sym (c .before .before .before .judge-evaluate .ensures) ∙ c .before .why .given .1)
-
-enum-told : tie.Need-enum-told
-enum-told c = search needs
-
-value-at-requires : tie.Need-value-at-requires
-value-at-requires c κs = evaluate-short 65521 _ _ (lit< tt) (sym (c .enum-told .given .1) ∙ c .before .before .judge-evaluate .ensures)
-
-returns-2 : tie.Need-returns-2
-returns-2 c = simp (sym (c .before .before .before .judge-evaluate .ensures) ∙ c .before .enum-told .given .1) (ap (λ (w : ℕ). reply Done (w ∷ [])) (c .value-at .ensures))
+unfolding longest evaluateRefusals
+returns c = c .evaluate-over .ensures
 
 pub evaluate-spec : {M : Type 1} → statement M
-evaluate-spec =
-    tie.close
-    (tie.spec judge-evaluate-requires enum-known-why returns enum-told value-at-requires returns-2)
+evaluate-spec = tie.close (tie.spec evaluate-over-requires returns)

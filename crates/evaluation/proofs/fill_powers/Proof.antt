@@ -4,10 +4,10 @@
 use mathlib.Core.Path.{_≡_, sym, ap, _∙_}
 use Prim.Native.Nat.{_≤_, _-_}
 use native.Mathlib.Omega.{arith}
-use lib.Dec.{lit<}
 use lib.ListN.{length, length-set}
 use borrow.Author.Needs.{needs}
-use Rattle.algebra.specs.PrimeField.{F65521, p-is}
+use Rattle.field.specs.Fields.{fieldAt}
+use Rattle.field.specs.FieldsLaws.{p-at, modulus-half}
 use Rattle.lists.proofs.Filled.{Filled, fill-start, fill-step, fill-end}
 use Rattle.evaluation.specs.Workers.{powerOf, powersOf}
 use Rattle.evaluation.proofs.Weights.{length-powers, word-powers, power-start, power-next}
@@ -15,16 +15,16 @@ use Rattle.evaluation.proofs.fill_powers.Statement.{statement}
 use Rattle.evaluation.proofs.fill_powers.Tie as tie
 
 abbrev Inv-loop : tie.InvT-loop
-Inv-loop x u₀ power₀ j₀ u power j =
-    (j ≤ length u) × (length u ≡ length u₀) × Filled u j (powersOf F65521 x (length u₀)) × (power ≡ powerOf F65521 x j)
+Inv-loop field x u₀ power₀ j₀ u power j =
+    (j ≤ length u) × (length u ≡ length u₀) × Filled u j (powersOf (fieldAt field) x (length u₀)) × (power ≡ powerOf (fieldAt field) x j)
 
 abbrev μ-loop : tie.MeasureT-loop
-μ-loop x u₀ power₀ j₀ u power j = length u - j
+μ-loop field x u₀ power₀ j₀ u power j = length u - j
 
 loop-holds : tie.Need-loop-holds Inv-loop μ-loop
 loop-holds c =
     let args = c .before .args in
-    (search needs, search needs, fill-start _ _, power-start F65521 p-is (args .x) (lit< tt))
+    (search needs, search needs, fill-start _ _, power-start (fieldAt _) (p-at _) (args .x) (omega (arith, modulus-half (args .field))))
 
 mul-u : tie.Need-mul-u Inv-loop μ-loop
 mul-u c = search needs
@@ -46,11 +46,11 @@ loop-again c =
     let args = c .before .before .before .before .args in
     let loop = c .before .before .loop in
     let size = loop .inv .1 in
-    let word = loop .inv .3 ∙ sym (word-powers F65521 (args .x) (length (args .u .now)) (loop .j) (omega arith)) in (
+    let word = loop .inv .3 ∙ sym (word-powers (fieldAt _) (args .x) (length (args .u .now)) (loop .j) (omega arith)) in (
       simp length-set (omega arith),
       simp length-set (omega arith),
       fill-step _ (loop .inv .2) (omega arith) word,
-      power-next F65521 p-is (args .x) (loop .j) (loop .inv .3) (c .mul .ensures),
+      power-next (fieldAt _) (p-at _) (args .x) (loop .j) (loop .inv .3) (c .mul .ensures),
     )
 
 same-length : tie.Need-same-length Inv-loop μ-loop
@@ -60,8 +60,8 @@ returns : tie.Need-returns Inv-loop μ-loop
 returns c =
     let args = c .before .before .before .args in
     let loop = c .before .loop in
-    let size = length-powers F65521 (args .x) (length (args .u .now)) in
-    (fill-end (loop .inv .2) (omega arith) (omega arith), loop .inv .3 ∙ ap (powerOf F65521 (args .x)) (omega arith))
+    let size = length-powers (fieldAt (args .field)) (args .x) (length (args .u .now)) in
+    (fill-end (loop .inv .2) (omega arith) (omega arith), loop .inv .3 ∙ ap (powerOf (fieldAt _) (args .x)) (omega arith))
 
 pub fill-powers-spec : {M : Type 1} → statement M
 fill-powers-spec =

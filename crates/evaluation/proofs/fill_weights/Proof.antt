@@ -5,6 +5,7 @@ use Prim.Native.Nat.{_≤_, _-_}
 use native.Mathlib.Omega.{arith}
 use lib.ListN.{length, length-set}
 use borrow.Author.Needs.{needs}
+use Rattle.field.specs.Fields.{modulus}
 use Rattle.lists.proofs.Filled.{Filled, fill-start, fill-step, fill-end}
 use Rattle.evaluation.specs.Workers.{weightsOf}
 use Rattle.evaluation.proofs.Weights.{length-weights, word-weights}
@@ -12,10 +13,10 @@ use Rattle.evaluation.proofs.fill_weights.Statement.{statement}
 use Rattle.evaluation.proofs.fill_weights.Tie as tie
 
 abbrev Inv-loop : tie.InvT-loop
-Inv-loop a b u₀ n j₀ u j = (j ≤ n) × (length u ≡ n) × Filled u j (weightsOf 65521 n a b)
+Inv-loop field a b u₀ n j₀ u j = (j ≤ n) × (length u ≡ n) × Filled u j (weightsOf (modulus field) n a b)
 
 abbrev μ-loop : tie.MeasureT-loop
-μ-loop a b u₀ n j₀ u j = n - j
+μ-loop field a b u₀ n j₀ u j = n - j
 
 loop-holds : tie.Need-loop-holds Inv-loop μ-loop
 loop-holds c = (search needs, search needs, fill-start _ _)
@@ -57,7 +58,7 @@ loop-again : tie.Need-loop-again Inv-loop μ-loop
 loop-again c =
     let args = c .before .before .before .before .before .before .before .before .args in
     let loop = c .before .before .before .before .loop in
-    let word = word-weights 65521 (length (args .u .now)) (args .a .now) (args .b .now) (loop .j) (omega arith) in (
+    let word = word-weights _ (length (args .u .now)) (args .a .now) (args .b .now) (loop .j) (omega arith) in (
       search needs,
       simp length-set (omega arith),
       fill-step _ (loop .inv .2) (omega arith) (c .mul .ensures ∙ sym word),
@@ -70,7 +71,7 @@ returns : tie.Need-returns Inv-loop μ-loop
 returns c =
     let args = c .before .before .before .before .before .args in
     let loop = c .before .loop in
-    let size = length-weights 65521 (length (args .u .now)) (args .a .now) (args .b .now) in
+    let size = length-weights (modulus (args .field)) (length (args .u .now)) (args .a .now) (args .b .now) in
     fill-end (loop .inv .2) (omega arith) (omega arith)
 
 pub fill-weights-spec : {M : Type 1} → statement M

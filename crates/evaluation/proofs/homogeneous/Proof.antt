@@ -5,7 +5,8 @@ use Prim.Native.Nat.{_≤_, _-_}
 use native.Mathlib.Omega.{arith}
 use lib.ListN.{length}
 use borrow.Author.Needs.{needs}
-use Rattle.algebra.specs.PrimeField.{F65521, p-is}
+use Rattle.field.specs.Fields.{fieldAt}
+use Rattle.field.specs.FieldsLaws.{p-at}
 use Rattle.lists.specs.Lists.{word}
 use Rattle.evaluation.specs.Workers.{Terms}
 use Rattle.evaluation.proofs.Values.{word-next, terms-end}
@@ -13,10 +14,10 @@ use Rattle.evaluation.proofs.homogeneous.Statement.{statement}
 use Rattle.evaluation.proofs.homogeneous.Tie as tie
 
 abbrev Inv-loop : tie.InvT-loop
-Inv-loop s x y sum₀ power₀ k₀ sum power k = (k ≤ length s) × Terms F65521 (word F65521 s) x y k sum power
+Inv-loop field s x y sum₀ power₀ k₀ sum power k = (k ≤ length s) × Terms (fieldAt field) (word (fieldAt field) s) x y k sum power
 
 abbrev μ-loop : tie.MeasureT-loop
-μ-loop s x y sum₀ power₀ k₀ sum power k = length s - k
+μ-loop field s x y sum₀ power₀ k₀ sum power k = length s - k
 
 begin-requires : tie.Need-begin-requires Inv-loop μ-loop
 begin-requires c κs = search needs
@@ -53,14 +54,14 @@ loop-again c =
     let at-loop = c .before .before .before .before in
     let args = at-loop .before .before .before .args in
     let terms =
-    word-next F65521 p-is (args .s .now) (args .x) (args .y) (at-loop .loop .k) (at-loop .loop .inv .1) (c .before .two-products .ensures) (c .mul .ensures) in
+    word-next (fieldAt _) (p-at _) (args .s .now) (args .x) (args .y) (at-loop .loop .k) (at-loop .loop .inv .1) (c .before .two-products .ensures) (c .mul .ensures) in
     (search needs, terms)
 
 returns : tie.Need-returns Inv-loop μ-loop
 returns c =
     let args = c .before .before .before .before .args in
     let loop = c .before .loop in
-    terms-end F65521 (args .s .now) (args .x) (args .y) (omega arith) (loop .inv .1)
+    terms-end (fieldAt _) (args .s .now) (args .x) (args .y) (omega arith) (loop .inv .1)
 
 pub homogeneous-spec : {M : Type 1} → statement M
 homogeneous-spec =

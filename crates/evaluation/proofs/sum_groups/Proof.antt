@@ -6,7 +6,8 @@ use Prim.Native.Nat.{_≤_, _-_, _/_}
 use native.Mathlib.Omega.{arith}
 use lib.ListN.{length}
 use borrow.Author.Needs.{needs}
-use Rattle.algebra.specs.PrimeField.{F65521, p-is}
+use Rattle.field.specs.Fields.{fieldAt}
+use Rattle.field.specs.FieldsLaws.{p-at}
 use Rattle.evaluation.specs.Workers.{groups, Terms}
 use Rattle.evaluation.proofs.Values.{terms-start, terms-next}
 use Rattle.evaluation.proofs.Groups.{group-sum}
@@ -14,13 +15,13 @@ use Rattle.evaluation.proofs.sum_groups.Statement.{statement}
 use Rattle.evaluation.proofs.sum_groups.Tie as tie
 
 abbrev Inv-loop : tie.InvT-loop
-Inv-loop s u x y n sum₀ power₀ i₀ sum power i = (n ≡ length s / 8) × (i ≤ n) × Terms F65521 (groups F65521 8 s u) x y i sum power
+Inv-loop field s u x y n sum₀ power₀ i₀ sum power i = (n ≡ length s / 8) × (i ≤ n) × Terms (fieldAt field) (groups (fieldAt field) 8 s u) x y i sum power
 
 abbrev μ-loop : tie.MeasureT-loop
-μ-loop s u x y n sum₀ power₀ i₀ sum power i = n - i
+μ-loop field s u x y n sum₀ power₀ i₀ sum power i = n - i
 
 loop-holds : tie.Need-loop-holds Inv-loop μ-loop
-loop-holds c = (search needs, search needs, terms-start F65521 _ _ _)
+loop-holds c = (search needs, search needs, terms-start (fieldAt _) _ _ _)
 
 mul-sum-products : tie.Need-mul-sum-products Inv-loop μ-loop
 mul-sum-products c = search needs
@@ -46,16 +47,16 @@ loop-again c =
     let s = start .args .s .now in
     let u = start .args .u .now in
     let loop = c .before .before .before .before .loop in
-    let group = group-sum F65521 8 s u (loop .i) (start .pre) (c .before .before .sum-products .ensures .0) in
+    let group = group-sum (fieldAt _) 8 s u (loop .i) (start .pre) (c .before .before .sum-products .ensures .0) in
     let terms =
-    terms-next F65521 p-is (groups F65521 8 s u) (start .args .x) (start .args .y) (loop .i) _ (loop .inv .2) group (c .before .two-products .ensures) (c .mul .ensures) in
+    terms-next (fieldAt _) (p-at _) (groups (fieldAt _) 8 s u) (start .args .x) (start .args .y) (loop .i) _ (loop .inv .2) group (c .before .two-products .ensures) (c .mul .ensures) in
     (search needs, search needs, terms)
 
 returns : tie.Need-returns Inv-loop μ-loop
 returns c =
     let args = c .before .before .before .before .args in
     let loop = c .before .loop in
-    subst (λ i. Terms F65521 (groups F65521 8 (args .s .now) (args .u .now)) (args .x) (args .y) i (loop .sum) (loop .power)) (omega arith) (loop .inv .2)
+    subst (λ i. Terms (fieldAt (args .field)) (groups (fieldAt (args .field)) 8 (args .s .now) (args .u .now)) (args .x) (args .y) i (loop .sum) (loop .power)) (omega arith) (loop .inv .2)
 
 pub sum-groups-spec : {M : Type 1} → statement M
 sum-groups-spec =

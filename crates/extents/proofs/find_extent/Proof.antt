@@ -1,53 +1,17 @@
--- `extents::find_extent` meets its contract: a refused list, a zero list, and one whose extent is found.
+-- `extents::find_extent` meets its contract: field 0.
 -- Assumes nothing.
-use mathlib.Core.Path.{_≡_, sym, _∙_}
-use mathlib.Core.List.{[], _∷_}
 use borrow.Author.Needs.{needs}
-use Rattle.refusal.specs.Limits.{maxWords}
-use Rattle.refusal.specs.Lowest.{lowest}
-use Rattle.refusal.specs.declared.Outcome.the-variants.{Done}
-use Rattle.lists.specs.Refused.{listRefusals}
-use Rattle.extents.proofs.Judged.{extent-refused, extent-zero, extent-found}
+use Rattle.field.specs.Fields.{longest}
+use Rattle.extents.specs.Calls.{extentRefusals}
 use Rattle.extents.proofs.find_extent.Statement.{statement}
 use Rattle.extents.proofs.find_extent.Tie as tie
 
-judge-list-requires : tie.Need-judge-list-requires
-judge-list-requires c κs = search needs
-
-enum-known-why : tie.Need-enum-known-why
-enum-known-why c = search needs
+extent-over-requires : tie.Need-extent-over-requires
+extent-over-requires c κs = search needs
 
 returns : tie.Need-returns
-returns c = extent-refused 65521 _ (sym (c .before .before .before .judge-list .ensures) ∙ c .before .why .given .1)
-
-enum-told : tie.Need-enum-told
-enum-told c = search needs
-
--- the list is not refused
-listed : (c : tie.After-enum-told) → lowest (listRefusals 65521 maxWords (c .before .before .before .before .args .f .now ∷ [])) ≡ Done
-listed c = sym (c .before .before .judge-list .ensures) ∙ c .enum-told .given .1
-
-significant-words-requires : tie.Need-significant-words-requires
-significant-words-requires c κs = search needs
-
-returns-2 : tie.Need-returns-2
-returns-2 c = extent-zero 65521 _ (listed (c .before .before)) (sym (c .before .significant-words .ensures) ∙ c .if1 .taken)
-
-sub-top : tie.Need-sub-top
-sub-top c = search needs
-
-returns-3 : tie.Need-returns-3
-returns-3 c = extent-found 65521 _ (listed (c .before .before)) (c .before .significant-words .ensures) (c .if1 .left)
+unfolding longest extentRefusals
+returns c = c .extent-over .ensures
 
 pub find-extent-spec : {M : Type 1} → statement M
-find-extent-spec =
-    tie.close
-    (tie.spec
-    judge-list-requires
-    enum-known-why
-    returns
-    enum-told
-    significant-words-requires
-    returns-2
-    sub-top
-    returns-3)
+find-extent-spec = tie.close (tie.spec extent-over-requires returns)

@@ -1,17 +1,18 @@
 -- `extents::trim_in` meets its contract: the significant words of the scaled form, unscaled.
 -- Assumes nothing.
 use borrow.Author.Needs.{needs}
-use Rattle.algebra.specs.PrimeField.{F65521}
-use Rattle.kernels.proofs.Fits.{scale-is}
+use Rattle.field.specs.Fields.{fieldAt}
+use Rattle.field.specs.FieldsLaws.{p-at, longest-in}
+use Rattle.kernels.proofs.Weights.{scale-is}
 use Rattle.extents.proofs.Trimmed.{trimmed}
 use Rattle.extents.proofs.trim_in.Statement.{statement}
 use Rattle.extents.proofs.trim_in.Tie as tie
 
-scale-requires : tie.Need-scale-requires
-scale-requires c κs = search needs
+weigh-requires : tie.Need-weigh-requires
+weigh-requires c κs = search needs
 
-unscale-requires : tie.Need-unscale-requires
-unscale-requires c κs = search needs
+weigh-requires-2 : tie.Need-weigh-requires-2
+weigh-requires-2 c κs = search needs
 
 same-length : tie.Need-same-length
 same-length c = search needs
@@ -21,11 +22,13 @@ same-length-2 c = search needs
 
 returns : tie.Need-returns
 returns c =
-    let start = c .before .before .before .before .before .before .before .before .before .before .before .before in
+    let start = c .before .before .before .before .before .before .before .before .before .before .before .before .before .before in
+    let tables = start .pre .0 in
+    let fits = start .pre .1 .0 in
     let f = start .args .f .now in
-    let form = scale-is F65521 256 f (start .args .s .now) (start .pre .1) (start .pre .0 .short) (c .before .before .before .before .before .before .before .scale .ensures) in
-    trimmed F65521 f (start .pre .0) form (c .before .before .unscale .ensures)
+    let form = scale-is (fieldAt _) (p-at _) _ (longest-in _) _ _ tables f (start .args .s .now) (start .pre .1 .1) (fits .short) (c .before .before .before .before .before .before .before .weigh .ensures) in
+    trimmed (fieldAt _) (p-at _) _ (longest-in _) _ _ tables f fits form (c .before .before .weigh2 .ensures)
 
 pub trim-in-spec : {M : Type 1} → statement M
 trim-in-spec =
-    tie.close (tie.spec scale-requires unscale-requires same-length same-length-2 returns)
+    tie.close (tie.spec weigh-requires weigh-requires-2 same-length same-length-2 returns)

@@ -1,22 +1,22 @@
--- `field::add_mul` meets its contract: the sum fits 32 bits.
+-- `field::add_mul` meets its contract.
 -- Assumes nothing.
-use borrow.Author.Needs.{needs}
 use native.Mathlib.Omega.{arith}
 use Rattle.field.proofs.Words.{product-le}
+use borrow.Author.Needs.{needs}
 use Rattle.field.proofs.add_mul.Statement.{statement}
 use Rattle.field.proofs.add_mul.Tie as tie
 
-mul-result : tie.Need-mul-result
-mul-result c = omega (arith, product-le (c .fits .m .fits) (c .fits .y .fits))
+mul-remainder : tie.Need-mul-remainder
+mul-remainder c = omega (arith, product-le (c .fits .m .fits) (c .fits .y .fits))
 
-add-result : tie.Need-add-result
-add-result c = omega (arith, product-le (c .fits .m .fits) (c .fits .y .fits))
+add-remainder : tie.Need-add-remainder
+add-remainder c = omega (arith, product-le (c .fits .m .fits) (c .fits .y .fits))
 
-cast-result : tie.Need-cast-result
-cast-result c = search needs
+remainder-requires : tie.Need-remainder-requires
+remainder-requires c κs = search needs
 
 returns : tie.Need-returns
 returns c = search needs
 
 pub add-mul-spec : {M : Type 1} → statement M
-add-mul-spec = tie.close (tie.spec mul-result add-result cast-result returns)
+add-mul-spec = tie.close (tie.spec mul-remainder add-remainder remainder-requires returns)

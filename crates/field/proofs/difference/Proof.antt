@@ -1,30 +1,14 @@
--- `field::difference` meets its contract.
+-- `field::difference` meets its contract: field 0.
 -- Assumes nothing.
-use mathlib.Core.Path.{ap, _∙_}
-use mathlib.Core.List.{[], _∷_}
-use Prim.Native.Nat.{ℕ, _+_, _-_, _%_}
-use native.Mathlib.Nat.{mod-eq-of-lt}
 use borrow.Author.Needs.{needs}
-use Rattle.refusal.specs.Refusal.{reply}
-use Rattle.refusal.specs.declared.Outcome.the-variants.{Done}
-use Rattle.field.proofs.Answers.{first-loose, second-loose, none-loose}
 use Rattle.field.proofs.difference.Statement.{statement}
 use Rattle.field.proofs.difference.Tie as tie
 
+difference-over-requires : tie.Need-difference-over-requires
+difference-over-requires c κs = search needs
+
 returns : tie.Need-returns
-returns c = rw (first-loose 65521 (c .before .args .a) (c .before .args .b) (c .if1 .taken))
-
-returns-2 : tie.Need-returns-2
-returns-2 c = rw (second-loose 65521 (c .before .before .args .a) (c .before .before .args .b) (search needs) (c .if2 .taken))
-
-sub-requires : tie.Need-sub-requires
-sub-requires c κs = search needs
-
-returns-3 : tie.Need-returns-3
-returns-3 c =
-    rw (none-loose 65521 (c .before .before .before .args .a) (c .before .before .before .args .b) (search needs) (search needs))
-    (ap (λ (x : ℕ). reply Done (x ∷ []))
-    (c .sub .ensures ∙ ap (λ (y : ℕ). (c .before .before .before .args .a + (65521 - y)) % 65521) (mod-eq-of-lt (search needs))))
+returns c = c .difference-over .ensures
 
 pub difference-spec : {M : Type 1} → statement M
-difference-spec = tie.close (tie.spec returns returns-2 sub-requires returns-3)
+difference-spec = tie.close (tie.spec difference-over-requires returns)

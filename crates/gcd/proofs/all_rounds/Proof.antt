@@ -6,8 +6,7 @@ use native.Mathlib.Omega.{arith}
 use Prim.Native.Nat.{_+_}
 use lib.ListN.{length}
 use borrow.Author.Needs.{needs}
-use Rattle.algebra.specs.PrimeField.{F65521}
-use Rattle.refusal.specs.Limits.{maxWords}
+use Rattle.field.specs.Fields.{fieldAt, longest}
 use Rattle.lists.specs.Degrees.{significant}
 use Rattle.gcd.specs.Workers.{Turning}
 use Rattle.gcd.proofs.Turning.{Turned, turning-start, turn, turning-count, turning-last}
@@ -15,11 +14,11 @@ use Rattle.gcd.proofs.all_rounds.Statement.{statement}
 use Rattle.gcd.proofs.all_rounds.Tie as tie
 
 abbrev Inv-loop : tie.InvT-loop
-Inv-loop x₀ y₀ q₀ rounds₀ nx₀ ny₀ x y q rounds nx ny =
-    Turning F65521 maxWords x₀ y₀ x y rounds × (length q ≡ length q₀) × (nx ≡ significant x) × (ny ≡ significant y)
+Inv-loop field inverses x₀ y₀ q₀ rounds₀ nx₀ ny₀ x y q rounds nx ny =
+    Turning (fieldAt field) (longest field) x₀ y₀ x y rounds × (length q ≡ length q₀) × (nx ≡ significant x) × (ny ≡ significant y)
 
 abbrev μ-loop : tie.MeasureT-loop
-μ-loop x₀ y₀ q₀ rounds₀ nx₀ ny₀ x y q rounds nx ny = ny
+μ-loop field inverses x₀ y₀ q₀ rounds₀ nx₀ ny₀ x y q rounds nx ny = ny
 
 significant-words-requires : tie.Need-significant-words-requires Inv-loop μ-loop
 significant-words-requires c κs = search needs
@@ -29,8 +28,8 @@ significant-words-requires-2 c κs = search needs
 
 loop-holds : tie.Need-loop-holds Inv-loop μ-loop
 loop-holds c =
-    let pre = c .before .before .before .before .before .before .before .pre in
-    (turning-start F65521 maxWords _ _ (pre .0) (pre .1 .0), refl, c .before .before .significant-words .ensures, c .significant-words2 .ensures)
+    let pre = c .before .before .before .before .before .before .before .before .pre in
+    (turning-start (fieldAt _) _ _ _ (pre .0) (pre .1 .0), refl, c .before .before .significant-words .ensures, c .significant-words2 .ensures)
 
 same-length : tie.Need-same-length Inv-loop μ-loop
 same-length c = search needs
@@ -45,24 +44,24 @@ returns : tie.Need-returns Inv-loop μ-loop
 returns c =
     let t = c .before .loop .inv in
     let zero = sym (t .3) ∙ c .if1 .taken in
-    (turning-count F65521 maxWords _ _ _ _ _ (t .0) zero, turning-last F65521 maxWords _ _ _ _ _ (t .0) zero)
+    (turning-count (fieldAt _) _ _ _ _ _ _ (t .0) zero, turning-last (fieldAt _) _ _ _ _ _ _ (t .0) zero)
 
 -- x by y
 first : (c : tie.After-turn Inv-loop μ-loop)
-    → Turned F65521 maxWords (c .before .before .before .before .before .before .before .before .before .before .before .before .before .args .x .now) (c .before .before .before .before .before .before .before .before .before .before .before .before .before .args .y .now) (c .before .before .before .before .before .loop .x) (c .before .before .before .before .before .loop .y) (c .turn .last .0) (c .before .before .before .before .before .loop .rounds)
-unfolding F65521
+    → Turned (fieldAt (c .before .before .before .before .before .before .before .before .before .before .before .before .before .before .args .field)) (longest (c .before .before .before .before .before .before .before .before .before .before .before .before .before .before .args .field)) (c .before .before .before .before .before .before .before .before .before .before .before .before .before .before .args .x .now) (c .before .before .before .before .before .before .before .before .before .before .before .before .before .before .args .y .now) (c .before .before .before .before .before .loop .x) (c .before .before .before .before .before .loop .y) (c .turn .last .1 .1 .0) (c .before .before .before .before .before .loop .rounds)
+unfolding fieldAt
 first c =
-    let start = c .before .before .before .before .before .before .before .before .before .before .before .before .before in
+    let start = c .before .before .before .before .before .before .before .before .before .before .before .before .before .before in
     let t = c .before .before .before .before .before .loop .inv in
-    turn F65521 maxWords _ _ _ _ _ _ (start .pre .0) (start .pre .1 .0) (t .0) (omega arith) (omega arith) (c .turn .ensures .1)
+    turn (fieldAt _) _ _ _ _ _ _ _ (start .pre .0) (start .pre .1 .0) (t .0) (omega arith) (omega arith) (c .turn .ensures .1)
 
 -- y by what is left of x
 second : (c : tie.After-turn2 Inv-loop μ-loop)
-    → Turned F65521 maxWords (c .before .before .before .before .before .before .before .before .before .before .before .before .before .before .before .before .before .before .before .before .before .before .args .x .now) (c .before .before .before .before .before .before .before .before .before .before .before .before .before .before .before .before .before .before .before .before .before .before .args .y .now) (c .before .before .before .before .before .before .before .before .before .before .before .before .before .before .loop .y) (c .before .before .before .before .before .before .before .before .before .turn .last .0) (c .turn2 .last .0) (c .before .before .before .before .before .before .before .before .before .before .before .before .before .before .loop .rounds + 1)
-unfolding F65521
+    → Turned (fieldAt (c .before .before .before .before .before .before .before .before .before .before .before .before .before .before .before .before .before .before .before .before .before .before .before .args .field)) (longest (c .before .before .before .before .before .before .before .before .before .before .before .before .before .before .before .before .before .before .before .before .before .before .before .args .field)) (c .before .before .before .before .before .before .before .before .before .before .before .before .before .before .before .before .before .before .before .before .before .before .before .args .x .now) (c .before .before .before .before .before .before .before .before .before .before .before .before .before .before .before .before .before .before .before .before .before .before .before .args .y .now) (c .before .before .before .before .before .before .before .before .before .before .before .before .before .before .loop .y) (c .before .before .before .before .before .before .before .before .before .turn .last .1 .1 .0) (c .turn2 .last .1 .1 .0) (c .before .before .before .before .before .before .before .before .before .before .before .before .before .before .loop .rounds + 1)
+unfolding fieldAt
 second c =
-    let start = c .before .before .before .before .before .before .before .before .before .before .before .before .before .before .before .before .before .before .before .before .before .before in
-    turn F65521 maxWords _ _ _ _ _ _ (start .pre .0) (start .pre .1 .0) (first (c .before .before .before .before .before .before .before .before .before) .next) (omega arith) (omega arith) (c .turn2 .ensures .1)
+    let start = c .before .before .before .before .before .before .before .before .before .before .before .before .before .before .before .before .before .before .before .before .before .before .before in
+    turn (fieldAt _) _ _ _ _ _ _ _ (start .pre .0) (start .pre .1 .0) (first (c .before .before .before .before .before .before .before .before .before) .next) (omega arith) (omega arith) (c .turn2 .ensures .1)
 
 turn-requires : tie.Need-turn-requires Inv-loop μ-loop
 turn-requires c κs = search needs
@@ -83,7 +82,7 @@ returns-2 : tie.Need-returns-2 Inv-loop μ-loop
 returns-2 c =
     let t = first (c .before .before .before .before .before) .next in
     let zero = sym (c .before .before .before .before .before .turn .ensures .0) ∙ c .if2 .taken in
-    (turning-count F65521 maxWords _ _ _ _ _ t zero, turning-last F65521 maxWords _ _ _ _ _ t zero)
+    (turning-count (fieldAt _) _ _ _ _ _ _ t zero, turning-last (fieldAt _) _ _ _ _ _ _ t zero)
 
 turn-requires-2 : tie.Need-turn-requires-2 Inv-loop μ-loop
 turn-requires-2 c κs = search needs

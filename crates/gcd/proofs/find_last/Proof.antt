@@ -2,8 +2,7 @@
 -- Assumes nothing.
 use mathlib.Core.Path.{_∙_}
 use native.Mathlib.Omega.{arith}
-use Rattle.algebra.specs.PrimeField.{F65521}
-use Rattle.refusal.specs.Limits.{maxWords}
+use Rattle.field.specs.Fields.{fieldAt}
 use Rattle.gcd.proofs.Finish.{ready-count, ready-last}
 use borrow.Author.Needs.{needs}
 use Rattle.gcd.proofs.find_last.Statement.{statement}
@@ -29,11 +28,11 @@ same-length-3 c = search needs
 
 returns : tie.Need-returns
 returns c =
-    let start = c .before .before .before .before .before .before .before .before .before .before .before .before .before .before .before .before .before .before .before .before .before .before .before in
+    let start = c .before .before .before .before .before .before .before .before .before .before .before .before .before .before .before .before .before .before .before .before .before .before .before .before .before .before in
     let x = c .before .before .before .before .before .before .before .before .before .before .before .before .before .before .before .before .scale-into .ensures in
     let y = c .before .before .before .before .before .before .before .before .before .before .before .before .scale-into2 .ensures in
     let ended = c .before .before .before .before .before .before .all-rounds .ensures in
-    (ended .0 ∙ ready-count F65521 maxWords _ _ (start .pre .0) x y, ready-last F65521 maxWords _ _ (start .pre .0) x y (ended .1))
+    (ended .0 ∙ ready-count (fieldAt _) _ _ _ (start .pre .1 .0) x y, ready-last (fieldAt _) _ _ _ (start .pre .1 .0) x y (ended .1))
 
 pub find-last-spec : {M : Type 1} → statement M
 find-last-spec =

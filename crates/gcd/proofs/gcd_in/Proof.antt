@@ -2,8 +2,7 @@
 -- Assumes nothing.
 use mathlib.Core.Path.{_∙_, ap}
 use native.Mathlib.Omega.{arith}
-use Rattle.algebra.specs.PrimeField.{F65521}
-use Rattle.refusal.specs.Limits.{maxWords}
+use Rattle.field.specs.Fields.{fieldAt}
 use Rattle.euclid.specs.Gcds.{padded}
 use Rattle.gcd.proofs.Finish.{gcd-done}
 use borrow.Author.Needs.{needs}
@@ -12,11 +11,15 @@ use Rattle.gcd.proofs.gcd_in.Tie as tie
 
 find-last-requires : tie.Need-find-last-requires
 find-last-requires c κs =
-    let pre = c .before .before .before .before .before .before .before .before .before .pre in
-    (pre .0, (pre .1 .0, (pre .1 .1 .0, pre .1 .1 .1 .0)))
+    let pre = c .before .before .before .before .before .before .before .before .before .before .before .before .pre in
+    (pre .0, (pre .1 .0, (pre .1 .1 .0, (pre .1 .1 .1 .0, pre .1 .1 .1 .1 .0))))
 
 write-last-requires : tie.Need-write-last-requires
-write-last-requires c κs = search needs
+write-last-requires c κs =
+    let pre = c .before .before .before .before .before .before .before .before .before .before .before .before .before .before .before .before .before .before .before .before .before .before .pre in
+    let last = c .before .before .before .before .before .before .before .before .before .find-last .ensures .1 in
+    let size = last .size in
+    (pre .0, (last .buffer, (omega arith, pre .1 .1 .1 .1 .1)))
 
 common-power-requires : tie.Need-common-power-requires
 common-power-requires c κs = search needs
@@ -39,7 +42,7 @@ returns c =
     let list = c .before .before .before .before .before .before .before .write-last .ensures in
     let size = last .1 .size in
     let w = list .0 in
-    (gcd-done F65521 _ _ _ _ _ (omega arith) (c .common-power .ensures) (last .0), list .1 ∙ ap (padded maxWords) (last .1 .list))
+    (gcd-done (fieldAt _) _ _ _ _ _ (omega arith) (c .common-power .ensures) (last .0), list .1 ∙ ap (padded _) (last .1 .list))
 
 pub gcd-in-spec : {M : Type 1} → statement M
 gcd-in-spec =

@@ -1,8 +1,8 @@
 -- `gcd::write_gcd` meets its contract: the last x times the inverse of its last word, unscaled.
 -- Assumes nothing.
 use native.Mathlib.Omega.{arith}
-use Rattle.algebra.specs.PrimeField.{F65521}
-use Rattle.refusal.specs.Limits.{maxWords}
+use Rattle.field.specs.Fields.{fieldAt}
+use Rattle.field.specs.FieldsLaws.{p-at, longest-in}
 use Rattle.lists.specs.Extents.{significant-le}
 use Rattle.gcd.proofs.Finish.{gcd-written}
 use borrow.Author.Needs.{needs}
@@ -16,10 +16,10 @@ sub-inverse-or-zero : tie.Need-sub-inverse-or-zero
 sub-inverse-or-zero c = search needs
 
 mul-inverse-or-zero : tie.Need-mul-inverse-or-zero
-mul-inverse-or-zero c = let most = significant-le (c .before .before .before .before .args .last .now) in search needs
+mul-inverse-or-zero c = let most = significant-le (c .before .before .before .before .before .before .before .args .last .now) in search needs
 
 slice-read-inverse-or-zero : tie.Need-slice-read-inverse-or-zero
-slice-read-inverse-or-zero c = let most = significant-le (c .before .before .before .before .before .args .last .now) in search needs
+slice-read-inverse-or-zero c = let most = significant-le (c .before .before .before .before .before .before .before .before .args .last .now) in search needs
 
 inverse-or-zero-requires : tie.Need-inverse-or-zero-requires
 inverse-or-zero-requires c κs = search needs
@@ -27,8 +27,8 @@ inverse-or-zero-requires c κs = search needs
 write-list-requires : tie.Need-write-list-requires
 write-list-requires c κs = search needs
 
-sub-t7 : tie.Need-sub-t7
-sub-t7 c = search needs
+sub-t11 : tie.Need-sub-t11
+sub-t11 c = search needs
 
 same-length : tie.Need-same-length
 same-length c = search needs
@@ -38,10 +38,10 @@ same-length-2 c = search needs
 
 returns : tie.Need-returns
 returns c =
-    let start = c .before .before .before .before .before .before .before .before .before .before .before .before .before in
+    let start = c .before .before .before .before .before .before .before .before .before .before .before .before .before .before .before .before in
     let n = c .before .before .before .before .before .before .before .before .before .significant-words in (
       omega arith,
-      gcd-written F65521 maxWords _ (start .pre .0) (start .pre .1 .0) _ _ _ (start .pre .1 .1) (n .ensures) (c .before .before .before .before .before .before .before .inverse-or-zero .ensures) (c .before .before .before .before .write-list .ensures .1),
+      gcd-written (fieldAt _) _ _ (start .pre .1 .0) (start .pre .1 .1 .0) (p-at _) (longest-in _) _ _ (start .pre .0) _ _ _ (start .pre .1 .1 .1) (n .ensures) (c .before .before .before .before .before .before .before .inverse-or-zero .ensures) (c .before .before .before .before .write-list .ensures),
     )
 
 pub write-gcd-spec : {M : Type 1} → statement M
@@ -54,7 +54,7 @@ write-gcd-spec =
     slice-read-inverse-or-zero
     inverse-or-zero-requires
     write-list-requires
-    sub-t7
+    sub-t11
     same-length
     same-length-2
     returns)

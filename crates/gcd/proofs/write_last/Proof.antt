@@ -5,7 +5,7 @@ use Rattle.gcd.proofs.write_last.Statement.{statement}
 use Rattle.gcd.proofs.write_last.Tie as tie
 
 write-gcd-requires : tie.Need-write-gcd-requires
-write-gcd-requires c κs = simp (c .before .before .if1 .taken) at (c .before .before .before .before .before .before .pre)
+write-gcd-requires c κs = simp (c .before .before .if1 .taken) at (c .before .before .before .before .before .before .before .before .before .pre)
 
 same-length : tie.Need-same-length
 same-length c = search needs
@@ -17,7 +17,7 @@ returns : tie.Need-returns
 returns c = simp (c .before .before .before .before .before .before .before .if1 .taken) (c .before .before .before .before .write-gcd .ensures)
 
 write-gcd-requires-2 : tie.Need-write-gcd-requires-2
-write-gcd-requires-2 c κs = simp (c .before .before .if1 .left) at (c .before .before .before .before .before .before .pre)
+write-gcd-requires-2 c κs = simp (c .before .before .if1 .left) at (c .before .before .before .before .before .before .before .before .before .pre)
 
 same-length-3 : tie.Need-same-length-3
 same-length-3 c = search needs

@@ -2,7 +2,7 @@
 -- Assumes nothing.
 use native.Mathlib.Omega.{arith}
 use borrow.Author.Needs.{needs}
-use Rattle.algebra.specs.PrimeField.{F65521}
+use Rattle.field.specs.Fields.{modulus, fieldAt, longest}
 use Rattle.host.proofs.Calls.{DivisionCall, division-fits, division-done, division-refused}
 use Rattle.host.proofs.divide_in.Statement.{statement}
 use Rattle.host.proofs.divide_in.Tie as tie
@@ -13,13 +13,13 @@ read-words-requires c κs = search needs
 read-words-requires-2 : tie.Need-read-words-requires-2
 read-words-requires-2 c κs = search needs
 
-divide-requires : tie.Need-divide-requires
-divide-requires c κs = search needs
+divide-over-requires : tie.Need-divide-over-requires
+divide-over-requires c κs = search needs
 
 -- the answer of the engine's function
-called : (c : tie.After-divide)
-    → DivisionCall 65521 (c .before .before .before .before .before .before .before .before .before .before .before .before .before .before .before .before .before .before .before .before .before .args .g .now) (c .before .before .before .before .before .before .before .before .before .before .before .before .before .before .before .before .before .before .before .before .before .args .f .now) (c .before .before .before .before .before .before .before .before .before .before .before .before .before .before .before .before .before .before .before .before .before .args .q .now) (c .before .before .before .before .before .before .before .before .before .before .before .before .before .before .before .before .before .before .before .before .before .args .r .now) (c .before .before .before .before .before .before .before .before .before .before .before .read-words .last .1 .0) (c .before .before .before .before .before .before .before .read-words2 .last .1 .0) (c .before .before .before .before .before .before .before .before .before .before .before .before .before .before .before .before .before .before .before .before .before .args .c .now) (c .before .before .before .before .before .before .before .before .before .before .before .before .before .before .before .before .before .before .before .before .before .args .d .now)
-    (c .divide .result)
+called : (c : tie.After-divide-over)
+    → DivisionCall (longest (c .before .before .before .before .before .before .before .before .before .before .before .before .before .before .before .before .before .before .before .before .before .args .field)) (modulus (c .before .before .before .before .before .before .before .before .before .before .before .before .before .before .before .before .before .before .before .before .before .args .field)) (c .before .before .before .before .before .before .before .before .before .before .before .before .before .before .before .before .before .before .before .before .before .args .g .now) (c .before .before .before .before .before .before .before .before .before .before .before .before .before .before .before .before .before .before .before .before .before .args .f .now) (c .before .before .before .before .before .before .before .before .before .before .before .before .before .before .before .before .before .before .before .before .before .args .q .now) (c .before .before .before .before .before .before .before .before .before .before .before .before .before .before .before .before .before .before .before .before .before .args .r .now) (c .before .before .before .before .before .before .before .before .before .before .before .read-words .last .1 .0) (c .before .before .before .before .before .before .before .read-words2 .last .1 .0) (c .before .before .before .before .before .before .before .before .before .before .before .before .before .before .before .before .before .before .before .before .before .args .c .now) (c .before .before .before .before .before .before .before .before .before .before .before .before .before .before .before .before .before .before .before .before .before .args .d .now)
+    (c .divide-over .result)
 called c =
     let start = c .before .before .before .before .before .before .before .before .before .before .before .before .before .before .before .before .before .before .before .before .before in
     record {
@@ -29,7 +29,7 @@ called c =
       words-f = c .before .before .before .before .before .before .before .read-words2 .ensures;
       room-q = start .pre .1 .2;
       room-r = start .pre .1 .3;
-      says = c .divide .ensures .0;
+      says = c .divide-over .ensures .0;
     }
 
 enum-told : tie.Need-enum-told
@@ -67,7 +67,7 @@ same-length-6 c = omega arith
 
 returns : tie.Need-returns
 returns c =
-    division-done (called (c .before .before .before .before .before .before .before .before .before .before .before .before .before .before .before .before)) (c .before .before .before .before .before .before .before .before .before .before .enum-told .given .1) F65521 (c .before .before .before .before .before .before .before .before .before .before .before .before .before .before .before .before .divide .ensures .1 .0) (c .before .before .before .before .before .before .before .before .before .before .before .before .before .before .before .before .divide .ensures .1 .1 .0)
+    division-done (called (c .before .before .before .before .before .before .before .before .before .before .before .before .before .before .before .before)) (c .before .before .before .before .before .before .before .before .before .before .enum-told .given .1) (fieldAt _) (c .before .before .before .before .before .before .before .before .before .before .before .before .before .before .before .before .divide-over .ensures .1 .0) (c .before .before .before .before .before .before .before .before .before .before .before .before .before .before .before .before .divide-over .ensures .1 .1 .0)
     (c .before .before .before .before .before .before .before .write-words .ensures) (c .before .before .write-words2 .ensures)
 
 same-length-7 : tie.Need-same-length-7
@@ -91,7 +91,7 @@ divide-in-spec =
     (tie.spec
     read-words-requires
     read-words-requires-2
-    divide-requires
+    divide-over-requires
     enum-told
     write-words-requires
     write-words-requires-2

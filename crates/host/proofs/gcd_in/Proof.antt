@@ -2,7 +2,8 @@
 -- Assumes nothing.
 use native.Mathlib.Omega.{arith}
 use borrow.Author.Needs.{needs}
-use Rattle.algebra.specs.PrimeField.{F65521}
+use Rattle.field.specs.Fields.{modulus, fieldAt, longest}
+use Rattle.field.specs.FieldsLaws.{longest-some, longest-room}
 use Rattle.host.proofs.Calls.{GcdCall, gcd-fits, gcd-small, gcd-done, gcd-refused}
 use Rattle.host.proofs.gcd_in.Statement.{statement}
 use Rattle.host.proofs.gcd_in.Tie as tie
@@ -13,13 +14,13 @@ read-words-requires c κs = search needs
 read-words-requires-2 : tie.Need-read-words-requires-2
 read-words-requires-2 c κs = search needs
 
-gcd-of-requires : tie.Need-gcd-of-requires
-gcd-of-requires c κs = search needs
+gcd-over-requires : tie.Need-gcd-over-requires
+gcd-over-requires c κs = search needs
 
 -- the answer of the engine's function
-called : (c : tie.After-gcd-of)
-    → GcdCall F65521 65521 (c .before .before .before .before .before .before .before .before .before .before .before .before .before .before .before .before .before .before .before .args .f .now) (c .before .before .before .before .before .before .before .before .before .before .before .before .before .before .before .before .before .before .before .args .g .now) (c .before .before .before .before .before .before .before .before .before .before .before .before .before .before .before .before .before .before .before .args .h .now) (c .before .before .before .before .before .before .before .before .before .before .before .before .before .before .before .before .before .before .before .args .answer .now) (c .before .before .before .before .before .before .before .before .before .before .read-words .last .1 .0) (c .before .before .before .before .before .before .read-words2 .last .1 .0) (c .before .before .before .before .before .before .before .before .before .before .before .before .before .before .before .before .before .before .before .args .c .now)
-    (c .gcd-of .result)
+called : (c : tie.After-gcd-over)
+    → GcdCall (longest (c .before .before .before .before .before .before .before .before .before .before .before .before .before .before .before .before .before .before .before .args .field)) (fieldAt (c .before .before .before .before .before .before .before .before .before .before .before .before .before .before .before .before .before .before .before .args .field)) (modulus (c .before .before .before .before .before .before .before .before .before .before .before .before .before .before .before .before .before .before .before .args .field)) (c .before .before .before .before .before .before .before .before .before .before .before .before .before .before .before .before .before .before .before .args .f .now) (c .before .before .before .before .before .before .before .before .before .before .before .before .before .before .before .before .before .before .before .args .g .now) (c .before .before .before .before .before .before .before .before .before .before .before .before .before .before .before .before .before .before .before .args .h .now) (c .before .before .before .before .before .before .before .before .before .before .before .before .before .before .before .before .before .before .before .args .answer .now) (c .before .before .before .before .before .before .before .before .before .before .read-words .last .1 .0) (c .before .before .before .before .before .before .read-words2 .last .1 .0) (c .before .before .before .before .before .before .before .before .before .before .before .before .before .before .before .before .before .before .before .args .c .now)
+    (c .gcd-over .result)
 called c =
     let start = c .before .before .before .before .before .before .before .before .before .before .before .before .before .before .before .before .before .before .before in
     record {
@@ -28,21 +29,21 @@ called c =
       words-f = c .before .before .before .before .before .before .before .before .before .before .read-words .ensures;
       words-g = c .before .before .before .before .before .before .read-words2 .ensures;
       room = start .pre .1 .2;
-      says = c .gcd-of .ensures .0;
+      says = c .gcd-over .ensures .0;
     }
 
 enum-known-found : tie.Need-enum-known-found
 enum-known-found c = search needs
 
 write-words-requires : tie.Need-write-words-requires
-write-words-requires c κs = omega (arith, gcd-fits (called (c .before .before .before .before .before .before .before)) (c .before .before .before .found .given .1) .0)
+write-words-requires c κs = omega (arith, gcd-fits (longest-some _) (longest-room _) (called (c .before .before .before .before .before .before .before)) (c .before .before .before .found .given .1) .0)
 
 write-three-requires : tie.Need-write-three-requires
 write-three-requires c κs =
     let done = c .before .before .before .before .before .before .before .found .given .1 in
-    let ensures = c .before .before .before .before .before .before .before .before .before .before .before .gcd-of .ensures .1 in
-    let small = gcd-small (called (c .before .before .before .before .before .before .before .before .before .before .before)) done (ensures .0) (omega arith) (ensures .1) in
-    (small .degree, small .power, small .count, gcd-fits (called (c .before .before .before .before .before .before .before .before .before .before .before)) done .2)
+    let ensures = c .before .before .before .before .before .before .before .before .before .before .before .gcd-over .ensures .1 in
+    let small = gcd-small (longest-some _) (longest-room _) (called (c .before .before .before .before .before .before .before .before .before .before .before)) done (ensures .0) (omega arith) (ensures .1) in
+    (small .degree, small .power, small .count, gcd-fits (longest-some _) (longest-room _) (called (c .before .before .before .before .before .before .before .before .before .before .before)) done .2)
 
 enum-known-found-2 : tie.Need-enum-known-found-2
 enum-known-found-2 c = search needs
@@ -67,7 +68,7 @@ same-length-5 c = search needs
 
 returns : tie.Need-returns
 returns c =
-    gcd-done (called (c .before .before .before .before .before .before .before .before .before .before .before .before .before .before)) (c .before .before .before .before .before .before .before .before .before .before .found .given .1) (c .before .before .before .before .before .before .before .before .before .before .before .before .before .before .gcd-of .ensures .1 .0) (c .before .before .before .before .before .before .write-words .ensures) (c .before .before .write-three .ensures)
+    gcd-done (longest-some _) (longest-room _) (called (c .before .before .before .before .before .before .before .before .before .before .before .before .before .before)) (c .before .before .before .before .before .before .before .before .before .before .found .given .1) (c .before .before .before .before .before .before .before .before .before .before .before .before .before .before .gcd-over .ensures .1 .0) (c .before .before .before .before .before .before .write-words .ensures) (c .before .before .write-three .ensures)
 
 same-length-6 : tie.Need-same-length-6
 same-length-6 c = search needs
@@ -79,7 +80,7 @@ same-length-8 : tie.Need-same-length-8
 same-length-8 c = search needs
 
 returns-2 : tie.Need-returns-2
-returns-2 c = gcd-refused (called (c .before .before .before .before .before .before)) (c .before .before .found2 .given .1) (c .number-of .ensures) _ _
+returns-2 c = gcd-refused (longest-some _) (longest-room _) (called (c .before .before .before .before .before .before)) (c .before .before .found2 .given .1) (c .number-of .ensures) _ _
 
 pub gcd-in-spec : {M : Type 1} → statement M
 gcd-in-spec =
@@ -87,7 +88,7 @@ gcd-in-spec =
     (tie.spec
     read-words-requires
     read-words-requires-2
-    gcd-of-requires
+    gcd-over-requires
     enum-known-found
     write-words-requires
     write-three-requires

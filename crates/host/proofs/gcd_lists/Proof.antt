@@ -3,6 +3,8 @@
 use mathlib.Core.Path.{refl, sym, _∙_}
 use native.Mathlib.Omega.{arith}
 use borrow.Author.Needs.{needs}
+use Rattle.field.specs.Fields.{longest}
+use Rattle.field.specs.FieldsLaws.{longest-room}
 use Rattle.lists.specs.Bytes.{wordCount}
 use Rattle.host.proofs.Fits.{good-half, list-part, gcd-room-short, gcd-room-part}
 use Rattle.host.proofs.gcd_lists.Statement.{statement}
@@ -12,34 +14,33 @@ gcd-room-requires : tie.Need-gcd-room-requires
 gcd-room-requires c κs = search needs
 
 array-borrow-prefix-a : tie.Need-array-borrow-prefix-a
-array-borrow-prefix-a c = omega (arith, good-half _ (c .before .before .before .before .before .before .before .pre .0))
+array-borrow-prefix-a c = omega (arith, good-half (longest (c .before .before .before .before .before .before .before .args .field)) _ (c .before .before .before .before .before .before .before .pre .0), longest-room (c .before .before .before .before .before .before .before .args .field))
 
 slice-aggregate-gcd-in : tie.Need-slice-aggregate-gcd-in
-slice-aggregate-gcd-in c = sym (list-part _ _ (c .before .before .before .before .before .before .before .before .pre .0) refl)
+slice-aggregate-gcd-in c = sym (list-part (longest (c .before .before .before .before .before .before .before .before .args .field)) _ _ (c .before .before .before .before .before .before .before .before .pre .0) refl (longest-room (c .before .before .before .before .before .before .before .before .args .field)))
 
 array-borrow-prefix-b : tie.Need-array-borrow-prefix-b
-array-borrow-prefix-b c = omega (arith, good-half _ (c .before .before .before .before .before .before .before .before .pre .1))
+array-borrow-prefix-b c = omega (arith, good-half (longest (c .before .before .before .before .before .before .before .before .args .field)) _ (c .before .before .before .before .before .before .before .before .pre .1), longest-room (c .before .before .before .before .before .before .before .before .args .field))
 
 slice-aggregate-gcd-in-2 : tie.Need-slice-aggregate-gcd-in-2
-slice-aggregate-gcd-in-2 c = sym (list-part _ _ (c .before .before .before .before .before .before .before .before .before .pre .1) refl)
+slice-aggregate-gcd-in-2 c = sym (list-part (longest (c .before .before .before .before .before .before .before .before .before .args .field)) _ _ (c .before .before .before .before .before .before .before .before .before .pre .1) refl (longest-room (c .before .before .before .before .before .before .before .before .before .args .field)))
 
 array-borrow-prefix-c : tie.Need-array-borrow-prefix-c
-array-borrow-prefix-c c = gcd-room-short _ _ (c .before .before .gcd-room .ensures)
+array-borrow-prefix-c c = omega (arith, gcd-room-short (longest (c .before .before .before .before .before .before .before .before .before .args .field)) _ _ (c .before .before .gcd-room .ensures), longest-room (c .before .before .before .before .before .before .before .before .before .args .field))
 
 slice-aggregate-gcd-in-3 : tie.Need-slice-aggregate-gcd-in-3
-slice-aggregate-gcd-in-3 c = sym (gcd-room-part _ _ _ (c .before .before .before .gcd-room .ensures) refl)
+slice-aggregate-gcd-in-3 c = sym (gcd-room-part (longest (c .before .before .before .before .before .before .before .before .before .before .args .field)) _ _ _ (c .before .before .before .gcd-room .ensures) refl (longest-room (c .before .before .before .before .before .before .before .before .before .before .args .field)))
 
 gcd-in-requires : tie.Need-gcd-in-requires
 unfolding wordCount
-gcd-in-requires c κs =
-    let start = c .before .before .before .before .before .before .before .before .before .before .before .before in (
-      start .pre,
-      (
-        list-part _ _ (start .pre .0) refl,
-        list-part _ _ (start .pre .1) refl,
-        gcd-room-part _ _ _ (c .before .before .before .before .before .gcd-room .ensures) refl ∙ c .before .before .before .before .before .gcd-room .ensures,
-      ),
-    )
+gcd-in-requires c κs = (
+  c .before .before .before .before .before .before .before .before .before .before .before .before .pre,
+  (
+    list-part (longest (c .before .before .before .before .before .before .before .before .before .before .before .before .args .field)) _ _ (c .before .before .before .before .before .before .before .before .before .before .before .before .pre .0) refl (longest-room (c .before .before .before .before .before .before .before .before .before .before .before .before .args .field)),
+    list-part (longest (c .before .before .before .before .before .before .before .before .before .before .before .before .args .field)) _ _ (c .before .before .before .before .before .before .before .before .before .before .before .before .pre .1) refl (longest-room (c .before .before .before .before .before .before .before .before .before .before .before .before .args .field)),
+    gcd-room-part (longest (c .before .before .before .before .before .before .before .before .before .before .before .before .args .field)) _ _ _ (c .before .before .before .before .before .gcd-room .ensures) refl (longest-room (c .before .before .before .before .before .before .before .before .before .before .before .before .args .field)) ∙ c .before .before .before .before .before .gcd-room .ensures,
+  ),
+)
 
 same-length : tie.Need-same-length
 same-length c = search needs

@@ -2,7 +2,7 @@
 -- Assumes nothing.
 use native.Mathlib.Omega.{arith}
 use borrow.Author.Needs.{needs}
-use Rattle.algebra.specs.PrimeField.{F65521}
+use Rattle.field.specs.Fields.{modulus, fieldAt, longest}
 use Rattle.host.proofs.Calls.{ProductCall, product-fits, product-done, product-refused}
 use Rattle.host.proofs.product_in.Statement.{statement}
 use Rattle.host.proofs.product_in.Tie as tie
@@ -13,13 +13,13 @@ read-words-requires c κs = search needs
 read-words-requires-2 : tie.Need-read-words-requires-2
 read-words-requires-2 c κs = search needs
 
-product-requires : tie.Need-product-requires
-product-requires c κs = search needs
+product-over-requires : tie.Need-product-over-requires
+product-over-requires c κs = search needs
 
 -- the answer of the engine's function
-called : (c : tie.After-product)
-    → ProductCall 65521 (c .before .before .before .before .before .before .before .before .before .before .before .before .before .before .before .before .before .before .args .f .now) (c .before .before .before .before .before .before .before .before .before .before .before .before .before .before .before .before .before .before .args .g .now) (c .before .before .before .before .before .before .before .before .before .before .before .before .before .before .before .before .before .before .args .out .now) (c .before .before .before .before .before .before .before .before .before .before .read-words .last .1 .0) (c .before .before .before .before .before .before .read-words2 .last .1 .0) (c .before .before .before .before .before .before .before .before .before .before .before .before .before .before .before .before .before .before .args .c .now)
-    (c .product .result)
+called : (c : tie.After-product-over)
+    → ProductCall (longest (c .before .before .before .before .before .before .before .before .before .before .before .before .before .before .before .before .before .before .args .field)) (modulus (c .before .before .before .before .before .before .before .before .before .before .before .before .before .before .before .before .before .before .args .field)) (c .before .before .before .before .before .before .before .before .before .before .before .before .before .before .before .before .before .before .args .f .now) (c .before .before .before .before .before .before .before .before .before .before .before .before .before .before .before .before .before .before .args .g .now) (c .before .before .before .before .before .before .before .before .before .before .before .before .before .before .before .before .before .before .args .out .now) (c .before .before .before .before .before .before .before .before .before .before .read-words .last .1 .0) (c .before .before .before .before .before .before .read-words2 .last .1 .0) (c .before .before .before .before .before .before .before .before .before .before .before .before .before .before .before .before .before .before .args .c .now)
+    (c .product-over .result)
 called c =
     let start = c .before .before .before .before .before .before .before .before .before .before .before .before .before .before .before .before .before .before in
     record {
@@ -28,7 +28,7 @@ called c =
       words-f = c .before .before .before .before .before .before .before .before .before .before .read-words .ensures;
       words-g = c .before .before .before .before .before .before .read-words2 .ensures;
       room = start .pre .1 .2;
-      says = c .product .ensures .0;
+      says = c .product-over .ensures .0;
     }
 
 enum-told : tie.Need-enum-told
@@ -57,7 +57,7 @@ same-length-4 c = omega arith
 
 returns : tie.Need-returns
 returns c =
-    product-done (called (c .before .before .before .before .before .before .before .before .before)) (c .before .before .before .before .before .enum-told .given .1) F65521 (c .before .before .before .before .before .before .before .before .before .product .ensures .1) (c .before .before .write-words .ensures)
+    product-done (called (c .before .before .before .before .before .before .before .before .before)) (c .before .before .before .before .before .enum-told .given .1) (fieldAt _) (c .before .before .before .before .before .before .before .before .before .product-over .ensures .1) (c .before .before .write-words .ensures)
 
 same-length-5 : tie.Need-same-length-5
 same-length-5 c = search needs
@@ -77,7 +77,7 @@ product-in-spec =
     (tie.spec
     read-words-requires
     read-words-requires-2
-    product-requires
+    product-over-requires
     enum-told
     write-words-requires
     enum-known-answer

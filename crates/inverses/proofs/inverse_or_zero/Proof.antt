@@ -2,13 +2,14 @@
 -- Assumes nothing.
 use mathlib.Core.Path.{sym, _∙_, ap}
 use borrow.Author.Needs.{needs}
-use Rattle.algebra.specs.PrimeField.{F65521, p-is}
+use Rattle.field.specs.Fields.{fieldAt}
+use Rattle.field.specs.FieldsLaws.{p-at}
 use Rattle.inverses.proofs.OrZero.{wordOrZero, inverse-word}
 use Rattle.inverses.proofs.inverse_or_zero.Statement.{statement}
 use Rattle.inverses.proofs.inverse_or_zero.Tie as tie
 
-inverse-requires : tie.Need-inverse-requires
-inverse-requires c κs = search needs
+inverse-over-requires : tie.Need-inverse-over-requires
+inverse-over-requires c κs = search needs
 
 enum-known-b : tie.Need-enum-known-b
 enum-known-b c = search needs
@@ -18,14 +19,16 @@ enum-told c = search needs
 
 returns : tie.Need-returns
 returns c =
-    let r = c .before .before .before .inverse in
-    ap wordOrZero (sym (c .before .b .given .1)) ∙ inverse-word F65521 p-is (c .before .before .before .before .args .a) (r .result) (r .ensures .0)
+    let r = c .before .before .before .inverse-over in
+    let start = c .before .before .before .before .before in
+    ap wordOrZero (sym (c .before .b .given .1)) ∙ inverse-word (fieldAt (start .args .field)) (p-at (start .args .field)) (start .args .a) (r .result) (r .ensures .0)
 
 returns-2 : tie.Need-returns-2
 returns-2 c =
-    let r = c .before .before .inverse in
-    ap wordOrZero (sym (c .enum-told .given .1)) ∙ inverse-word F65521 p-is (c .before .before .before .args .a) (r .result) (r .ensures .0)
+    let r = c .before .before .inverse-over in
+    let start = c .before .before .before .before in
+    ap wordOrZero (sym (c .enum-told .given .1)) ∙ inverse-word (fieldAt (start .args .field)) (p-at (start .args .field)) (start .args .a) (r .result) (r .ensures .0)
 
 pub inverse-or-zero-spec : {M : Type 1} → statement M
 inverse-or-zero-spec =
-    tie.close (tie.spec inverse-requires enum-known-b enum-told returns returns-2)
+    tie.close (tie.spec inverse-over-requires enum-known-b enum-told returns returns-2)

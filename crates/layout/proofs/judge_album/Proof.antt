@@ -16,7 +16,7 @@ enum-known-why : tie.Need-enum-known-why
 enum-known-why c = search needs
 
 returns : tie.Need-returns
-returns c = album-refused 65521 _ (sym (c .before .before .before .judge-layout .ensures) ∙ c .before .why .given .1)
+returns c = album-refused _ _ (sym (c .before .before .before .judge-layout .ensures) ∙ c .before .why .given .1)
 
 enum-told : tie.Need-enum-told
 enum-told c = search needs
@@ -29,10 +29,10 @@ has-loose-word-requires : tie.Need-has-loose-word-requires
 has-loose-word-requires c κs = layout-obeys _ (laid c)
 
 returns-2 : tie.Need-returns-2
-returns-2 c = album-loose 65521 _ (laid (c .before .before)) (sym (c .before .has-loose-word .ensures) ∙ c .if1 .taken)
+returns-2 c = album-loose _ _ (laid (c .before .before)) (sym (c .before .has-loose-word .ensures) ∙ c .if1 .taken)
 
 returns-3 : tie.Need-returns-3
-returns-3 c = album-done 65521 _ (laid (c .before .before)) (sym (c .before .has-loose-word .ensures) ∙ c .if1 .left)
+returns-3 c = album-done _ _ (laid (c .before .before)) (sym (c .before .has-loose-word .ensures) ∙ c .if1 .left)
 
 pub judge-album-spec : {M : Type 1} → statement M
 judge-album-spec =

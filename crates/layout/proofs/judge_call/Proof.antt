@@ -17,7 +17,7 @@ enum-known-why : tie.Need-enum-known-why
 enum-known-why c = search needs
 
 returns : tie.Need-returns
-returns c = call-refused 65521 _ _ (sym (c .before .before .before .judge-layout .ensures) ∙ c .before .why .given .1)
+returns c = call-refused _ _ _ (sym (c .before .before .before .judge-layout .ensures) ∙ c .before .why .given .1)
 
 enum-told : tie.Need-enum-told
 enum-told c = search needs
@@ -33,16 +33,16 @@ wide-requires : tie.Need-wide-requires
 wide-requires c κs = search needs
 
 returns-2 : tie.Need-returns-2
-returns-2 c = call-index 65521 _ _ (laid (c .before .before .before)) (omega arith)
+returns-2 c = call-index _ _ _ (laid (c .before .before .before)) (omega arith)
 
 has-loose-word-requires : tie.Need-has-loose-word-requires
 has-loose-word-requires c κs = layout-obeys _ (laid (c .before .before .before))
 
 returns-3 : tie.Need-returns-3
-returns-3 c = call-loose 65521 _ _ (laid (c .before .before .before .before .before)) (omega arith) (sym (c .before .has-loose-word .ensures) ∙ c .if2 .taken)
+returns-3 c = call-loose _ _ _ (laid (c .before .before .before .before .before)) (omega arith) (sym (c .before .has-loose-word .ensures) ∙ c .if2 .taken)
 
 returns-4 : tie.Need-returns-4
-returns-4 c = call-done 65521 _ _ (laid (c .before .before .before .before .before)) (omega arith) (sym (c .before .has-loose-word .ensures) ∙ c .if2 .left)
+returns-4 c = call-done _ _ _ (laid (c .before .before .before .before .before)) (omega arith) (sym (c .before .has-loose-word .ensures) ∙ c .if2 .left)
 
 pub judge-call-spec : {M : Type 1} → statement M
 judge-call-spec =

@@ -1,6 +1,6 @@
--- `layout::judge_layout` meets its contract. The loop's invariant: n is the number of lists, at most 16, and the table of contents lies in
--- the album; the first k entries name the places where the bodies start, and the next body starts at `at`. The measure is the number of
--- entries left.
+-- `layout::judge_layout` meets its contract. The loop's invariant: n is the number of lists, at most the limit, and the table of contents
+-- lies in the album; the first k entries name the places where the bodies start, and the next body starts at `at`. The measure is the
+-- number of entries left.
 -- Assumes nothing.
 use mathlib.Core.Path.{_≡_, subst}
 use mathlib.Core.Bool.{true}
@@ -10,14 +10,15 @@ use native.Mathlib.Numerals.{add-one}
 use native.Mathlib.Omega.{arith}
 use lib.ListN.{length}
 use borrow.Author.Needs.{needs}
-use Rattle.layout.specs.Layout.{count, entryAt, startAt, offsetsAgree}
+use Rattle.refusal.specs.Limits.{maxLists}
+use Rattle.layout.specs.Layout.{count, entryAt, entryWords, startAt, offsetsAgree}
 use Rattle.layout.specs.Places.{start-next, start-low, agree-next}
 use Rattle.layout.proofs.Judged.{layout-empty, layout-none, layout-many, layout-size, layout-place, layout-done}
 use Rattle.layout.proofs.judge_layout.Statement.{statement}
 use Rattle.layout.proofs.judge_layout.Tie as tie
 
 abbrev Inv-loop : tie.InvT-loop
-Inv-loop album n at₀ k₀ at k = (k ≤ n) × (n ≡ count album) × (n ≤ 16) × (entryAt n ≤ length album) × (at ≡ startAt album k) × (at ≤ 49 + 512 * k) × (offsetsAgree album k ≡ true)
+Inv-loop album n at₀ k₀ at k = (k ≤ n) × (n ≡ count album) × (n ≤ maxLists) × (entryAt n ≤ length album) × (at ≡ startAt album k) × (at ≤ entryAt maxLists + 2 * entryWords * k) × (offsetsAgree album k ≡ true)
 
 abbrev μ-loop : tie.MeasureT-loop
 μ-loop album n at₀ k₀ at k = n - k

@@ -10,16 +10,16 @@ wrong-length-requires : tie.Need-wrong-length-requires
 wrong-length-requires c κs = search needs
 
 returns : tie.Need-returns
-returns c = sym (judged 65521 256 _ ∙ simp (sym (c .before .wrong-length .ensures) ∙ c .if1 .taken))
+returns c = sym (judged _ _ _ ∙ simp (sym (c .before .wrong-length .ensures) ∙ c .if1 .taken))
 
 has-loose-requires : tie.Need-has-loose-requires
 has-loose-requires c κs = search needs
 
 returns-2 : tie.Need-returns-2
-returns-2 c = sym (judged 65521 256 _ ∙ simp (sym (c .before .before .before .wrong-length .ensures) ∙ c .before .before .if1 .left, sym (c .before .has-loose .ensures) ∙ c .if2 .taken))
+returns-2 c = sym (judged _ _ _ ∙ simp (sym (c .before .before .before .wrong-length .ensures) ∙ c .before .before .if1 .left, sym (c .before .has-loose .ensures) ∙ c .if2 .taken))
 
 returns-3 : tie.Need-returns-3
-returns-3 c = sym (judged 65521 256 _ ∙ simp (sym (c .before .before .before .wrong-length .ensures) ∙ c .before .before .if1 .left, sym (c .before .has-loose .ensures) ∙ c .if2 .left))
+returns-3 c = sym (judged _ _ _ ∙ simp (sym (c .before .before .before .wrong-length .ensures) ∙ c .before .before .if1 .left, sym (c .before .has-loose .ensures) ∙ c .if2 .left))
 
 pub judge-list-spec : {M : Type 1} → statement M
 judge-list-spec =

@@ -1,22 +1,23 @@
 -- `products::product_in` meets its contract: the product of the scaled forms, divided by the binomial coefficients again.
 -- Assumes nothing.
 use borrow.Author.Needs.{needs}
-use Rattle.algebra.specs.PrimeField.{F65521}
+use Rattle.field.specs.Fields.{fieldAt}
+use Rattle.field.specs.FieldsLaws.{p-at, longest-in, longest-room}
 use Rattle.products.proofs.Products.{product-is}
 use Rattle.products.proofs.product_in.Statement.{statement}
 use Rattle.products.proofs.product_in.Tie as tie
 
-scale-requires : tie.Need-scale-requires
-scale-requires c κs = search needs
+weigh-requires : tie.Need-weigh-requires
+weigh-requires c κs = search needs
 
-scale-requires-2 : tie.Need-scale-requires-2
-scale-requires-2 c κs = search needs
+weigh-requires-2 : tie.Need-weigh-requires-2
+weigh-requires-2 c κs = search needs
 
 convolve-requires : tie.Need-convolve-requires
 convolve-requires c κs = search needs
 
-unscale-requires : tie.Need-unscale-requires
-unscale-requires c κs = search needs
+weigh-requires-3 : tie.Need-weigh-requires-3
+weigh-requires-3 c κs = search needs
 
 same-length : tie.Need-same-length
 same-length c = search needs
@@ -32,21 +33,21 @@ same-length-4 c = search needs
 
 returns : tie.Need-returns
 returns c =
-    let start = c .before .before .before .before .before .before .before .before .before .before .before .before .before .before .before .before .before .before .before .before .before .before .before .before .before in
-    product-is F65521 256 _ _ _ _ _ _ (start .pre .0) (start .pre .1 .0) (start .pre .1 .1) (start .pre .1 .2)
-    (c .before .before .before .before .before .before .before .before .before .before .before .before .before .before .before .before .before .scale .ensures)
-    (c .before .before .before .before .before .before .before .before .before .before .before .before .before .scale2 .ensures)
+    let start = c .before .before .before .before .before .before .before .before .before .before .before .before .before .before .before .before .before .before .before .before .before .before .before .before .before .before .before in
+    product-is (fieldAt _) (p-at _) _ _ (longest-in _) (longest-room _) _ _ (start .pre .0) _ _ _ _ _ _ (start .pre .1 .0) (start .pre .1 .1 .0) (start .pre .1 .1 .1) (start .pre .1 .1 .2)
+    (c .before .before .before .before .before .before .before .before .before .before .before .before .before .before .before .before .before .weigh .ensures)
+    (c .before .before .before .before .before .before .before .before .before .before .before .before .before .weigh2 .ensures)
     (c .before .before .before .before .before .before .before .convolve .ensures)
-    (c .before .before .unscale .ensures)
+    (c .before .before .weigh3 .ensures)
 
 pub product-in-spec : {M : Type 1} → statement M
 product-in-spec =
     tie.close
     (tie.spec
-    scale-requires
-    scale-requires-2
+    weigh-requires
+    weigh-requires-2
     convolve-requires
-    unscale-requires
+    weigh-requires-3
     same-length
     same-length-2
     same-length-3

@@ -1,53 +1,20 @@
--- `products::raise` meets its contract: the slice is written where nothing is refused.
+-- `products::raise` meets its contract: field 0.
 -- Assumes nothing.
-use mathlib.Core.Path.{ap, sym, _∙_}
-use lib.Dec.{lit<}
+use Rattle.field.specs.Fields.{longest}
+use Rattle.products.specs.Calls.{raiseRefusals}
 use borrow.Author.Needs.{needs}
-use Rattle.algebra.specs.PrimeField.{F65521}
-use Rattle.lists.specs.Operations.{raise}
-use Rattle.refusal.proofs.Answers.{done, refused}
-use Rattle.products.proofs.Judged.{raise-fits}
 use Rattle.products.proofs.raise.Statement.{statement}
 use Rattle.products.proofs.raise.Tie as tie
 
-judge-raise-requires : tie.Need-judge-raise-requires
-judge-raise-requires c κs = search needs
-
-enum-told : tie.Need-enum-told
-enum-told c = search needs
-
-raise-into-requires : tie.Need-raise-into-requires
-raise-into-requires c κs =
-    raise-fits 65521 (lit< tt) _ _ _ (sym (c .before .enum-told .given .1) ∙ c .before .before .before .judge-raise .ensures) .0
-
-enum-told-2 : tie.Need-enum-told-2
-enum-told-2 c = search needs
+raise-over-requires : tie.Need-raise-over-requires
+raise-over-requires c κs = search needs
 
 same-length : tie.Need-same-length
 same-length c = search needs
 
 returns : tie.Need-returns
-returns c =
-    let found = c .before .before .before .before .before .before .judge-raise .ensures in
-    let told = c .before .before .before .before .enum-told .given .1 in
-    let fits = raise-fits 65521 (lit< tt) _ _ _ (sym told ∙ found) in
-    done found told _ _ (c .before .before .raise-into .ensures ∙ ap (λ n. raise F65521 n (c .before .before .before .before .before .before .before .before .before .before .args .f .now)) (fits .1))
-
-same-length-2 : tie.Need-same-length-2
-same-length-2 c = search needs
-
-returns-2 : tie.Need-returns-2
-returns-2 c = refused (c .before .before .judge-raise .ensures) (c .enum-told2 .given .1) _ _
+unfolding longest raiseRefusals
+returns c = c .before .before .raise-over .ensures
 
 pub raise-spec : {M : Type 1} → statement M
-raise-spec =
-    tie.close
-    (tie.spec
-    judge-raise-requires
-    enum-told
-    raise-into-requires
-    enum-told-2
-    same-length
-    returns
-    same-length-2
-    returns-2)
+raise-spec = tie.close (tie.spec raise-over-requires same-length returns)

@@ -10,7 +10,7 @@ sub-requires : tie.Need-sub-requires
 sub-requires c κs = search needs
 
 returns : tie.Need-returns
-returns c = c .sub .ensures ∙ negated-is 65521 _
+returns c = c .sub .ensures ∙ negated-is _ _
 
 pub negate-spec : {M : Type 1} → statement M
 negate-spec = tie.close (tie.spec sub-requires returns)

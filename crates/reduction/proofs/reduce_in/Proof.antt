@@ -6,6 +6,7 @@ use mathlib.Core.List.{_++_}
 use Prim.Native.Nat.{_≤_}
 use native.Mathlib.Omega.{arith}
 use lib.ListN.{length, drop}
+use Rattle.field.specs.Fields.{modulus}
 use Rattle.reduction.specs.Reduction.{reduced, digits}
 use Rattle.rows.proofs.Loops.{part-row}
 use Rattle.reduction.proofs.Loops.{reduced-turn, digits-turn, reduced-end, digits-end, digits-start}
@@ -14,12 +15,12 @@ use Rattle.reduction.proofs.reduce_in.Statement.{statement}
 use Rattle.reduction.proofs.reduce_in.Tie as tie
 
 abbrev Inv-loop : tie.InvT-loop
-Inv-loop x₀ y inv q₀ d k₀ x q k =
-    (k ≤ k₀) × (length x ≡ length x₀) × (length q ≡ length q₀) × (reduced 65521 inv y k x ≡ reduced 65521 inv y k₀ x₀)
-    × (digits 65521 inv y k x ++ drop k q ≡ digits 65521 inv y k₀ x₀ ++ drop k₀ q₀)
+Inv-loop field x₀ y inv q₀ d k₀ x q k =
+    (k ≤ k₀) × (length x ≡ length x₀) × (length q ≡ length q₀) × (reduced (modulus field) inv y k x ≡ reduced (modulus field) inv y k₀ x₀)
+    × (digits (modulus field) inv y k x ++ drop k q ≡ digits (modulus field) inv y k₀ x₀ ++ drop k₀ q₀)
 
 abbrev μ-loop : tie.MeasureT-loop
-μ-loop x₀ y inv q₀ d k₀ x q k = k
+μ-loop field x₀ y inv q₀ d k₀ x q k = k
 
 sub-d : tie.Need-sub-d Inv-loop μ-loop
 sub-d c = search needs
@@ -74,12 +75,12 @@ loop-again c =
     let at = c .before .before .before .before .before .before .before .before .loop .inv in
     let digit = c .before .before .before .before .before .mul .ensures in
     let turned = c .before .before .before .negate .ensures in
-    let left = part-row 65521 _ _ _ _ (c .before .before .add-row .ensures) in (
+    let left = part-row _ _ _ _ _ (c .before .before .add-row .ensures) in (
       search needs,
       search needs,
       search needs,
-      reduced-turn 65521 _ _ _ _ (omega arith) digit turned left ∙ at .3,
-      digits-turn 65521 _ _ _ _ _ (omega arith) (omega arith) digit turned left ∙ at .4,
+      reduced-turn _ _ _ _ _ (omega arith) digit turned left ∙ at .3,
+      digits-turn _ _ _ _ _ _ (omega arith) (omega arith) digit turned left ∙ at .4,
     )
 
 same-length : tie.Need-same-length Inv-loop μ-loop
@@ -92,8 +93,8 @@ returns : tie.Need-returns Inv-loop μ-loop
 returns c =
     let a = c .before .before .before .before .before .args in
     let at = c .before .loop .inv in (
-      sym (reduced-end 65521 _ _ _ _ (omega arith)) ∙ at .3,
-      sym (digits-end 65521 _ _ _ _ _ (omega arith)) ∙ at .4 ∙ digits-start 65521 _ _ (a .x .now) (a .q .now),
+      sym (reduced-end _ _ _ _ _ (omega arith)) ∙ at .3,
+      sym (digits-end _ _ _ _ _ _ (omega arith)) ∙ at .4 ∙ digits-start _ _ _ (a .x .now) (a .q .now),
     )
 
 pub reduce-in-spec : {M : Type 1} → statement M

@@ -4,6 +4,7 @@
 use mathlib.Core.Path.{_≡_, refl}
 use Prim.Native.Nat.{_≤_, _-_}
 use lib.ListN.{length}
+use Rattle.field.specs.Fields.{modulus}
 use Rattle.reduction.specs.Reduction.{lessProductTo}
 use Rattle.rows.proofs.Loops.{part-row}
 use Rattle.reduction.proofs.Loops.{less-turn, less-end}
@@ -12,10 +13,10 @@ use Rattle.reduction.proofs.sub_product_in.Statement.{statement}
 use Rattle.reduction.proofs.sub_product_in.Tie as tie
 
 abbrev Inv-loop : tie.InvT-loop
-Inv-loop s₀ q t k₀ s k = (k ≤ length q) × (length s ≡ length s₀) × (s ≡ lessProductTo 65521 k s₀ q t)
+Inv-loop field s₀ q t k₀ s k = (k ≤ length q) × (length s ≡ length s₀) × (s ≡ lessProductTo (modulus field) k s₀ q t)
 
 abbrev μ-loop : tie.MeasureT-loop
-μ-loop s₀ q t k₀ s k = length q - k
+μ-loop field s₀ q t k₀ s k = length q - k
 
 loop-holds : tie.Need-loop-holds Inv-loop μ-loop
 unfolding lessProductTo
@@ -53,17 +54,17 @@ loop-less c = search needs
 
 loop-again : tie.Need-loop-again Inv-loop μ-loop
 loop-again c =
-    let left = part-row 65521 _ _ _ _ (c .before .before .add-row .ensures) in (
+    let left = part-row _ _ _ _ _ (c .before .before .add-row .ensures) in (
       search needs,
       search needs,
-      less-turn 65521 _ _ _ _ (c .before .before .before .before .before .before .before .loop .inv .2) (c .before .before .before .negate .ensures) left,
+      less-turn _ _ _ _ _ (c .before .before .before .before .before .before .before .loop .inv .2) (c .before .before .before .negate .ensures) left,
     )
 
 same-length : tie.Need-same-length Inv-loop μ-loop
 same-length c = search needs
 
 returns : tie.Need-returns Inv-loop μ-loop
-returns c = less-end 65521 _ _ _ _ (c .before .loop .inv .0) (c .loop-test .left) (c .before .loop .inv .2)
+returns c = less-end _ _ _ _ _ (c .before .loop .inv .0) (c .loop-test .left) (c .before .loop .inv .2)
 
 pub sub-product-in-spec : {M : Type 1} → statement M
 sub-product-in-spec =

@@ -1,11 +1,12 @@
 -- `report_text::put_answer` meets its contract: the GCD answers or says that all lists are zero.
 -- Assumes nothing.
-use mathlib.Core.Path.{_≡_, refl, sym, _∙_, ap}
-use Prim.Native.Nat.{_<_}
+use mathlib.Core.Path.{refl, sym, _∙_, ap}
+use Prim.Native.Nat.{_≤_, _<_}
 use native.Mathlib.Omega.{arith}
 use lib.ListN.{length}
 use borrow.Author.Needs.{needs}
-use Rattle.algebra.specs.PrimeField.{F65521}
+use Rattle.field.specs.Fields.{fieldAt}
+use Rattle.field.specs.FieldsLaws.{longest-room}
 use Rattle.refusal.specs.Limits.{maxWords}
 use Rattle.albums.specs.Albums.{albumGcd}
 use Rattle.layout.specs.Layout.{listsOf}
@@ -17,25 +18,25 @@ use Rattle.report_text.proofs.Sound.{Answer, common-power-short, answer
 use Rattle.report_text.proofs.put_answer.Statement.{statement}
 use Rattle.report_text.proofs.put_answer.Tie as tie
 
-gcd-of-album-requires : tie.Need-gcd-of-album-requires
-gcd-of-album-requires c κs = search needs
+album-gcd-over-requires : tie.Need-album-gcd-over-requires
+album-gcd-over-requires c κs = search needs
 
 enum-known-w : tie.Need-enum-known-w
 enum-known-w c = search needs
 
 -- what the GCD gives
 given : (c : tie.After-w)
-    → Answer (listsOf (c .before .before .before .before .before .before .before .before .before .args .album .now)) (albumGcd F65521 (listsOf (c .before .before .before .before .before .before .before .before .before .args .album .now)) .list)
-    (c .before .before .before .before .gcd-of-album .last .1 .0) (c .w .given .0 .0 .0) (c .w .given .0 .1 .0)
-unfolding F65521
+    → Answer (listsOf (c .before .before .before .before .before .before .before .before .before .args .album .now)) (albumGcd (fieldAt (c .before .before .before .before .before .before .before .before .before .args .field)) (listsOf (c .before .before .before .before .before .before .before .before .before .args .album .now)) .list)
+    (c .before .before .before .before .album-gcd-over .last .1 .1 .0) (c .w .given .0 .0 .0) (c .w .given .0 .1 .0)
+unfolding fieldAt
 given c =
     let pre = c .before .before .before .before .before .before .before .before .before .pre .0 in
-    let ensures = c .before .before .before .before .gcd-of-album .ensures in
-    answered F65521 _ _ (pre .0) (pre .1) (c .w .given .1) (ensures .0) (ensures .1 .0) (ensures .1 .1)
+    let ensures = c .before .before .before .before .album-gcd-over .ensures in
+    answered (fieldAt _) _ _ _ (pre .0) (pre .1) (c .w .given .1) (ensures .0) (ensures .1 .0) (ensures .1 .1)
 
--- h's slice keeps its length
-whole : (c : tie.After-w) → length (c .before .before .before .before .gcd-of-album .last .1 .0) ≡ maxWords
-whole c = c .before .before .before .before .gcd-of-album .kept .1 .0 ∙ c .before .before .before .before .before .before .before .before .before .pre .0 .1
+-- h's slice is no longer than the limit
+whole : (c : tie.After-w) → length (c .before .before .before .before .album-gcd-over .last .1 .1 .0) ≤ maxWords
+whole c = omega (arith, c .before .before .before .before .album-gcd-over .kept .1 .1 .0, c .before .before .before .before .before .before .before .before .before .pre .0 .1, longest-room (c .before .before .before .before .before .before .before .before .before .args .field))
 
 -- the common power is below the number of words
 small : (c : tie.After-w) → c .w .given .0 .1 .0 < maxWords
@@ -46,7 +47,7 @@ small c =
     let answer = given c in
     let short =
     common-power-short (listsOf s) maxWords (omega arith) (answer .some)
-    (λ j k. passed-each 65521 s (start .pre .0 .0) (λ i. omega (arith, bytes i)) j k .short) in
+    (λ j k. passed-each _ s (start .pre .0 .0) (λ i. omega (arith, bytes i)) maxWords (omega arith) j k .short) in
     omega (arith, answer .power)
 
 add-put-gcd : tie.Need-add-put-gcd
@@ -82,7 +83,7 @@ same-length-2 : tie.Need-same-length-2
 same-length-2 c = search needs
 
 returns : tie.Need-returns
-returns c = put-is (answer-gcd F65521 _ (given (c .before .before .before .before .before .before .before))) refl (c .before .before .put-gcd .ensures)
+returns c = put-is (answer-gcd (fieldAt _) _ (given (c .before .before .before .before .before .before .before))) refl (c .before .before .put-gcd .ensures)
 
 same-length-3 : tie.Need-same-length-3
 same-length-3 c = search needs
@@ -91,16 +92,16 @@ same-length-4 : tie.Need-same-length-4
 same-length-4 c = search needs
 
 returns-2 : tie.Need-returns-2
-unfolding F65521
+unfolding fieldAt
 returns-2 c =
     let pre = c .before .before .before .before .before .before .before .before .before .before .before .before .before .before .pre .0 in
-    put-is (refused-answer F65521 _ _ (pre .0) (pre .1) (c .before .before .before .before .before .why .given .1) (c .before .before .before .before .before .before .before .before .before .gcd-of-album .ensures .0)) refl (c .before .before .put-refused .ensures)
+    put-is (refused-answer (fieldAt _) _ _ _ (pre .0) (pre .1) (c .before .before .before .before .before .why .given .1) (c .before .before .before .before .before .before .before .before .before .album-gcd-over .ensures .0)) refl (c .before .before .put-refused .ensures)
 
 pub put-answer-spec : {M : Type 1} → statement M
 put-answer-spec =
     tie.close
     (tie.spec
-    gcd-of-album-requires
+    album-gcd-over-requires
     enum-known-w
     add-put-gcd
     slice-reshare-prefix-put-gcd

@@ -7,7 +7,7 @@ use Prim.Native.Nat.{_-_, _≤_}
 use native.Mathlib.Omega.{arith}
 use lib.ListN.{length, drop}
 use borrow.Author.Needs.{needs}
-use Rattle.refusal.specs.Limits.{maxWords}
+use Rattle.field.specs.Fields.{modulus, longest}
 use Rattle.layout.specs.Layout.{listAt, listsOf}
 use Rattle.layout.specs.Places.{length-lists, list-at}
 use Rattle.layout.proofs.Passed.{passed-obeys}
@@ -20,13 +20,13 @@ use Rattle.report_text.proofs.put_lists.Statement.{statement}
 use Rattle.report_text.proofs.put_lists.Tie as tie
 
 abbrev Inv-loop : tie.InvT-loop
-Inv-loop album list₀ at out₀ n place₀ i₀ list out place i = (i ≤ n) × (length list ≡ maxWords) × Left (listLines 0 (listsOf album)) (listLines i (drop i (listsOf album))) at out₀ out place
+Inv-loop field album list₀ at out₀ n place₀ i₀ list out place i = (i ≤ n) × (length list ≡ longest field) × Left (listLines 0 (listsOf album)) (listLines i (drop i (listsOf album))) at out₀ out place
 
 abbrev μ-loop : tie.MeasureT-loop
-μ-loop album list₀ at out₀ n place₀ i₀ list out place i = n - i
+μ-loop field album list₀ at out₀ n place₀ i₀ list out place i = n - i
 
 shared-slice-read-n : tie.Need-shared-slice-read-n Inv-loop μ-loop
-shared-slice-read-n c = omega (arith, passed-obeys 65521 _ (c .before .before .before .before .pre .0 .0) .some)
+shared-slice-read-n c = omega (arith, passed-obeys _ _ (c .before .before .before .before .pre .0 .0) .some)
 
 cast-n : tie.Need-cast-n Inv-loop μ-loop
 cast-n c = omega (arith, c .shared-slice-known2 .given 0)
@@ -38,8 +38,8 @@ read-requires : tie.Need-read-requires Inv-loop μ-loop
 read-requires c κs = search needs
 
 -- list i, as it is read
-held : (c : tie.After-read Inv-loop μ-loop) → Held 65521 (c .read .last .1 .1 .0) (c .read .result) (listAt (c .before .before .before .before .before .before .before .before .args .album .now) (c .before .before .before .loop .i))
-held c = read-held 65521 _ _ _ (c .before .before .before .before .before .before .before .before .pre .0 .0) (omega arith) (c .before .before .before .loop .inv .1) (c .read .kept .1 .1 .0) (c .read .ensures .0) (c .read .ensures .1)
+held : (c : tie.After-read Inv-loop μ-loop) → Held (modulus (c .before .before .before .before .before .before .before .before .args .field)) (longest (c .before .before .before .before .before .before .before .before .args .field)) (c .read .last .1 .1 .1 .0) (c .read .result) (listAt (c .before .before .before .before .before .before .before .before .args .album .now) (c .before .before .before .loop .i))
+held c = read-held _ _ _ _ _ (c .before .before .before .before .before .before .before .before .pre .0 .0) (omega arith) (c .before .before .before .loop .inv .1) (c .read .kept .1 .1 .1 .0) (c .read .ensures .0) (c .read .ensures .1)
 
 slice-reshare-prefix-put-list : tie.Need-slice-reshare-prefix-put-list Inv-loop μ-loop
 slice-reshare-prefix-put-list c = held-inside (held (c .before .before))

@@ -2,7 +2,7 @@
 -- Assumes nothing.
 use native.Mathlib.Omega.{arith}
 use borrow.Author.Needs.{needs}
-use Rattle.algebra.specs.PrimeField.{F65521}
+use Rattle.field.specs.Fields.{fieldAt}
 use Rattle.layout.proofs.Passed.{passed-obeys}
 use Rattle.report_text.proofs.Whole.{first-room, lists-room, answer-room, put-whole-report}
 use Rattle.report_text.proofs.put_sound.Statement.{statement}
@@ -12,7 +12,7 @@ slice-aggregate-put-named : tie.Need-slice-aggregate-put-named
 slice-aggregate-put-named c = search needs
 
 shared-slice-read-put-named : tie.Need-shared-slice-read-put-named
-shared-slice-read-put-named c = omega (arith, passed-obeys 65521 _ (c .before .before .before .before .before .before .pre .0) .some)
+shared-slice-read-put-named c = omega (arith, passed-obeys _ _ (c .before .before .before .before .before .before .pre .0) .some)
 
 cast-put-named : tie.Need-cast-put-named
 cast-put-named c = omega (arith, c .shared-slice-known2 .given 0)
@@ -20,17 +20,17 @@ cast-put-named c = omega (arith, c .shared-slice-known2 .given 0)
 put-named-requires : tie.Need-put-named-requires
 put-named-requires c κs =
     let start = c .before .before .before .before .before .before .before in
-    first-room 65521 (start .args .album .now) (start .pre .0) (λ i. omega (arith, c .before .before .before .before .before .before .shared-slice-known .given i)) (start .pre .1 .2)
+    first-room _ (start .args .album .now) (start .pre .0) (λ i. omega (arith, c .before .before .before .before .before .before .shared-slice-known .given i)) (start .pre .1 .2)
 
 put-lists-requires : tie.Need-put-lists-requires
 put-lists-requires c κs =
     let start = c .before .before .before .before .before .before .before .before .before .before .before .before in
-    (search needs, lists-room 65521 (start .args .album .now) (start .pre .0) (λ i. omega (arith, c .before .before .before .before .before .before .before .before .before .before .before .shared-slice-known .given i)) (start .pre .1 .2) (c .before .before .before .before .put-named .ensures))
+    (search needs, lists-room _ (start .args .album .now) (start .pre .0) (λ i. omega (arith, c .before .before .before .before .before .before .before .before .before .before .before .shared-slice-known .given i)) (start .pre .1 .2) (c .before .before .before .before .put-named .ensures))
 
 put-answer-requires : tie.Need-put-answer-requires
 put-answer-requires c κs =
     let start = c .before .before .before .before .before .before .before .before .before .before .before .before .before .before .before .before .before .before .before in
-    (search needs, answer-room 65521 (start .args .album .now) (start .pre .0) (λ i. omega (arith, c .before .before .before .before .before .before .before .before .before .before .before .before .before .before .before .before .before .before .shared-slice-known .given i)) (start .pre .1 .2) (c .before .before .before .before .before .before .before .before .before .before .before .put-named .ensures) (c .before .before .before .before .before .before .put-lists .ensures))
+    (search needs, answer-room _ (start .args .album .now) (start .pre .0) (λ i. omega (arith, c .before .before .before .before .before .before .before .before .before .before .before .before .before .before .before .before .before .before .shared-slice-known .given i)) (start .pre .1 .2) (c .before .before .before .before .before .before .before .before .before .before .before .put-named .ensures) (c .before .before .before .before .before .before .put-lists .ensures))
 
 same-length : tie.Need-same-length
 same-length c = search needs
@@ -42,7 +42,7 @@ same-length-3 : tie.Need-same-length-3
 same-length-3 c = search needs
 
 returns : tie.Need-returns
-returns c = put-whole-report F65521 (c .before .before .before .before .before .before .before .before .before .before .before .before .before .before .before .before .before .before .before .before .before .before .before .before .args .album .now) (c .before .before .before .before .before .before .before .before .before .before .before .before .before .before .before .before .put-named .ensures) (c .before .before .before .before .before .before .before .before .before .before .before .put-lists .ensures) (c .before .before .before .before .put-answer .ensures)
+returns c = put-whole-report (fieldAt _) (c .before .before .before .before .before .before .before .before .before .before .before .before .before .before .before .before .before .before .before .before .before .before .before .before .args .album .now) (c .before .before .before .before .before .before .before .before .before .before .before .before .before .before .before .before .put-named .ensures) (c .before .before .before .before .before .before .before .before .before .before .before .put-lists .ensures) (c .before .before .before .before .put-answer .ensures)
 
 pub put-sound-spec : {M : Type 1} → statement M
 put-sound-spec =

@@ -3,7 +3,7 @@
 use mathlib.Core.Path.{refl, sym, _∙_}
 use native.Mathlib.Omega.{arith}
 use borrow.Author.Needs.{needs}
-use Rattle.algebra.specs.PrimeField.{F65521}
+use Rattle.field.specs.Fields.{modulus, fieldAt}
 use Rattle.layout.specs.Workers.{Passed}
 use Rattle.report_text.proofs.Puts.{put-is}
 use Rattle.report_text.proofs.Fits.{refused-fits}
@@ -24,7 +24,7 @@ enum-told : tie.Need-enum-told
 enum-told c = search needs
 
 -- the album passed
-passed : (c : tie.After-enum-told) → Passed 65521 (c .before .before .before .before .before .before .before .args .album .now)
+passed : (c : tie.After-enum-told) → Passed (modulus (c .before .before .before .before .before .before .before .args .field)) (c .before .before .before .before .before .before .before .args .album .now)
 passed c = sym (c .before .before .judge-album .ensures) ∙ c .enum-told .given .1
 
 put-sound-requires : tie.Need-put-sound-requires
@@ -34,7 +34,7 @@ same-length : tie.Need-same-length
 same-length c = search needs
 
 returns : tie.Need-returns
-returns c = put-is (report-refused 65521 F65521 _ (sym (c .before .before .before .before .before .before .before .judge-album .ensures) ∙ c .before .before .before .before .before .why .given .1)) refl (c .before .before .put-refused .ensures)
+returns c = put-is (report-refused _ (fieldAt _) _ (sym (c .before .before .before .before .before .before .before .judge-album .ensures) ∙ c .before .before .before .before .before .why .given .1)) refl (c .before .before .put-refused .ensures)
 
 same-length-2 : tie.Need-same-length-2
 same-length-2 c = search needs
@@ -46,7 +46,7 @@ same-length-4 : tie.Need-same-length-4
 same-length-4 c = search needs
 
 returns-2 : tie.Need-returns-2
-returns-2 c = put-is (report-sound 65521 F65521 _ (passed (c .before .before .before .before .before .before .before .before .before .before))) refl (c .before .before .before .before .before .before .put-sound .ensures)
+returns-2 c = put-is (report-sound _ (fieldAt _) _ (passed (c .before .before .before .before .before .before .before .before .before .before))) refl (c .before .before .before .before .before .before .put-sound .ensures)
 
 pub report-in-spec : {M : Type 1} → statement M
 report-in-spec =

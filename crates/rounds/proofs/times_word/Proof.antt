@@ -7,16 +7,17 @@ use native.Mathlib.Nat.{not-suc-le-zero}
 use native.Mathlib.Omega.{arith}
 use lib.ListN.{length, getD, length-set}
 use borrow.Author.Needs.{needs}
+use Rattle.field.specs.Fields.{modulus}
 use Rattle.rounds.specs.Round.{multiplied}
 use Rattle.rounds.proofs.Partway.{Partway, start, next, finish}
 use Rattle.rounds.proofs.times_word.Statement.{statement}
 use Rattle.rounds.proofs.times_word.Tie as tie
 
 abbrev Inv-loop : tie.InvT-loop
-Inv-loop x₀ m i₀ x i = Partway x₀ (λ j. (getD x₀ j 0 * m) % 65521) x i
+Inv-loop field x₀ m i₀ x i = Partway x₀ (λ j. (getD x₀ j 0 * m) % modulus field) x i
 
 abbrev μ-loop : tie.MeasureT-loop
-μ-loop x₀ m i₀ x i = length x - i
+μ-loop field x₀ m i₀ x i = length x - i
 
 loop-holds : tie.Need-loop-holds Inv-loop μ-loop
 loop-holds c = start _ _ 0 (λ j l. absurd (not-suc-le-zero l))
@@ -46,7 +47,7 @@ loop-again : tie.Need-loop-again Inv-loop μ-loop
 loop-again c =
     let w = c .before .before .before .loop .inv in
     next (c .mul .result) w (search needs)
-    (c .mul .ensures ∙ ap (λ a. (a * c .before .before .before .before .before .args .m) % 65521) (w .rest (c .before .before .before .loop .i) (omega arith)))
+    (c .mul .ensures ∙ ap (λ a. (a * c .before .before .before .before .before .args .m) % modulus (c .before .before .before .before .before .args .field)) (w .rest (c .before .before .before .loop .i) (omega arith)))
 
 same-length : tie.Need-same-length Inv-loop μ-loop
 same-length c = search needs

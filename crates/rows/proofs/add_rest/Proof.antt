@@ -3,6 +3,7 @@
 -- Assumes nothing.
 use Prim.Native.Nat.{_≤_, _-_}
 use native.Mathlib.Omega.{arith}
+use Rattle.field.specs.Fields.{modulus}
 use Rattle.rows.specs.Rows.{Partway}
 use Rattle.rows.proofs.Loops.{start, next, finish}
 use borrow.Author.Needs.{needs}
@@ -10,16 +11,16 @@ use Rattle.rows.proofs.add_rest.Statement.{statement}
 use Rattle.rows.proofs.add_rest.Tie as tie
 
 abbrev Inv-loop : tie.InvT-loop
-Inv-loop x₀ m y n i₀ x i = (i ≤ n) × Partway 65521 x₀ m y x i
+Inv-loop field x₀ m y n i₀ x i = (i ≤ n) × Partway (modulus field) x₀ m y x i
 
 abbrev μ-loop : tie.MeasureT-loop
-μ-loop x₀ m y n i₀ x i = n - i
+μ-loop field x₀ m y n i₀ x i = n - i
 
 smaller-requires : tie.Need-smaller-requires Inv-loop μ-loop
 smaller-requires c κs = search needs
 
 loop-holds : tie.Need-loop-holds Inv-loop μ-loop
-loop-holds c = (search needs, start 65521 _ _ _)
+loop-holds c = (search needs, start _ _ _ _)
 
 mul-add-mul : tie.Need-mul-add-mul Inv-loop μ-loop
 mul-add-mul c = search needs
@@ -51,14 +52,14 @@ loop-less c = search needs
 loop-again : tie.Need-loop-again Inv-loop μ-loop
 loop-again c = (
   search needs,
-  next 65521 _ _ _ _ _ (omega arith) (omega arith) (c .before .before .before .before .loop .inv .1) (c .add-mul .ensures),
+  next _ _ _ _ _ _ (omega arith) (omega arith) (c .before .before .before .before .loop .inv .1) (c .add-mul .ensures),
 )
 
 same-length : tie.Need-same-length Inv-loop μ-loop
 same-length c = search needs
 
 returns : tie.Need-returns Inv-loop μ-loop
-returns c = finish 65521 _ _ _ _ _ _ (c .before .before .smaller .ensures) (c .loop-test .left) (c .before .loop .inv .1)
+returns c = finish _ _ _ _ _ _ _ (c .before .before .smaller .ensures) (c .loop-test .left) (c .before .loop .inv .1)
 
 pub add-rest-spec : {M : Type 1} → statement M
 add-rest-spec =

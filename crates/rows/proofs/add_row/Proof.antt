@@ -2,6 +2,7 @@
 -- Assumes nothing.
 use native.Mathlib.Omega.{arith}
 use Rattle.rows.proofs.Loops.{joined}
+use Rattle.rows.proofs.Montgomery.{modulus-at}
 use borrow.Author.Needs.{needs}
 use Rattle.rows.proofs.add_row.Statement.{statement}
 use Rattle.rows.proofs.add_row.Tie as tie
@@ -12,8 +13,20 @@ smaller-requires c κs = search needs
 sub-wide : tie.Need-sub-wide
 sub-wide c = search needs
 
+modulus-of-requires : tie.Need-modulus-of-requires
+modulus-of-requires c κs = search needs
+
+word-inverse-of-requires : tie.Need-word-inverse-of-requires
+word-inverse-of-requires c κs = search needs
+
+square-of-requires : tie.Need-square-of-requires
+square-of-requires c κs = search needs
+
 montgomery-row-requires : tie.Need-montgomery-row-requires
-montgomery-row-requires c κs = search needs
+montgomery-row-requires c κs = (
+  modulus-at _ (c .before .before .modulus-of .ensures) (c .before .word-inverse-of .ensures) (c .square-of .ensures),
+  search needs,
+)
 
 mul-add-rest : tie.Need-mul-add-rest
 mul-add-rest c = search needs
@@ -47,7 +60,7 @@ same-length c = search needs
 
 returns : tie.Need-returns
 returns c =
-    joined 65521 _ _ _ _ _ (c .before .before .before .before .before .before .before .montgomery-row .ensures) (omega arith) (c .before .before .add-rest .ensures)
+    joined _ _ _ _ _ _ (rw (c .before .before .before .before .before .before .before .before .before .before .modulus-of .ensures) at (c .before .before .before .before .before .before .before .montgomery-row .ensures)) (omega arith) (c .before .before .add-rest .ensures)
 
 pub add-row-spec : {M : Type 1} → statement M
 add-row-spec =
@@ -55,6 +68,9 @@ add-row-spec =
     (tie.spec
     smaller-requires
     sub-wide
+    modulus-of-requires
+    word-inverse-of-requires
+    square-of-requires
     montgomery-row-requires
     mul-add-rest
     sub-add-rest

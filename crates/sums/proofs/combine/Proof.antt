@@ -1,8 +1,8 @@
 -- `sums::combine` meets its contract: the slice is written where nothing is refused.
 -- Assumes nothing.
 use mathlib.Core.Path.{sym, _∙_}
-use lib.Dec.{lit<}
 use borrow.Author.Needs.{needs}
+use Rattle.field.specs.FieldsLaws.{modulus-some}
 use Rattle.refusal.proofs.Answers.{done, refused}
 use Rattle.sums.proofs.Judged.{sum-fits}
 use Rattle.sums.proofs.combine.Statement.{statement}
@@ -16,7 +16,7 @@ enum-told c = search needs
 
 combine-into-requires : tie.Need-combine-into-requires
 combine-into-requires c κs =
-    sum-fits 65521 (lit< tt) _ _ _ (sym (c .before .enum-told .given .1) ∙ c .before .before .before .judge-sum .ensures)
+    sum-fits _ _ (modulus-some _) _ _ _ (sym (c .before .enum-told .given .1) ∙ c .before .before .before .judge-sum .ensures)
 
 enum-told-2 : tie.Need-enum-told-2
 enum-told-2 c = search needs

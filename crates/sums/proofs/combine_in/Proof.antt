@@ -1,8 +1,8 @@
 -- `sums::combine_in` meets its contract: neither raise is refused, so both buffers hold the raised lists.
 -- Assumes nothing.
-use lib.Dec.{lit<}
 use borrow.Author.Needs.{needs}
-use Rattle.algebra.specs.PrimeField.{F65521}
+use Rattle.field.specs.Fields.{fieldAt}
+use Rattle.field.specs.FieldsLaws.{modulus-some}
 use Rattle.sums.proofs.Sums.{combined-is}
 use Rattle.sums.proofs.combine_in.Statement.{statement}
 use Rattle.sums.proofs.combine_in.Tie as tie
@@ -10,11 +10,11 @@ use Rattle.sums.proofs.combine_in.Tie as tie
 sub-degree : tie.Need-sub-degree
 sub-degree c = search needs
 
-raise-requires : tie.Need-raise-requires
-raise-requires c κs = search needs
+raise-over-requires : tie.Need-raise-over-requires
+raise-over-requires c κs = search needs
 
-raise-requires-2 : tie.Need-raise-requires-2
-raise-requires-2 c κs = search needs
+raise-over-requires-2 : tie.Need-raise-over-requires-2
+raise-over-requires-2 c κs = search needs
 
 combine-words-requires : tie.Need-combine-words-requires
 combine-words-requires c κs = search needs
@@ -31,9 +31,9 @@ same-length-3 c = search needs
 returns : tie.Need-returns
 returns c =
     let start = c .before .before .before .before .before .before .before .before .before .before .before .before .before .before .before .before .before .before .before in
-    combined-is F65521 (lit< tt) _ _ _ (start .pre .0) _ _ _ (start .pre .1 .0) (start .pre .1 .1)
-    (c .before .before .before .before .before .before .before .before .before .before .before .before .raise .ensures .1)
-    (c .before .before .before .before .before .before .before .before .raise2 .ensures .1)
+    combined-is (fieldAt _) (modulus-some _) _ _ _ (start .pre .0) _ _ _ (start .pre .1 .0) (start .pre .1 .1)
+    (c .before .before .before .before .before .before .before .before .before .before .before .before .raise-over .ensures .1)
+    (c .before .before .before .before .before .before .before .before .raise-over2 .ensures .1)
     (c .before .before .combine-words .ensures)
 
 pub combine-in-spec : {M : Type 1} → statement M
@@ -41,8 +41,8 @@ combine-in-spec =
     tie.close
     (tie.spec
     sub-degree
-    raise-requires
-    raise-requires-2
+    raise-over-requires
+    raise-over-requires-2
     combine-words-requires
     same-length
     same-length-2

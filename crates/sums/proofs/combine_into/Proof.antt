@@ -3,25 +3,29 @@
 use mathlib.Core.Path.{refl, sym}
 use native.Mathlib.Omega.{arith}
 use borrow.Author.Needs.{needs}
+use Rattle.refusal.specs.Limits.{maxWords}
+use Rattle.field.specs.FieldsLaws.{longest-room}
 use Rattle.lists.proofs.Parts.{prefix-length}
 use Rattle.sums.proofs.combine_into.Statement.{statement}
 use Rattle.sums.proofs.combine_into.Tie as tie
 
 array-borrow-prefix-a : tie.Need-array-borrow-prefix-a
-array-borrow-prefix-a c = search needs
+array-borrow-prefix-a c = omega (arith, longest-room (c .before .before .before .args .field))
 
 slice-aggregate-combine-in : tie.Need-slice-aggregate-combine-in
-slice-aggregate-combine-in c = sym (prefix-length _ 256 _ refl (omega arith))
+slice-aggregate-combine-in c = sym (prefix-length _ maxWords _ refl (omega (arith, longest-room (c .before .before .before .before .args .field))))
 
 array-borrow-prefix-b : tie.Need-array-borrow-prefix-b
-array-borrow-prefix-b c = search needs
+array-borrow-prefix-b c = omega (arith, longest-room (c .before .before .before .before .args .field))
 
 slice-aggregate-combine-in-2 : tie.Need-slice-aggregate-combine-in-2
-slice-aggregate-combine-in-2 c = sym (prefix-length _ 256 _ refl (omega arith))
+slice-aggregate-combine-in-2 c = sym (prefix-length _ maxWords _ refl (omega (arith, longest-room (c .before .before .before .before .before .args .field))))
 
 combine-in-requires : tie.Need-combine-in-requires
 combine-in-requires c κs =
-    (c .before .before .before .before .before .before .pre, (prefix-length _ 256 _ refl (omega arith), prefix-length _ 256 _ refl (omega arith)))
+    let pre = c .before .before .before .before .before .before .pre in
+    let room = longest-room (c .before .before .before .before .before .before .args .field) in
+    (pre, (prefix-length _ maxWords _ refl (omega arith), prefix-length _ maxWords _ refl (omega arith)))
 
 same-length : tie.Need-same-length
 same-length c = search needs

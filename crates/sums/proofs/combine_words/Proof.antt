@@ -5,7 +5,8 @@ use Prim.Native.Nat.{_≤_, _-_}
 use native.Mathlib.Omega.{arith}
 use lib.ListN.{length, length-set}
 use borrow.Author.Needs.{needs}
-use Rattle.algebra.specs.PrimeField.{F65521, p-is}
+use Rattle.field.specs.Fields.{fieldAt}
+use Rattle.field.specs.FieldsLaws.{p-at}
 use Rattle.lists.proofs.Filled.{Filled, fill-start, fill-step, fill-end}
 use Rattle.sums.specs.Workers.{combinedWords}
 use Rattle.sums.proofs.Sums.{combined-word, length-combinedWords}
@@ -13,10 +14,10 @@ use Rattle.sums.proofs.combine_words.Statement.{statement}
 use Rattle.sums.proofs.combine_words.Tie as tie
 
 abbrev Inv-loop : tie.InvT-loop
-Inv-loop a b minus out₀ k₀ out k = (k ≤ length out) × (length out ≡ length out₀) × Filled out k (combinedWords F65521 minus a b)
+Inv-loop field a b minus out₀ k₀ out k = (k ≤ length out) × (length out ≡ length out₀) × Filled out k (combinedWords (fieldAt field) minus a b)
 
 abbrev μ-loop : tie.MeasureT-loop
-μ-loop a b minus out₀ k₀ out k = length out₀ - k
+μ-loop field a b minus out₀ k₀ out k = length out₀ - k
 
 loop-holds : tie.Need-loop-holds Inv-loop μ-loop
 loop-holds c = (search needs, search needs, fill-start _ _)
@@ -52,7 +53,7 @@ loop-again : tie.Need-loop-again Inv-loop μ-loop
 loop-again c = (
   simp length-set (omega arith),
   simp length-set (omega arith),
-  fill-step _ (c .before .before .before .before .loop .inv .2) (omega arith) (combined-word F65521 p-is _ _ _ _ (omega arith) (c .combine-word .ensures)),
+  fill-step _ (c .before .before .before .before .loop .inv .2) (omega arith) (combined-word (fieldAt _) (p-at _) _ _ _ _ (omega arith) (c .combine-word .ensures)),
 )
 
 same-length : tie.Need-same-length Inv-loop μ-loop
@@ -61,7 +62,7 @@ same-length c = search needs
 returns : tie.Need-returns Inv-loop μ-loop
 returns c =
     let args = c .before .before .before .before .before .args in
-    fill-end (c .before .loop .inv .2) (omega (arith, length-combinedWords F65521 (args .minus) (args .a .now) (args .b .now))) (omega arith)
+    fill-end (c .before .loop .inv .2) (omega (arith, length-combinedWords (fieldAt (args .field)) (args .minus) (args .a .now) (args .b .now))) (omega arith)
 
 pub combine-words-spec : {M : Type 1} → statement M
 combine-words-spec =

@@ -1,22 +1,20 @@
--- `sums::difference` meets its contract: it is `combine`, for f less g.
+-- `sums::difference` meets its contract: field 0.
 -- Assumes nothing.
+use Rattle.field.specs.Fields.{longest}
+use Rattle.sums.specs.Calls.{sumRefusals}
 use borrow.Author.Needs.{needs}
 use Rattle.sums.proofs.difference.Statement.{statement}
 use Rattle.sums.proofs.difference.Tie as tie
 
-combine-requires : tie.Need-combine-requires
-combine-requires c κs = search needs
+difference-over-requires : tie.Need-difference-over-requires
+difference-over-requires c κs = search needs
 
 same-length : tie.Need-same-length
 same-length c = search needs
 
 returns : tie.Need-returns
-returns c = search needs
+unfolding longest sumRefusals
+returns c = c .before .before .difference-over .ensures
 
 pub difference-spec : {M : Type 1} → statement M
-difference-spec =
-    tie.close
-    (tie.spec
-    combine-requires
-    same-length
-    returns)
+difference-spec = tie.close (tie.spec difference-over-requires same-length returns)

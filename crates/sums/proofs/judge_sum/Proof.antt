@@ -2,8 +2,8 @@
 -- Assumes nothing.
 use mathlib.Core.Path.{sym, _∙_}
 use native.Mathlib.Omega.{arith}
-use lib.Dec.{lit<}
 use borrow.Author.Needs.{needs}
+use Rattle.field.specs.FieldsLaws.{modulus-some}
 use Rattle.sums.proofs.Judged.{sum-refused, sum-misfit, sum-done}
 use Rattle.sums.proofs.judge_sum.Statement.{statement}
 use Rattle.sums.proofs.judge_sum.Tie as tie
@@ -16,7 +16,7 @@ enum-known-of-lists c = search needs
 
 returns : tie.Need-returns
 returns c =
-    sum-refused 65521 (lit< tt) _ _ _
+    sum-refused _ _ (modulus-some _) _ _ _
     (sym (c .before .before .before .judge-lists .ensures) ∙ c .before .of-lists .given .1)
 
 enum-told : tie.Need-enum-told
@@ -27,12 +27,12 @@ larger-requires c κs = search needs
 
 returns-2 : tie.Need-returns-2
 returns-2 c =
-    sum-misfit 65521 (lit< tt) _ _ _
+    sum-misfit _ _ (modulus-some _) _ _ _
     (sym (c .before .before .before .before .judge-lists .ensures) ∙ c .before .before .enum-told .given .1) (λ q. c .if1 .taken (q ∙ sym (c .before .larger .ensures)))
 
 returns-3 : tie.Need-returns-3
 returns-3 c =
-    sum-done 65521 (lit< tt) _ _ _
+    sum-done _ _ (modulus-some _) _ _ _
     (sym (c .before .before .before .before .judge-lists .ensures) ∙ c .before .before .enum-told .given .1) (omega arith)
 
 pub judge-sum-spec : {M : Type 1} → statement M

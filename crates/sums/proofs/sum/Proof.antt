@@ -1,22 +1,20 @@
--- `sums::sum` meets its contract: it is `combine`, for f plus g.
+-- `sums::sum` meets its contract: field 0.
 -- Assumes nothing.
+use Rattle.field.specs.Fields.{longest}
+use Rattle.sums.specs.Calls.{sumRefusals}
 use borrow.Author.Needs.{needs}
 use Rattle.sums.proofs.sum.Statement.{statement}
 use Rattle.sums.proofs.sum.Tie as tie
 
-combine-requires : tie.Need-combine-requires
-combine-requires c κs = search needs
+sum-over-requires : tie.Need-sum-over-requires
+sum-over-requires c κs = search needs
 
 same-length : tie.Need-same-length
 same-length c = search needs
 
 returns : tie.Need-returns
-returns c = search needs
+unfolding longest sumRefusals
+returns c = c .before .before .sum-over .ensures
 
 pub sum-spec : {M : Type 1} → statement M
-sum-spec =
-    tie.close
-    (tie.spec
-    combine-requires
-    same-length
-    returns)
+sum-spec = tie.close (tie.spec sum-over-requires same-length returns)

@@ -11,7 +11,8 @@
      8   the divisor's last word is 0
      9   both lists of a GCD are zero
      10  a result has not exactly the length named below, or an odd number of bytes
-   Pointers of length 0 may be anything but null. Lists and results must not overlap. */
+   Pointers are never null: where a length is 0, as that of the remainder by a divisor of one word, pass any other pointer. The two lists may be
+   the same memory; a result must overlap neither a list nor another result. */
 #ifndef BERNSTEIN_H
 #define BERNSTEIN_H
 

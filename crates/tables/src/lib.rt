@@ -21,9 +21,9 @@ pub fn factorials(field: u8) -> Table
     ensures { λ r. ⌜ Holds (fieldAt field) (longest field) (factorialIn (fieldAt field)) r ⌝ }
 {
     match field {
-        0 => field_0::FACTORIALS,
-        1 => field_1::FACTORIALS,
-        _ => field_2::FACTORIALS,
+        0 => field_0::factorials::FACTORIALS,
+        1 => field_1::factorials::FACTORIALS,
+        _ => field_2::factorials::FACTORIALS,
     }
 }
 
@@ -32,9 +32,9 @@ pub fn inverse_factorials(field: u8) -> Table
     ensures { λ r. ⌜ Holds (fieldAt field) (longest field) (inverseFactorialIn (fieldAt field)) r ⌝ }
 {
     match field {
-        0 => field_0::INVERSE_FACTORIALS,
-        1 => field_1::INVERSE_FACTORIALS,
-        _ => field_2::INVERSE_FACTORIALS,
+        0 => field_0::inverse_factorials::INVERSE_FACTORIALS,
+        1 => field_1::inverse_factorials::INVERSE_FACTORIALS,
+        _ => field_2::inverse_factorials::INVERSE_FACTORIALS,
     }
 }
 
@@ -43,8 +43,8 @@ pub fn inverses(field: u8) -> InverseTable
     ensures { λ r. ⌜ r ≡ inverseTable maxWords (fieldAt field) ⌝ }
 {
     match field {
-        0 => field_0::INVERSES,
-        1 => field_1::INVERSES,
-        _ => field_2::INVERSES,
+        0 => field_0::inverses::INVERSES,
+        1 => field_1::inverses::INVERSES,
+        _ => field_2::inverses::INVERSES,
     }
 }

@@ -18,14 +18,14 @@ use refusal::Refusal;
 
 // The value of f at x.
 pub fn evaluate(f: &[u16], x: u16) -> Word
-    ensures { λ r. ⌜ wordReply r ≡ reply (lowest (evaluateRefusals p (now (f .entry)) x)) (of.evaluate F65521 (now (f .entry)) x ∷ []) ⌝ }
+    ensures answer { λ r. ⌜ wordReply r ≡ reply (lowest (evaluateRefusals p (now (f .entry)) x)) (of.evaluate F65521 (now (f .entry)) x ∷ []) ⌝ }
 {
     evaluate_over(0, f, x)
 }
 
 // The same over a field.
 pub fn evaluate_over(field: u8, f: &[u16], x: u16) -> Word
-    ensures { λ r. ⌜ wordReply r ≡ reply (lowest (evaluateRows (modulus field) (longest field) (now (f .entry)) x)) (of.evaluate (fieldAt field) (now (f .entry)) x ∷ []) ⌝ }
+    ensures answer { λ r. ⌜ wordReply r ≡ reply (lowest (evaluateRows (modulus field) (longest field) (now (f .entry)) x)) (of.evaluate (fieldAt field) (now (f .entry)) x ∷ []) ⌝ }
 {
     if let Outcome::Refused(why) = judge_evaluate(field, f, x) {
         return Word::Refused(why);

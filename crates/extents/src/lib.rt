@@ -22,14 +22,14 @@ pub enum Found {
 
 // The extent of f.
 pub fn find_extent(f: &[u16]) -> Found
-    ensures { λ r. ⌜ extentReply r ≡ reply (lowest (extentRefusals p (now (f .entry)))) (extentValues (now (f .entry))) ⌝ }
+    ensures answer { λ r. ⌜ extentReply r ≡ reply (lowest (extentRefusals p (now (f .entry)))) (extentValues (now (f .entry))) ⌝ }
 {
     extent_over(0, f)
 }
 
 // The same over a field.
 pub fn extent_over(field: u8, f: &[u16]) -> Found
-    ensures { λ r. ⌜ extentReply r ≡ reply (lowest (extentRows (modulus field) (longest field) (now (f .entry)))) (extentValues (now (f .entry))) ⌝ }
+    ensures answer { λ r. ⌜ extentReply r ≡ reply (lowest (extentRows (modulus field) (longest field) (now (f .entry)))) (extentValues (now (f .entry))) ⌝ }
 {
     if let Outcome::Refused(why) = lists::judge_list(field, f) {
         return Found::Refused(why);

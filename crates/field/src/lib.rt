@@ -16,26 +16,26 @@ pub enum Word {
 }
 
 pub fn sum(a: u16, b: u16) -> Word
-    ensures { λ r. ⌜ wordReply r ≡ reply (lowest (operandRefusals p a b)) (sumOf p a b ∷ []) ⌝ }
+    ensures answer { λ r. ⌜ wordReply r ≡ reply (lowest (operandRefusals p a b)) (sumOf p a b ∷ []) ⌝ }
 {
     sum_over(0, a, b)
 }
 
 pub fn difference(a: u16, b: u16) -> Word
-    ensures { λ r. ⌜ wordReply r ≡ reply (lowest (operandRefusals p a b)) (differenceOf p a b ∷ []) ⌝ }
+    ensures answer { λ r. ⌜ wordReply r ≡ reply (lowest (operandRefusals p a b)) (differenceOf p a b ∷ []) ⌝ }
 {
     difference_over(0, a, b)
 }
 
 pub fn product(a: u16, b: u16) -> Word
-    ensures { λ r. ⌜ wordReply r ≡ reply (lowest (operandRefusals p a b)) (productOf p a b ∷ []) ⌝ }
+    ensures answer { λ r. ⌜ wordReply r ≡ reply (lowest (operandRefusals p a b)) (productOf p a b ∷ []) ⌝ }
 {
     product_over(0, a, b)
 }
 
 // The same over a field.
 pub fn sum_over(field: u8, a: u16, b: u16) -> Word
-    ensures { λ r. ⌜ wordReply r ≡ reply (lowest (operandRefusals (modulus field) a b)) (sumOf (modulus field) a b ∷ []) ⌝ }
+    ensures answer { λ r. ⌜ wordReply r ≡ reply (lowest (operandRefusals (modulus field) a b)) (sumOf (modulus field) a b ∷ []) ⌝ }
 {
     if let Outcome::Refused(why) = judge_operands(field, a, b) {
         return Word::Refused(why);
@@ -44,7 +44,7 @@ pub fn sum_over(field: u8, a: u16, b: u16) -> Word
 }
 
 pub fn difference_over(field: u8, a: u16, b: u16) -> Word
-    ensures { λ r. ⌜ wordReply r ≡ reply (lowest (operandRefusals (modulus field) a b)) (differenceOf (modulus field) a b ∷ []) ⌝ }
+    ensures answer { λ r. ⌜ wordReply r ≡ reply (lowest (operandRefusals (modulus field) a b)) (differenceOf (modulus field) a b ∷ []) ⌝ }
 {
     if let Outcome::Refused(why) = judge_operands(field, a, b) {
         return Word::Refused(why);
@@ -53,7 +53,7 @@ pub fn difference_over(field: u8, a: u16, b: u16) -> Word
 }
 
 pub fn product_over(field: u8, a: u16, b: u16) -> Word
-    ensures { λ r. ⌜ wordReply r ≡ reply (lowest (operandRefusals (modulus field) a b)) (productOf (modulus field) a b ∷ []) ⌝ }
+    ensures answer { λ r. ⌜ wordReply r ≡ reply (lowest (operandRefusals (modulus field) a b)) (productOf (modulus field) a b ∷ []) ⌝ }
 {
     if let Outcome::Refused(why) = judge_operands(field, a, b) {
         return Word::Refused(why);

@@ -45,28 +45,28 @@ pub fn judge_call(field: u8, album: &[u8], i: usize) -> Outcome
 
 // The refusal that applies to a call on list i.
 pub fn check(album: &[u8], i: usize) -> Outcome
-    ensures { λ r. ⌜ outcomeReply r ≡ reply (lowest (checkRefusals p (now (album .entry)) i)) [] ⌝ }
+    ensures answer { λ r. ⌜ outcomeReply r ≡ reply (lowest (checkRefusals p (now (album .entry)) i)) [] ⌝ }
 {
     check_over(0, album, i)
 }
 
 // The same over a field.
 pub fn check_over(field: u8, album: &[u8], i: usize) -> Outcome
-    ensures { λ r. ⌜ outcomeReply r ≡ reply (lowest (checkRefusals (modulus field) (now (album .entry)) i)) [] ⌝ }
+    ensures answer { λ r. ⌜ outcomeReply r ≡ reply (lowest (checkRefusals (modulus field) (now (album .entry)) i)) [] ⌝ }
 {
     judge_call(field, album, i)
 }
 
 // The bytes of list i, as a part of the album; the empty part when refused.
 pub fn body(album: &[u8], i: usize) -> &[u8]
-    ensures { λ r. ⌜ now r ≡ bodyOf p (now (album .entry)) i ⌝ }
+    ensures part { λ r. ⌜ now r ≡ bodyOf p (now (album .entry)) i ⌝ }
 {
     body_over(0, album, i)
 }
 
 // The same over a field.
 pub fn body_over(field: u8, album: &[u8], i: usize) -> &[u8]
-    ensures { λ r. ⌜ now r ≡ bodyOf (modulus field) (now (album .entry)) i ⌝ }
+    ensures part { λ r. ⌜ now r ≡ bodyOf (modulus field) (now (album .entry)) i ⌝ }
 {
     match judge_call(field, album, i) {
         Outcome::Done => {

@@ -1,6 +1,7 @@
 /* The engine's product, division, GCD, evaluation and cofactors against FLINT doing the same work from the same bytes. Build and run:
    bench/run */
 #include "../include/bernstein.h"
+#include "../tests/calls.h"
 #include <flint/flint.h>
 #include <flint/nmod_poly.h>
 #include <flint/ulong_extras.h>
@@ -11,12 +12,7 @@
 
 enum { P = 65521, MAX_WORDS = 256, MAX_BYTES = 2 * MAX_WORDS, PAIRS = 32, BATCHES = 101, BATCH_NS = 2000000 };
 
-/* What the library bench_calls exports: the value of f at x, 0 where refused; and h (256 words), a and b, with the refusal's number. These
-   take words, which x86-64 keeps low byte first, as the bytes are. */
-uint16_t bench_evaluate(const uint16_t *f, size_t f_len, uint16_t x);
-uint8_t bench_cofactors(const uint16_t *f, size_t f_len, const uint16_t *g, size_t g_len, uint16_t *h, size_t h_len, uint16_t *a, size_t a_len,
-                        uint16_t *b, size_t b_len);
-
+/* A list as bytes for a C host's calls and as words for those of tests/calls.h: x86-64 keeps a word low byte first. */
 typedef struct {
   size_t words;
   union {
@@ -77,14 +73,17 @@ static void engine_gcd(const pair *in, result *out) {
 
 static void engine_evaluation(const pair *in, result *out) {
   const list *f = &in->f, *g = &in->g;
-  out->first_whole[0] = bench_evaluate(f->whole, f->words, g->whole[0]);
+  size_t value;
+  completed(test_evaluate(f->whole, f->words, g->whole[0], &value, 1));
+  out->first_whole[0] = value;
 }
 
 /* With d and e above 0, m is d + e - 1, so a has e words and b has d. */
 static void engine_cofactors(const pair *in, result *out) {
   const list *f = &in->f, *g = &in->g;
-  completed(bench_cofactors(f->whole, f->words, g->whole, g->words, out->first_whole, MAX_WORDS, out->second_whole, g->words - 1,
-                            out->third_whole, f->words - 1));
+  size_t answer[3];
+  completed(test_cofactors(f->whole, f->words, g->whole, g->words, out->first_whole, MAX_WORDS, out->second_whole, g->words - 1,
+                           out->third_whole, f->words - 1, answer, 3));
 }
 
 /* ---- FLINT's side: scale, compute in the monomial basis of u, scale back. ---- */

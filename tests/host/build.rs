@@ -1,7 +1,10 @@
-//! Says where the engine's static library is: `rt staticlib host` writes it to target/staticlib of the repository.
+//! Says where the static libraries are: `rt staticlib host` and `rt staticlib test_calls` write them to target/staticlib of the
+//! repository.
 
 fn main() {
     let folder = concat!(env!("CARGO_MANIFEST_DIR"), "/../../target/staticlib");
     println!("cargo:rustc-link-search=native={folder}");
-    println!("cargo:rerun-if-changed={folder}/libhost.a");
+    for library in ["host", "test_calls"] {
+        println!("cargo:rerun-if-changed={folder}/lib{library}.a");
+    }
 }

@@ -1,7 +1,7 @@
 -- What the call answers, leaves in the slice of h and promises.
 -- Assumes nothing.
 use mathlib.Core.Path.{_≡_, sym, _∙_, ap, ap₂}
-use mathlib.Core.List.{List, []}
+use mathlib.Core.List.{List, [], _∷_}
 use Prim.Native.Nat.{ℕ, suc, _-_, _≤_, _<_}
 use native.Mathlib.Decide.{decLt}
 use native.Mathlib.Omega.{arith}
@@ -72,22 +72,23 @@ module _ (F : PrimeField) (most : ℕ) (big : most ≤ F .p) (lists : List (List
     unfolding naiveDegree
     degree = ap (λ m. m - 1) (f .held .words ∙ ap (λ r. length (r .list)) (sym whole))
 
-    answer : G.Done (record { 0 = n - 1 }) c k
-        ≡ G.Done (record { 0 = naiveDegree (albumGcd F lists .list) }) (commonPower lists) (albumGcd F lists .rounds)
+    answer : gcdReply (G.Done (record { 0 = n - 1 }) (record { 0 = c }) (record { 0 = k }))
+        ≡ record { number = 0; values = albumGcdValues F lists }
+    unfolding albumGcdValues
     answer =
-        ap (λ m. G.Done (record { 0 = m }) c k) degree
-        ∙ ap₂ (G.Done (record { 0 = naiveDegree (albumGcd F lists .list) })) e (f .rounds ∙ ap (λ r. r .rounds) (sym whole))
+        ap (λ m. record { number = 0; values = m ∷ c ∷ k ∷ [] }) degree
+        ∙ ap₂ (λ m l. record { number = 0; values = naiveDegree (albumGcd F lists .list) ∷ m ∷ l ∷ [] }) e
+        (f .rounds ∙ ap (λ r. r .rounds) (sym whole))
 
 module _ (F : PrimeField) (most : ℕ) (big : most ≤ F .p) (s h : List ℕ)
     (listed : (i : ℕ) → i < length (listsOf s) → Listed (F .p) most (getD (listsOf s) i [])) (one : Nonzero (listsOf s)) where
   pub answered : {x : List ℕ} {n k c : ℕ} → Done ≡ lowest (albumGcdRows (F .p) most s h) → Folded F most (listsOf s) x n k
-      → c ≡ commonPower (listsOf s) → Answered F most s h x (G.Done (record { 0 = n - 1 }) c k)
-  unfolding albumGcdValues
+      → c ≡ commonPower (listsOf s) → Answered F most s h x (G.Done (record { 0 = n - 1 }) (record { 0 = c }) (record { 0 = k }))
   answered {x} {n} {k} {c} e f ec =
       let a = answer F most big (listsOf s) listed one f ec in
       let b = slice F most big (listsOf s) listed one f ec in
       record {
-        answer = ap gcdReply a ∙ ap (λ o. reply o (albumGcdValues F (listsOf s))) e;
+        answer = a ∙ ap (λ o. reply o (albumGcdValues F (listsOf s))) e;
         writes = b ∙ ap (λ o. written o (padded most (albumGcd F (listsOf s) .list)) h) e;
         greatest = rw (degree F most big (listsOf s) listed one f ec, ec, b) (promised F most big (listsOf s) listed one);
       }

@@ -4,25 +4,15 @@
 use mathlib.Core.Path.{_≡_, refl, _∙_, ap}
 use mathlib.Core.Logic.{_⊎_, inl, inr}
 use mathlib.Core.List.{List, []}
-use Prim.Native.Nat.{ℕ, _+_, _-_, _≤_, _<_}
+use Prim.Native.Nat.{ℕ, min, _+_, _≤_, _<_}
 use native.Mathlib.Decide.{ℕ-discrete, decLt}
 use native.Mathlib.Omega.{arith}
-use lib.ListN.{getD, length, take, List·getD-eq-default}
+use lib.ListN.{getD, length, List·getD-eq-default}
 use Rattle.lists.specs.Degrees.{significant, power}
 use Rattle.lists.specs.Extents.{significant-le, power-is}
 use Rattle.euclid.specs.Gcds.{commonPower}
 use Rattle.euclid.specs.Powers.{significant-nil, commonPower-le, commonPower-attained}
-use Rattle.album.specs.Workers.{Held}
-use Rattle.album.proofs.Held.{held-take}
 use Rattle.album_gcd.proofs.Zeros.{Nonzero}
-
--- a list c in a slice, with k the number of its significant words
-pub list-power : {p most n k : ℕ} {x c d : List ℕ} → c ≡ d → Held p most x n c → k ≡ significant (take n x)
-    → (k ≡ significant d) × (k ≤ n) × (0 < k → n - k ≡ power d)
-list-power {p} {most} {n} {k} {x} {c} {d} e h q =
-    let v : k ≡ significant d = q ∙ ap significant (held-take h ∙ e) in
-    let w : n ≡ length d = h .words ∙ ap length e in
-    (v, omega (arith, significant-le d), λ l. omega (arith, power-is d (λ z. omega arith)))
 
 module _ (most : ℕ) (lists : List (List ℕ)) where
   -- the power of a list that is not zero
@@ -38,19 +28,30 @@ module _ (most : ℕ) (lists : List (List ℕ)) where
   pub lowest-start : {a : ℕ} → a ≡ most → Lowest 0 a
   lowest-start e = record { le = λ j l. absurd (omega arith); is = inl e }
 
-  pub lowest-keep : {i a b : ℕ} → Lowest i a → b ≡ a → (0 < significant (getD lists i []) → a ≤ power (getD lists i [])) → Lowest (i + 1) b
+  lowest-keep : {i a b : ℕ} → Lowest i a → b ≡ a → (0 < significant (getD lists i []) → a ≤ power (getD lists i [])) → Lowest (i + 1) b
   lowest-keep {i} {a} {b} w e here = rw e (record { le = λ j l. go j l (ℕ-discrete j i); is = w .is })
     where
       go : (j : ℕ) → j < i + 1 → Dec (j ≡ i) → 0 < significant (getD lists j []) → a ≤ power (getD lists j [])
       go j l (yes q) = rw q here
       go j l (no f) = w .le j (omega arith)
 
-  pub lowest-less : {i a b : ℕ} → Lowest i a → 0 < significant (getD lists i []) → b ≡ power (getD lists i []) → b < a → Lowest (i + 1) b
+  lowest-less : {i a b : ℕ} → Lowest i a → 0 < significant (getD lists i []) → b ≡ power (getD lists i []) → b < a → Lowest (i + 1) b
   lowest-less {i} {a} {b} w some e l =
       lowest-keep
       (record { le = λ j k z. let m = w .le j k z in omega arith; is = inr (record { index = i; some = some; is = e }) })
       refl
       (λ z. omega arith)
+
+  -- a list that is not zero, and one that is
+  pub lowest-next : {i a b : ℕ} → Lowest i a → ¬ (significant (getD lists i []) ≡ 0) → b ≡ min a (power (getD lists i [])) → Lowest (i + 1) b
+  lowest-next {i} {a} {b} w f e = go (decLt (power (getD lists i [])) a)
+    where
+      go : Dec (power (getD lists i []) < a) → Lowest (i + 1) b
+      go (yes l) = lowest-less w (omega arith) (omega arith) (omega arith)
+      go (no m) = lowest-keep w (omega arith) (λ z. omega arith)
+
+  pub lowest-over : {i a b : ℕ} → Lowest i a → significant (getD lists i []) ≡ 0 → b ≡ a → Lowest (i + 1) b
+  lowest-over w z e = lowest-keep w e (λ l. absurd (omega arith))
 
   inside : (i : ℕ) → 0 < significant (getD lists i []) → i < length lists
   inside i some = go (decLt i (length lists))

@@ -18,6 +18,7 @@ use Rattle.refusal.specs.Lowest.{lowest}
 use Rattle.refusal.specs.declared.Refusal.{Refusal}
 use Rattle.refusal.specs.declared.Outcome.the-variants.{Done}
 use Rattle.lists.specs.declared.NaiveDegree.{NaiveDegree}
+use Rattle.lists.specs.declared.Power.{Power}
 use Rattle.lists.specs.Degrees.{naiveDegree, significant}
 use Rattle.lists.specs.Extents.{significant-le}
 use Rattle.lists.specs.Lists.{Coefficients}
@@ -28,6 +29,7 @@ use Rattle.euclid.specs.Gcd.{gcd-rounds}
 use Rattle.euclid.specs.Loops.{padded-is}
 use Rattle.albums.specs.Folds.{zeroStart, turn, foldGcd, turn-zero, turn-nonzero, fold-none, fold-drop, start-listed, turn-listed}
 use Rattle.gcd.specs.declared.Gcd.the-variants as G
+use Rattle.gcd.specs.declared.Rounds.{Rounds}
 use Rattle.gcd.specs.Calls.{gcdReply, gcdValues, gcdRows}
 use Rattle.gcd.proofs.Ready.{judged-done}
 use Rattle.album.specs.Workers.{Held}
@@ -79,16 +81,16 @@ module _ (F : PrimeField) (most : ℕ) (big : most ≤ F .p) where
       unfolding gcdValues
       turn-never why e = let z = ap (λ z. length (z .values)) (e ∙ ap (λ o. reply o (gcdValues F f c)) pass) in omega arith
 
-      module _ (w : NaiveDegree) (c′ k : ℕ)
+      module _ (w : NaiveDegree) (c′ : Power) (k : Rounds)
           (e : gcdReply (G.Done w c′ k) ≡ reply (lowest (gcdRows (F .p) most f c x)) (gcdValues F f c)) where
-        value : (i : ℕ) → getD (w .0 ∷ c′ ∷ k ∷ []) i 0 ≡ getD (gcdValues F f c) i 0
+        value : (i : ℕ) → getD (w .0 ∷ c′ .0 ∷ k .0 ∷ []) i 0 ≡ getD (gcdValues F f c) i 0
         value i = ap (λ z. getD (z .values) i 0) (e ∙ ap (λ o. reply o (gcdValues F f c)) pass)
 
         degree : w .0 ≡ naiveDegree (gcdOf F f c)
         unfolding gcdValues
         degree = value 0
 
-        count : k ≡ countOf F f c
+        count : k .0 ≡ countOf F f c
         unfolding gcdValues
         count = value 2
 
@@ -109,7 +111,7 @@ module _ (F : PrimeField) (most : ℕ) (big : most ≤ F .p) where
 
         -- the GCD with a list that is not zero
         pub turn-with : {x′ : List ℕ} → x′ ≡ written (lowest (gcdRows (F .p) most f c x)) (padded most (gcdOf F f c)) x
-            → Turned F most f c x′ (w .0 + 1) k
+            → Turned F most f c x′ (w .0 + 1) (k .0)
         turn-with v =
             record {
               list = gcdOf F f c;

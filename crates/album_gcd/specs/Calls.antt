@@ -51,5 +51,5 @@ pub record AlbumGreatestSo (F : PrimeField) (lists : List (List ℕ)) (slice : L
 
 -- of an answer that is no refusal
 abbrev pub AlbumGreatest : PrimeField → List (List ℕ) → List ℕ → Gcd → Type 0
-AlbumGreatest F lists slice (Done w c rounds) = AlbumGreatestSo F lists slice (w .0) c
+AlbumGreatest F lists slice (Done w c rounds) = AlbumGreatestSo F lists slice (w .0) (c .0)
 AlbumGreatest F lists slice (Refused why) = Unit {0}

@@ -17,7 +17,9 @@ ghost use Rattle.gcd.specs.Calls.{gcdReply};
 ghost use Rattle.album_gcd.specs.Calls.{allZero, albumGcdRows, albumGcdRefusals, albumGcdValues, AlbumGreatest};
 ghost use Rattle.album_gcd.specs.Workers.{Turned, Folded, Answered};
 use gcd::Gcd;
+use gcd::Rounds;
 use lists::NaiveDegree;
+use lists::Power;
 use refusal::Outcome;
 use refusal::Refusal;
 
@@ -95,25 +97,23 @@ fn judge(field: u8, album: &[u8], list: &mut [u16], h: &[u16]) -> Outcome
 }
 
 // The least power of the lists that are not zero: the words of the longest list are more than every power.
-fn common_power(field: u8, album: &[u8], list: &mut [u16]) -> usize
+fn common_power(field: u8, album: &[u8], list: &mut [u16]) -> Power
     requires { ⌜ (Passed (modulus field) (now album)) × (allZero (listsOf (now album)) ≡ false) ⌝ }
     requires { ⌜ length (now list) ≡ longest field ⌝ }
-    ensures { λ r. ⌜ r ≡ commonPower (listsOf (now (album .entry))) ⌝ }
+    ensures { λ r. ⌜ r .0 ≡ commonPower (listsOf (now (album .entry))) ⌝ }
 {
     let n = count_lists(album);
     let mut least = field::longest_of(field);
     let mut j = 0;
     while j < n {
         let m = album::read(field, album, j, list);
-        let used = lists::significant_words(&list[..m]);
-        if used != 0 {
-            if m - used < least {
-                least = m - used;
-            }
+        let words = &list[..m];
+        if lists::significant_words(words) != 0 {
+            least = lists::smaller(least, lists::power_in(words).0);
         }
         j += 1;
     }
-    least
+    Power(least)
 }
 
 // The words of one slice, to another of the same length.
@@ -148,7 +148,7 @@ fn turn(field: u8, list: &[u16], last: &mut [u16], h: &mut [u16], words: usize) 
     match gcd::gcd_over(field, &last[..words], list, h) {
         Gcd::Done(w, _, rounds) => Found {
             words: w.0 + 1,
-            rounds,
+            rounds: rounds.0,
         },
         Gcd::Refused(_) => Found { words, rounds: 0 },
     }
@@ -185,7 +185,7 @@ fn gcd_into(field: u8, album: &[u8], list: &mut [u16], last: &mut [u16], h: &mut
 {
     let found = all_turns(field, album, list, last, h);
     let c = common_power(field, album, list);
-    Gcd::Done(NaiveDegree(found.words - 1), c, found.rounds)
+    Gcd::Done(NaiveDegree(found.words - 1), c, Rounds(found.rounds))
 }
 
 // The GCD by way of buffers; last comes as zeros.

@@ -1,19 +1,18 @@
 -- A list that is not zero, its top zeros removed and scaled to end in 1: its meaning is a constant times that of the list without its
 -- top zeros.
---     Head              what document 01 says of h: coefficients, of naive degree its extent, with last word 1
 -- Assumes nothing.
 use mathlib.Core.Path.{_≡_, sym, _∙_, ap, ap₂, subst}
 use mathlib.Core.List.{List}
-use Prim.Native.Nat.{ℕ, suc, _+_, _≤_, _<_}
+use Prim.Native.Nat.{ℕ, suc, _≤_, _<_}
 use native.Mathlib.Omega.{arith}
-use lib.ListN.{getD, length}
+use lib.ListN.{length}
 use Rattle.algebra.specs.Ring as R
 use Rattle.algebra.specs.Ring.{CommRing, RING}
 use Rattle.algebra.specs.Series.{C}
 use Rattle.algebra.specs.Polynomial.{Below, below-C, polynomial, polynomial-0, Divides, divides-refl}
 use Rattle.algebra.specs.OneMinusT.{⟨1-t⟩^}
 use Rattle.algebra.specs.Homogenise.{hom, hom-C-mul}
-use Rattle.algebra.specs.Degree.{Degree, size, size-of}
+use Rattle.algebra.specs.Degree.{Degree, size}
 use Rattle.algebra.specs.Monic.{topInverse, monic, monic-is, monic-top, monic-degree, monic-divides}
 use Rattle.algebra.specs.CommonDivisor.{Bezout}
 use Rattle.algebra.specs.PrimeField.{PrimeField, scalarField}
@@ -23,8 +22,7 @@ use Rattle.lists.specs.Operations.{trim}
 use Rattle.lists.specs.Scaled.{naive-length, below-scaled, meaning-hom, length-unscaled, coefficients-unscaled, scaled-unscaled, last-one}
 use Rattle.lists.specs.Extents.{significant-le, significant-extent, significant-is-size}
 use Rattle.lists.specs.Trims.{naive-trim, trim-scaled, trim-meaning}
-use Rattle.euclid.specs.Gcds.{gcdOf}
-use Rattle.euclid.specs.Gcd.{length-gcd, coefficients-gcd, degree-gcd, gcd-ends}
+use Rattle.euclid.specs.Defined.{Head, MonicOf}
 use Rattle.albums.specs.Albums.{ended}
 
 module _ (F : PrimeField) where
@@ -32,30 +30,6 @@ module _ (F : PrimeField) where
 
   infixl 65 _+ˢ_
   infixl 70 _*ˢ_
-  pub record Head (h : List ℕ) : Type 0 where
-    pub coefficients : Coefficients F h
-    pub words : length h ≡ suc (naiveDegree h)
-    pub degree : Degree (F .series) (naiveDegree h) (scaled F h)
-    pub ends : getD h (naiveDegree h) 0 ≡ 1
-
-  -- the extent is the naive degree
-  pub head-extent : (h : List ℕ) → Head h → extent h ≡ naiveDegree h
-  unfolding extent
-  head-extent h hd =
-      let e = significant-is-size F h (hd .coefficients) in
-      let w = hd .words in
-      let s = size-of (F .series) (scalarField F) (length h) (naiveDegree h) (hd .degree) (omega arith) in
-      omega arith
-
-  pub head-gcd : (f g : List ℕ) → Coefficients F f → Coefficients F g → 0 < significant f + significant g → Head (gcdOf F f g)
-  head-gcd f g cf cg some =
-      record {
-        coefficients = coefficients-gcd F f g cf cg some;
-        words = length-gcd F f g cf cg some;
-        degree = degree-gcd F f g cf cg some;
-        ends = gcd-ends F f g cf cg some;
-      }
-
   module _ (c : List ℕ) (hc : Coefficients F c) (some : 0 < significant c) where
     -- 1 over the last word that is not 0, as a constant
     abbrev unit : S
@@ -88,7 +62,7 @@ module _ (F : PrimeField) where
     pub naive-ended : naiveDegree (ended F c) ≡ extent c
     naive-ended = naive-length (ended F c) (extent c) length-ended
 
-    pub head-ended : Head (ended F c)
+    pub head-ended : Head F (ended F c)
     head-ended =
         record {
           coefficients = coefficients-ended;
@@ -98,6 +72,15 @@ module _ (F : PrimeField) where
               last-one F (ended F c) coefficients-ended
               (ap₂ (F .series .coeff) scaled-ended naive-ended
               ∙ monic-top (F .series) (scalarField F) (length c) (extent c) (below-scaled F c) size-c);
+        }
+
+    -- it is the list's scaled form, made to have last word 1
+    pub monic-ended : MonicOf F (scaled F c) (ended F c)
+    monic-ended =
+        record {
+          unit = topInverse (F .series) (scalarField F) (length c) (scaled F c);
+          form = scaled-ended ∙ monic-is (F .series) (scalarField F) (length c) (scaled F c);
+          head = head-ended;
         }
 
     -- in u it divides the list

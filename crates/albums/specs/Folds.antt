@@ -29,8 +29,8 @@ use Rattle.euclid.specs.Gcds.{room, roundsOf, gcdOf, countOf}
 use Rattle.euclid.specs.Gcd as Two
 use Rattle.euclid.specs.Gcd.{room-right, fits-right, rounds-of-zero}
 use Rattle.euclid.specs.Powers.{significant-nil}
+use Rattle.euclid.specs.Defined.{head-gcd}
 use Rattle.albums.specs.Albums.{Result, ended, joined, gcdFrom, albumGcd}
-use Rattle.albums.specs.Ended.{head-gcd}
 use Rattle.albums.specs.Greatest.{from-none, from-zero, from-nonzero, album-zero, album-nonzero}
 
 abbrev pub zeroStart : Result

@@ -24,8 +24,9 @@ use Rattle.euclid.specs.Gcds.{gcdOf, commonPower}
 use Rattle.euclid.specs.Gcd.{gcd-left, gcd-right}
 use Rattle.euclid.specs.Powers.{significant-nil, commonPower-le, commonPower-attained}
 use Rattle.euclid.specs.Greatest.{meaning-zero, divides-list, bezout-gcd}
+use Rattle.euclid.specs.Defined.{Head, head-extent, head-gcd}
 use Rattle.albums.specs.Albums.{Result, ended, joined, gcdFrom, albumGcd}
-use Rattle.albums.specs.Ended.{Head, head-extent, head-gcd, head-ended, ended-divides, bezout-ended}
+use Rattle.albums.specs.Ended.{head-ended, ended-divides, bezout-ended}
 
 -- list i
 abbrev at : List (List ℕ) → ℕ → List ℕ

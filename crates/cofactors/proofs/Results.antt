@@ -26,6 +26,7 @@ use Rattle.refusal.specs.declared.Outcome.{Outcome}
 use Rattle.refusal.specs.declared.Outcome.the-variants.{Done}
 use Rattle.refusal.proofs.Answers.{result}
 use Rattle.lists.specs.declared.NaiveDegree.{NaiveDegree}
+use Rattle.lists.specs.declared.Power.{Power}
 use Rattle.lists.specs.Tabulate.{tabulate-ext}
 use Rattle.lists.specs.Scaled.{length-unscaled}
 use Rattle.euclid.specs.Gcds.{roundsOf, gcdOf, commonPower, cofactorA, cofactorB, padded}
@@ -33,6 +34,7 @@ use Rattle.euclid.specs.Cofactors.{cofactors-are, cofactors-only}
 use Rattle.euclid.specs.Loops.{rounds-room, topInverse-room, padded-is}
 use Rattle.field.specs.Field.{inverseOrZero}
 use Rattle.gcd.specs.declared.Gcd.{Gcd}
+use Rattle.gcd.specs.declared.Rounds.{Rounds}
 use Rattle.gcd.specs.declared.Gcd.the-variants as G
 use Rattle.gcd.specs.Calls.{gcdReply, gcdValues, Greatest}
 use Rattle.gcd.specs.Workers.{Ready}
@@ -100,8 +102,8 @@ module _ (F : PrimeField) where
       ∙ ap (λ c. m ⊗ c) (coeff-seriesOf F form k ∙ low .at k (omega arith)) ∙ sym (coeff-C-mul (F .series) m s k)
 
   -- what is written from the row is what the definitions name
-  pub results : (n : ℕ) → 1 < n → (f g h a b : List ℕ) {row h′ a′ b′ : List ℕ} {w : NaiveDegree} {c rounds : ℕ} → Ready F n f g → Slices n f g h a b
-      → Found F n f g row rounds → Wrote F n row (length a) (length b) (w .0) h′ a′ b′ → c ≡ commonPower (f ∷ g ∷ [])
+  pub results : (n : ℕ) → 1 < n → (f g h a b : List ℕ) {row h′ a′ b′ : List ℕ} {w : NaiveDegree} {c : Power} {rounds : Rounds} → Ready F n f g → Slices n f g h a b
+      → Found F n f g row (rounds .0) → Wrote F n row (length a) (length b) (w .0) h′ a′ b′ → c .0 ≡ commonPower (f ∷ g ∷ [])
       → Results F n f g (G.Done w c rounds) h′ a′ b′
   results n more f g h a b {row} {w = w} r sl e o ec =
       record {

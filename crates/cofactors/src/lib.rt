@@ -21,6 +21,7 @@ ghost use Rattle.cofactors.specs.Calls.{cofactorRows, cofactorRefusals, 
 ghost use Rattle.cofactors.specs.Workers.{partX, turned, Started, Cut, Carried, Ends};
 ghost use Rattle.cofactors.specs.Workers.{wrongSlices, timesList, Found, LastRow, Wrote, Slices, Results};
 use gcd::Gcd;
+use gcd::Rounds;
 use lists::NaiveDegree;
 use refusal::Outcome;
 use refusal::Refusal;
@@ -344,7 +345,7 @@ fn cofactors_in(
     let ended = find_last(field, n, whole, part, inverses, f, g, u, v, q);
     let w = write_last(field, n, whole, part, inverses, ended.first, u, v, h, a, b);
     let c = rounds::common_power(f, g);
-    Gcd::Done(w, c, ended.rounds)
+    Gcd::Done(w, c, Rounds(ended.rounds))
 }
 
 // The number of words of the longest row.

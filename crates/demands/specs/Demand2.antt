@@ -1,42 +1,52 @@
 -- Demand 2, call by call, of every call to which no refusal applies: `lowest` of the call's rows is Done. What the calls then answer and
 -- write are the definitions named here (their contracts say so); this module says that they are the ones document 01 speaks of, each line by
 -- the theorem that shows it.
---     TheList      the one list of n words that means s: it has n words, means s, and no other list of n coefficients does
+--     TheWord      the one word below p that stands for an element of the field
+--     IsValue      the word stands for P(x), P being the polynomial of the list f
+--     TheValue     the one word below p that does
+--     TheList      the one list of n coefficients that means s: no other list of n coefficients does
+--     TheTrim      the one list of coefficients with the scaled form of f whose naive degree is the extent of f
+--     IsExtent     the largest k with c_k not 0
+--     none         a record of zeros
+--     entryOf      record i of those that contents writes
+--     Contained    what the calls hand out of an album that holds some lists: check on list i is done, read_list gives its words and naive
+--                  degree, body its bytes, contents the place of its bytes and its naive degree
 --     Demand2      the demand, over a prime field F with more elements than a list has words
 --     demand2      that it holds
 --     of-engine    of the field of 65,521 elements
 -- Assumes nothing.
-use mathlib.Core.Path.{_≡_, refl, sym, _∙_}
+use mathlib.Core.Path.{_≡_, refl, sym, _∙_, ap, ap₂}
 use mathlib.Core.Bool.{false}
 use mathlib.Core.List.{List, [], _∷_}
-use Prim.Native.Nat.{ℕ, zero, suc, _+_, _≤_, _<_, max}
-use native.Mathlib.Nat.{le-of-lt}
+use Prim.Native.Nat.{ℕ, zero, suc, _+_, _*_, _≤_, _<_, max}
+use native.Mathlib.Nat.{le-of-lt, zero-add, add-comm}
 use native.Mathlib.Omega.{arith}
 use lib.Dec.{eqb}
-use lib.ListN.{length, getD}
-use borrow.Author.Tests.{eq-eqb, eqb-false}
+use lib.ListN.{length, getD, take, drop}
+use borrow.Author.Tests.{eq-eqb, eqb-false, lt-ltb, le-ltb}
 use Rattle.algebra.specs.Ring.{CommRing}
-use Rattle.algebra.specs.Evaluation.{ValueAt}
+use Rattle.algebra.specs.Evaluation.{ValueAt, eval, eval-more}
 use Rattle.algebra.specs.Derivative as D
-use Rattle.algebra.specs.PrimeField.{PrimeField, positive, scalars, residue}
+use Rattle.algebra.specs.PrimeField.{PrimeField, positive, scalars, residue, value, value-residue}
 use Rattle.field.specs.Fields.{longest, F65521}
 use Rattle.field.specs.FieldsLaws.{longest-in}
 use Rattle.refusal.specs.Limits.{maxLists, maxWords}
+use Rattle.refusal.specs.Refusal.{written}
 use Rattle.refusal.specs.Lowest.{lowest}
 use Rattle.refusal.specs.declared.Outcome.the-variants.{Done}
 use Rattle.refusal.proofs.First.{first-then, refuse-done, or-else-done}
 use Rattle.field.specs.Field as field
-use Rattle.field.specs.Theorems.{residue-sum, residue-difference, residue-product, inverse-is}
-use Rattle.lists.specs.Bytes.{Bytes}
+use Rattle.field.specs.Theorems.{residue-sum, residue-difference, residue-product, sum-lt, difference-lt, product-lt, inverse-is}
+use Rattle.lists.specs.Bytes.{byteValues, Bytes, wordsOf, bytesOf, length-bytesOf, words-of-bytes, bytes-words}
 use Rattle.lists.specs.Degrees.{naiveDegree, significant, extent}
 use Rattle.lists.specs.Refused.{hasLoose, anyOf, listRefusals}
 use Rattle.lists.specs.Lists.{Coefficients, meaning, scaled}
 use Rattle.lists.specs.Operations.{product, raise, larger, sumOf, differenceOf, trim, derivative, evaluate}
-use Rattle.lists.specs.Scaled.{length-naive, coefficients-listed, meaning-injective}
+use Rattle.lists.specs.Scaled.{length-naive, coefficients-listed, scaled-injective, meaning-injective}
 use Rattle.lists.specs.Products.{length-product, coefficients-product, product-meaning, length-raise, coefficients-raise, raise-meaning}
 use Rattle.lists.specs.Sums.{length-sum, coefficients-sum, sum-meaning, length-difference, coefficients-difference, difference-meaning}
-use Rattle.lists.specs.Extents.{extent-largest}
-use Rattle.lists.specs.Trims.{length-trim, trim-scaled}
+use Rattle.lists.specs.Extents.{extent-largest, after-significant}
+use Rattle.lists.specs.Trims.{length-trim, coefficients-trim, trim-scaled}
 use Rattle.lists.specs.Calculus.{length-derivative, coefficients-derivative, derivative-meaning, evaluate-lt, evaluate-meaning}
 use Rattle.lists.proofs.Judged.{one-listed}
 use Rattle.euclid.specs.Quotients.{quotientOf, remainderOf}
@@ -47,15 +57,34 @@ use Rattle.sums.proofs.Judged.{sum-fits}
 use Rattle.extents.specs.Calls.{trimRows, trimRefusals}
 use Rattle.derivatives.specs.Calls.{derivativeWords, derivativeRows, derivativeRefusals}
 use Rattle.division.specs.Calls.{divideRefusals, DividesSo}
-use Rattle.layout.specs.Layout.{count, wrongCount, brokenLayout, listsOf}
-use Rattle.layout.specs.Calls.{checkRefusals}
-use Rattle.layout.specs.Written.{albumOf}
+use Rattle.layout.specs.Layout.{count, degreeAt, startAt, wrongCount, brokenLayout, listAt, listsOf}
+use Rattle.layout.specs.Calls.{checkRefusals, bodyOf}
+use Rattle.layout.specs.Written.{albumOf, Writable, album-read, album-obeys, album-is-bytes}
 use Rattle.layout.specs.Reading.{album-is-read}
-use Rattle.layout.specs.Whole.{album-whole}
+use Rattle.layout.specs.Whole.{album-whole, body-whole}
+use Rattle.layout.specs.Places.{length-list, length-lists, list-at, obeys}
+use Rattle.contents.specs.Calls.{recordAt, recordsFrom}
+use Rattle.contents.specs.declared.Entry.{Entry}
 use Rattle.demands.specs.Demand3.{demand3}
 
+pub record IsExtent (c : List ℕ) (e : ℕ) : Type 0 where
+  pub nonzero : ¬ (getD c e 0 ≡ 0)
+  pub last : (k : ℕ) → e < k → getD c k 0 ≡ 0
+
+abbrev pub none : Entry
+none = record { offset = 0; degree = 0 }
+
+abbrev pub entryOf : List ℕ → ℕ → Entry
+entryOf s i = getD (recordsFrom s 0 maxLists) i none
+
+records-at : (s : List ℕ) (n k i : ℕ) → i < n → getD (recordsFrom s k n) i none ≡ recordAt s (k + i)
+unfolding recordsFrom
+records-at s zero k i l = absurd (omega arith)
+records-at s (suc n) k zero l = let e : k ≡ k + 0 = omega arith in ap (recordAt s) e
+records-at s (suc n) k (suc i) l = let e : suc k + i ≡ k + suc i = omega arith in records-at s n (suc k) i (omega arith) ∙ ap (recordAt s) e
+
 module _ (F : PrimeField) where
-  open CommRing (scalars F) using (neg as ⊖_, add as _⊕_, mul as _⊗_)
+  open CommRing (scalars F) using (Carrier as K, neg as ⊖_, add as _⊕_, mul as _⊗_)
   open CommRing (F .series .ring) using (Carrier as S, neg as -ˢ_, add as _+ˢ_, mul as _*ˢ_)
 
   infixl 65 _⊕_
@@ -64,17 +93,48 @@ module _ (F : PrimeField) where
   infixl 65 _+ˢ_
   infixl 70 _*ˢ_
   infix 80 -ˢ_
+  pub record TheWord (x : K) (w : ℕ) : Type 0 where
+    pub below : w < F .p
+    pub is : residue F w ≡ x
+    pub only : (other : ℕ) → other < F .p → residue F other ≡ x → other ≡ w
+
+  abbrev pub IsValue : List ℕ → (x w : ℕ) → Type 0
+  IsValue f x w = ValueAt (F .series) (residue F x) (meaning F f) (residue F w)
+
+  pub record TheValue (f : List ℕ) (x w : ℕ) : Type 0 where
+    pub below : w < F .p
+    pub is : IsValue f x w
+    pub only : (other : ℕ) → other < F .p → IsValue f x other → other ≡ w
+
   pub record TheList (n : ℕ) (s : S) (c : List ℕ) : Type 0 where
+    pub coefficients : Coefficients F c
     pub words : length c ≡ n
     pub means : meaning F c ≡ s
     pub only : (other : List ℕ) → Coefficients F other → length other ≡ n → meaning F other ≡ s → other ≡ c
 
+  pub record TheTrim (f c : List ℕ) : Type 0 where
+    pub coefficients : Coefficients F c
+    pub words : length c ≡ suc (extent f)
+    pub same : scaled F c ≡ scaled F f
+    pub only : (other : List ℕ) → Coefficients F other → length other ≡ suc (extent f) → scaled F other ≡ scaled F f → other ≡ c
+
+  pub record Contained (s : List ℕ) (lists : List (List ℕ)) : Type 0 where
+    pub number : length lists ≡ count s
+    pub passes : (i : ℕ) → i < count s → lowest (checkRefusals (F .p) s i) ≡ Done
+    pub words : (i : ℕ) → i < count s → listAt s i ≡ getD lists i []
+    pub degree : (i : ℕ) → i < count s → degreeAt s i ≡ naiveDegree (getD lists i [])
+    pub bytes : (i : ℕ) → i < count s → bodyOf (F .p) s i ≡ bytesOf (getD lists i [])
+    -- record i names the place of these bytes; the records after the last list are zeros
+    pub records : (i : ℕ) → i < count s → (entryOf s i .degree ≡ naiveDegree (getD lists i []))
+        × (take (length (bytesOf (getD lists i []))) (drop (entryOf s i .offset) s) ≡ bytesOf (getD lists i []))
+    pub zeros : (i : ℕ) → count s ≤ i → i < maxLists → entryOf s i ≡ none
+
   pub record Demand2 : Type 0 where
     -- coefficients, as elements of the field
     pub of-coefficients : (a b : ℕ) → a < F .p → b < F .p
-        → (residue F (field.sumOf (F .p) a b) ≡ residue F a ⊕ residue F b)
-        × (residue F (field.differenceOf (F .p) a b) ≡ residue F a ⊕ ⊖ residue F b)
-        × (residue F (field.productOf (F .p) a b) ≡ residue F a ⊗ residue F b)
+        → TheWord (residue F a ⊕ residue F b) (field.sumOf (F .p) a b)
+        × TheWord (residue F a ⊕ ⊖ residue F b) (field.differenceOf (F .p) a b)
+        × TheWord (residue F a ⊗ residue F b) (field.productOf (F .p) a b)
     pub of-inverse : (a : ℕ) → 0 < a → a < F .p → field.IsInverse (F .p) a (field.inverseOf F a)
     -- lists
     pub of-product : (f g out : List ℕ) → lowest (productRefusals (F .p) f g out) ≡ Done
@@ -86,26 +146,89 @@ module _ (F : PrimeField) where
     pub of-difference : (f g out : List ℕ) → lowest (sumRefusals (F .p) f g out) ≡ Done
         → TheList (suc (max (naiveDegree f) (naiveDegree g))) (meaning F f +ˢ -ˢ meaning F g) (differenceOf F f g)
     -- the extent: the largest k with c_k not 0
-    pub of-extent : (f : List ℕ) → 0 < significant f → (¬ (getD f (extent f) 0 ≡ 0)) × ((k : ℕ) → extent f < k → getD f k 0 ≡ 0)
+    pub of-extent : (f : List ℕ) → 0 < significant f → IsExtent f (extent f)
+    pub of-zero : (f : List ℕ) → significant f ≡ 0 → (k : ℕ) → getD f k 0 ≡ 0
     -- top zeros removed: the same scaled form, naive degree equal to the extent
-    pub of-trim : (f out : List ℕ) → lowest (trimRefusals (F .p) f out) ≡ Done
-        → (length (trim F f) ≡ suc (extent f)) × (scaled F (trim F f) ≡ scaled F f)
+    pub of-trim : (f out : List ℕ) → lowest (trimRefusals (F .p) f out) ≡ Done → TheTrim f (trim F f)
     pub of-derivative : (f out : List ℕ) → lowest (derivativeRefusals (F .p) f out) ≡ Done
         → TheList (derivativeWords f) (D.derivative (F .series) (meaning F f)) (derivative F f)
-    pub of-value : (f : List ℕ) (x : ℕ) → (evaluate F f x < F .p) × ValueAt (F .series) (residue F x) (meaning F f) (residue F (evaluate F f x))
+    pub of-value : (f : List ℕ) (x : ℕ) → TheValue f x (evaluate F f x)
     -- quotient and remainder
     pub of-division : (g f q r : List ℕ) → lowest (divideRefusals (F .p) g f q r) ≡ Done
         → DividesSo F g f (quotientOf F g f) (remainderOf F g f)
-    -- an album of bytes that obeys the layout and has no loose word is read: a call on any of its lists is done, and it is the album of the
-    -- lists that are read
+    -- an album of bytes that obeys the layout and has no loose word is read: it is the album of its lists, and these are handed out
     pub of-reading : (s : List ℕ) → Bytes s → wrongCount maxLists s ≡ false → brokenLayout s ≡ false
-        → anyOf (hasLoose (F .p)) (listsOf s) ≡ false
-        → ((i : ℕ) → i < count s → lowest (checkRefusals (F .p) s i) ≡ Done) × (albumOf (listsOf s) ≡ s)
+        → anyOf (hasLoose (F .p)) (listsOf s) ≡ false → (albumOf (listsOf s) ≡ s) × Contained s (listsOf s)
+    -- the layout's rules, as those of the albums that hold some lists: such an album is one of bytes, obeys the layout, and its lists are these
+    pub of-albums : (lists : List (List ℕ)) → Writable lists → Bytes (albumOf lists)
+        × (wrongCount maxLists (albumOf lists) ≡ false) × (brokenLayout (albumOf lists) ≡ false) × (listsOf (albumOf lists) ≡ lists)
+    -- the words of a list as the bytes of a host, and back
+    pub of-bytes : (c : List ℕ) → ((k : ℕ) → getD c k 0 < byteValues * byteValues) → Bytes (bytesOf c) × (wordsOf (bytesOf c) ≡ c)
+
+  -- two words below p that stand for one element of the field
+  same-word : (v w : ℕ) → v < F .p → w < F .p → residue F v ≡ residue F w → v ≡ w
+  same-word v w l m e = sym (value-residue F v l) ∙ ap (value F) e ∙ value-residue F w m
+
+  the-word : {x : K} {w : ℕ} → w < F .p → residue F w ≡ x → TheWord x w
+  the-word {x} {w} l e = record { below = l; is = e; only = λ v m q. same-word v w m l (q ∙ sym e) }
+
+  -- a polynomial has one value at a point
+  one-value : (x : K) {s : S} {u v : K} → ValueAt (F .series) x s u → ValueAt (F .series) x s v → u ≡ v
+  one-value x {s} h k =
+      sym (h .is) ∙ sym (eval-more (F .series) x (h .bound) (k .bound) (h .below))
+      ∙ ap (λ n. eval (F .series) x n s) (add-comm (h .bound) (k .bound)) ∙ eval-more (F .series) x (k .bound) (h .bound) (k .below)
+      ∙ k .is
+
+  the-value : (f : List ℕ) (x : ℕ) → TheValue f x (evaluate F f x)
+  the-value f x =
+      let l = evaluate-lt F f x in
+      let e = evaluate-meaning F f x in
+      record { below = l; is = e; only = λ v m h. same-word v _ m l (one-value (residue F x) h e) }
+
+  module _ (s : List ℕ) (bytes : Bytes s) (counted : wrongCount maxLists s ≡ false) (laid : brokenLayout s ≡ false) where
+    record-is : (i : ℕ) → i < count s → entryOf s i ≡ record { offset = startAt s i; degree = degreeAt s i }
+    unfolding recordAt
+    record-is i l =
+        let o = obeys s counted laid in
+        records-at s maxLists 0 i (omega (arith, o .few)) ∙ ap (recordAt s) (zero-add i)
+        ∙ simp (lt-ltb i (count s) l, o .placed i l)
+
+    record-none : (i : ℕ) → count s ≤ i → i < maxLists → entryOf s i ≡ none
+    unfolding recordAt
+    record-none i l m = records-at s maxLists 0 i m ∙ ap (recordAt s) (zero-add i) ∙ simp (le-ltb i (count s) l)
+
+    degree-of : (i : ℕ) → i < count s → degreeAt s i ≡ naiveDegree (getD (listsOf s) i [])
+    unfolding naiveDegree
+    degree-of i l = omega (arith, length-list s i, ap length (list-at s i l))
+
+    part : (i : ℕ) → i < count s → take (2 * (degreeAt s i + 1)) (drop (startAt s i) s) ≡ bytesOf (getD (listsOf s) i [])
+    part i l = body-whole s bytes counted laid i l ∙ ap bytesOf (sym (list-at s i l))
+
+    size : (i : ℕ) → i < count s → length (bytesOf (getD (listsOf s) i [])) ≡ 2 * (degreeAt s i + 1)
+    size i l = length-bytesOf (getD (listsOf s) i []) ∙ ap (λ n. 2 * n) (ap length (list-at s i l) ∙ length-list s i)
+
+    contained : anyOf (hasLoose (F .p)) (listsOf s) ≡ false → Contained s (listsOf s)
+    unfolding bodyOf
+    contained tight =
+        let passes = album-is-read s counted laid (F .p) tight in
+        record {
+          number = length-lists s;
+          passes = passes;
+          words = λ i l. sym (list-at s i l);
+          degree = degree-of;
+          bytes = λ i l. ap (λ o. written o (take (2 * (degreeAt s i + 1)) (drop (startAt s i) s)) []) (passes i l) ∙ part i l;
+          records =
+              λ i l. (
+                ap (λ e. e .degree) (record-is i l) ∙ degree-of i l,
+                ap₂ (λ n at. take n (drop at s)) (size i l) (ap (λ e. e .offset) (record-is i l)) ∙ part i l,
+              );
+          zeros = record-none;
+        }
 
   module _ (wide : maxWords ≤ F .p) where
     the-list : (n : ℕ) (s : S) (c : List ℕ) → length c ≡ n → Coefficients F c → meaning F c ≡ s → TheList n s c
     the-list n s c e g m =
-        record { words = e; means = m; only = λ d h l q. meaning-injective F d c h g (l ∙ sym e) (q ∙ sym m) }
+        record { coefficients = g; words = e; means = m; only = λ d h l q. meaning-injective F d c h g (l ∙ sym e) (q ∙ sym m) }
 
     product-is : (f g out : List ℕ) → lowest (productRefusals (F .p) f g out) ≡ Done
         → TheList (suc (naiveDegree f + naiveDegree g)) (meaning F f *ˢ meaning F g) (product F f g)
@@ -154,14 +277,16 @@ module _ (F : PrimeField) where
         let l = larger-small f g out e in
         the-list _ _ _ (length-difference F f g) (coefficients-difference F f g l) (difference-meaning F f g l)
 
-    trim-is : (f out : List ℕ) → lowest (trimRefusals (F .p) f out) ≡ Done
-        → (length (trim F f) ≡ suc (extent f)) × (scaled F (trim F f) ≡ scaled F f)
+    trim-is : (f out : List ℕ) → lowest (trimRefusals (F .p) f out) ≡ Done → TheTrim f (trim F f)
     unfolding trimRefusals trimRows listRefusals
     trim-is f out e =
         let d = or-else-done _ _ (sym (first-then (listRefusals (F .p) maxWords (f ∷ [])) _ tt) ∙ e) in
         let z = eqb-false (significant f) 0 (refuse-done (eqb (significant f) 0) _ _ (d .1) .0) in
-        let l = one-listed (F .p) maxWords (positive F) f (d .0) in
-        (length-trim F f (omega arith), trim-scaled F f (coefficients-listed F wide l))
+        let h = coefficients-listed F wide (one-listed (F .p) maxWords (positive F) f (d .0)) in
+        let g = coefficients-trim F f h in
+        let n = length-trim F f (omega arith) in
+        let same = trim-scaled F f h in
+        record { coefficients = g; words = n; same = same; only = λ c i l q. scaled-injective F c (trim F f) i g (l ∙ sym n) (q ∙ sym same) }
 
     -- the list that a derivative is handed
     derivative-listed : (f out : List ℕ) → lowest (derivativeRefusals (F .p) f out) ≡ Done → Coefficients F f
@@ -186,21 +311,28 @@ module _ (F : PrimeField) where
   demand2 wide =
       record {
         of-coefficients =
-            λ a b l m. (residue-sum F a b, residue-difference F a b (le-of-lt m), residue-product F a b);
+            λ a b l m. (
+              the-word (sum-lt F a b) (residue-sum F a b),
+              the-word (difference-lt F a b) (residue-difference F a b (le-of-lt m)),
+              the-word (product-lt F a b) (residue-product F a b),
+            );
         of-inverse = inverse-is F;
         of-product = product-is wide;
         of-raise = raise-is wide;
         of-sum = sum-is wide;
         of-difference = difference-is wide;
-        of-extent = extent-largest;
+        of-extent = λ f l. let e = extent-largest f l in record { nonzero = e .0; last = e .1 };
+        of-zero = λ f e k. after-significant f k (omega arith);
         of-trim = trim-is wide;
         of-derivative =
             λ f out e.
             the-list wide _ _ _ (derivative-length wide f) (coefficients-derivative F f (derivative-listed wide f out e)) (derivative-meaning F f);
-        of-value = λ f x. (evaluate-lt F f x, evaluate-meaning F f x);
+        of-value = the-value;
         of-division = demand3 F wide .of-division;
         of-reading =
-            λ s bytes counted laid tight. (album-is-read s counted laid (F .p) tight, album-whole s bytes counted laid);
+            λ s bytes counted laid tight. (album-whole s bytes counted laid, contained s bytes counted laid tight);
+        of-albums = λ lists w. (album-is-bytes lists w, album-obeys lists w .0, album-obeys lists w .1, album-read lists w);
+        of-bytes = λ c h. (bytes-words c h, words-of-bytes c);
       }
 
 pub of-engine : Demand2 F65521

@@ -1,5 +1,6 @@
 -- Division of lists: the quotient q and the remainder r meet g = q·f + (1-t)^(e-d+1)·r, and no other lists of their lengths do.
 --     Divisible         what a division asks: f has words, g has no fewer, and f's last word is not 0
+--     meaning-at-1      f(1) is the last word of f: it is the value of the polynomial of f at 1
 -- Assumes nothing.
 use mathlib.Core.Path.{_≡_, sym, _∙_, ap, ap₂, subst}
 use mathlib.Core.List.{List}
@@ -9,14 +10,15 @@ use native.Mathlib.Omega.{arith}
 use lib.ListN.{getD, length}
 use Rattle.algebra.specs.Ring.{CommRing}
 use Rattle.algebra.specs.Polynomial.{Below, below-mono, below-add, below-mul, polynomial}
+use Rattle.algebra.specs.Evaluation.{ValueAt1}
 use Rattle.algebra.specs.OneMinusT.{⟨1-t⟩^}
-use Rattle.algebra.specs.Homogenise.{hom, hom-add, hom-mul, hom-eq, hom-short}
+use Rattle.algebra.specs.Homogenise.{hom, hom-add, hom-mul, hom-eq, hom-short, valueAt1-hom}
 use Rattle.algebra.specs.Degree.{Degree}
 use Rattle.algebra.specs.Division.{quotient, remainder, division, remainder-below, quotient-below, division-unique}
-use Rattle.algebra.specs.PrimeField.{PrimeField, scalarField}
+use Rattle.algebra.specs.PrimeField.{PrimeField, scalarField, residue}
 use Rattle.lists.specs.Degrees.{naiveDegree}
-use Rattle.lists.specs.Lists.{Coefficients, meaning, scaled}
-use Rattle.lists.specs.Scaled.{length-naive, naive-length, coefficient-nonzero, coeff-scaled, below-scaled, below-naive, meaning-hom, length-unscaled, coefficients-unscaled, scaled-unscaled, scaled-injective}
+use Rattle.lists.specs.Lists.{Coefficients, word, meaning, scaled}
+use Rattle.lists.specs.Scaled.{length-naive, naive-length, coefficient-nonzero, coefficient-last, coeff-scaled, below-scaled, below-naive, meaning-hom, length-unscaled, coefficients-unscaled, scaled-unscaled, scaled-injective}
 use Rattle.euclid.specs.Quotients.{steps, quotientOf, remainderOf}
 
 module _ (F : PrimeField) where
@@ -30,6 +32,11 @@ module _ (F : PrimeField) where
     pub some : 0 < length f
     pub order : length f ≤ length g
     pub end : ¬ (getD f (naiveDegree f) 0 ≡ 0)
+
+  pub meaning-at-1 : (f : List ℕ) → ValueAt1 (F .series) (meaning F f) (residue F (getD f (naiveDegree f) 0))
+  unfolding word
+  meaning-at-1 f =
+      rw (meaning-hom F f, sym (coeff-scaled F f (naiveDegree f) ∙ coefficient-last F f)) (valueAt1-hom (F .series) (naiveDegree f) (scaled F f))
 
   pub length-quotient : (g f : List ℕ) → length (quotientOf F g f) ≡ steps g f
   unfolding quotientOf

@@ -6,3 +6,4 @@ pub mod Loops
 pub mod Powers
 pub mod Cofactors
 pub mod Greatest
+pub mod Defined

@@ -23,6 +23,7 @@ use Rattle.field.specs.Theorems.{residue-inverse}
 use Rattle.inverses.proofs.OrZero.{inverse-some}
 use Rattle.tables.specs.Factorials.{Tables}
 use Rattle.lists.specs.declared.NaiveDegree.{NaiveDegree}
+use Rattle.lists.specs.declared.Power.{Power}
 use Rattle.lists.specs.Degrees.{naiveDegree, significant, extent}
 use Rattle.lists.specs.Extents.{significant-le, extent-largest}
 use Rattle.lists.specs.Lists.{Coefficients, scaled, unscaled}
@@ -35,6 +36,7 @@ use Rattle.rounds.specs.Round.{multiplied, writeFits, writtenWords, writtenList
 use Rattle.rounds.proofs.Turns.{significant-series}
 use Rattle.rounds.proofs.Written.{write-is}
 use Rattle.gcd.specs.declared.Gcd.{Gcd}
+use Rattle.gcd.specs.declared.Rounds.{Rounds}
 use Rattle.gcd.specs.declared.Gcd.the-variants as G
 use Rattle.gcd.specs.Calls.{gcdReply, gcdValues, GreatestSo, Greatest}
 use Rattle.gcd.specs.Workers.{Ready, Buffer, Holds, euclidOn, monicList, LastOf, gcdDone}
@@ -44,11 +46,12 @@ module _ (F : PrimeField) where
   open CommRing (F .series .ring) using (mul as _*ˢ_)
 
   infixl 70 _*ˢ_
-  pub gcd-done : (f g : List ℕ) (w : NaiveDegree) (c rounds : ℕ) → w .0 ≡ naiveDegree (gcdOf F f g) → c ≡ commonPower (f ∷ g ∷ [])
-      → rounds ≡ countOf F f g → G.Done w c rounds ≡ gcdDone F f g
+  pub gcd-done : (f g : List ℕ) (w : NaiveDegree) (c : Power) (rounds : Rounds) → w .0 ≡ naiveDegree (gcdOf F f g)
+      → c .0 ≡ commonPower (f ∷ g ∷ []) → rounds .0 ≡ countOf F f g → G.Done w c rounds ≡ gcdDone F f g
   unfolding gcdDone
   gcd-done f g w c rounds ew ec er =
-      ap (λ n. G.Done (record { 0 = n }) c rounds) ew ∙ ap₂ (G.Done (record { 0 = naiveDegree (gcdOf F f g) })) ec er
+      ap (λ n. G.Done (record { 0 = n }) c rounds) ew
+      ∙ ap₂ (λ n m. G.Done (record { 0 = naiveDegree (gcdOf F f g) }) (record { 0 = n }) (record { 0 = m })) ec er
 
   module _ (n : ℕ) (f g : List ℕ) (r : Ready F n f g) where
     -- the answer has the promised property

@@ -27,7 +27,7 @@ use Rattle.gcd.specs.declared.Gcd.{Gcd}
 use Rattle.gcd.specs.declared.Gcd.the-variants.{Done, Refused}
 
 abbrev pub gcdReply : Gcd → Reply
-gcdReply (Done w c rounds) = record { number = 0; values = w .0 ∷ c ∷ rounds ∷ [] }
+gcdReply (Done w c rounds) = record { number = 0; values = w .0 ∷ c .0 ∷ rounds .0 ∷ [] }
 gcdReply (Refused why) = record { number = number why; values = [] }
 
 unfoldable pub gcdValues : PrimeField → (f g : List ℕ) → List ℕ
@@ -51,5 +51,5 @@ pub record GreatestSo (F : PrimeField) (f g slice : List ℕ) (w c rounds : ℕ)
 
 -- of an answer that is no refusal
 abbrev pub Greatest : PrimeField → (f g slice : List ℕ) → Gcd → Type 0
-Greatest F f g slice (Done w c rounds) = GreatestSo F f g slice (w .0) c rounds
+Greatest F f g slice (Done w c rounds) = GreatestSo F f g slice (w .0) (c .0) (rounds .0)
 Greatest F f g slice (Refused why) = Unit {0}

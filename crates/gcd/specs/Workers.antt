@@ -61,4 +61,5 @@ module _ (F : PrimeField) where
     pub list : monicList n (seriesOf F last) ≡ gcdOf F f g
 
   unfoldable pub gcdDone : (f g : List ℕ) → Gcd
-  gcdDone f g = G.Done (record { 0 = naiveDegree (gcdOf F f g) }) (commonPower (f ∷ g ∷ [])) (countOf F f g)
+  gcdDone f g =
+      G.Done (record { 0 = naiveDegree (gcdOf F f g) }) (record { 0 = commonPower (f ∷ g ∷ []) }) (record { 0 = countOf F f g })

@@ -19,12 +19,16 @@ ghost use Rattle.gcd.specs.Workers.{Buffer, Holds, euclidOn, monicList};
 ghost use Rattle.gcd.specs.Workers.{Ready};
 ghost use Rattle.gcd.specs.Workers.{LastOf, gcdDone};
 use lists::NaiveDegree;
+use lists::Power;
 use refusal::Outcome;
 use refusal::Refusal;
 
+// The number of Euclid's rounds.
+pub struct Rounds(pub usize);
+
 // The answer of a GCD: the naive degree w of h, the number c of factors 1-t, and the number of rounds.
 pub enum Gcd {
-    Done(NaiveDegree, usize, usize),
+    Done(NaiveDegree, Power, Rounds),
     Refused(Refusal),
 }
 
@@ -237,7 +241,7 @@ fn gcd_in(
     let ended = find_last(field, whole, part, inverses, f, g, x, y, q);
     let w = write_last(field, whole, part, inverses, ended.first, x, y, h);
     let c = rounds::common_power(f, g);
-    Gcd::Done(w, c, ended.rounds)
+    Gcd::Done(w, c, Rounds(ended.rounds))
 }
 
 // The GCD where nothing is refused, with tables that are lent.

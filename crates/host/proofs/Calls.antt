@@ -16,6 +16,7 @@ use Rattle.refusal.specs.declared.Refusal.{Refusal}
 use Rattle.refusal.specs.declared.Outcome.{Outcome}
 use Rattle.refusal.specs.declared.Outcome.the-variants.{Done, Refused}
 use Rattle.lists.specs.declared.NaiveDegree.{NaiveDegree}
+use Rattle.lists.specs.declared.Power.{Power}
 use Rattle.lists.specs.Degrees.{significant}
 use Rattle.lists.specs.Operations.{product}
 use Rattle.euclid.specs.Quotients.{quotientOf, remainderOf}
@@ -24,6 +25,7 @@ use Rattle.products.specs.Calls as P
 use Rattle.division.specs.Calls as D
 use Rattle.gcd.specs.declared.Gcd.{Gcd}
 use Rattle.gcd.specs.declared.Gcd.the-variants as G
+use Rattle.gcd.specs.declared.Rounds.{Rounds}
 use Rattle.gcd.specs.Calls as E
 use Rattle.gcd.specs.Calls.{gcdReply, gcdValues, Greatest}
 use Rattle.lists.specs.Bytes.{wordsOf, bytesOf}
@@ -136,9 +138,9 @@ module _ {most : ℕ} where
         ap₂ (λ x y. lowest (E.gcdRows p most x y c)) (call .words-f) (call .words-g)
         ∙ gcd-rows most p f g h answer some c (call .good-f) (call .good-g) (call .room)
 
-    module _ {w : NaiveDegree} {power rounds : ℕ} (d : found ≡ G.Done w power rounds) where
-      told : (lowest (E.gcdRows p most a b c) ≡ Done) × (w .0 ∷ power ∷ rounds ∷ [] ≡ gcdValues F a b)
-      told = done-reply (lowest (E.gcdRows p most a b c)) (w .0 ∷ power ∷ rounds ∷ []) (gcdValues F a b) (sym (ap gcdReply d) ∙ call .says)
+    module _ {w : NaiveDegree} {power : Power} {rounds : Rounds} (d : found ≡ G.Done w power rounds) where
+      told : (lowest (E.gcdRows p most a b c) ≡ Done) × (w .0 ∷ power .0 ∷ rounds .0 ∷ [] ≡ gcdValues F a b)
+      told = done-reply (lowest (E.gcdRows p most a b c)) (w .0 ∷ power .0 ∷ rounds .0 ∷ []) (gcdValues F a b) (sym (ap gcdReply d) ∙ call .says)
 
       gcd-completes : lowest (gcdRowsOver p most f g h answer) ≡ Done
       gcd-completes = sym gcd-same ∙ told .0
@@ -151,14 +153,14 @@ module _ {most : ℕ} where
           (omega arith, omega arith, e .1)
 
       pub gcd-small : {c′ : List ℕ} → c′ ≡ written (lowest (E.gcdRows p most a b c)) (padded most (gcdOf F a b)) c
-          → length c′ ≡ length c → Greatest F a b c′ found → Small (w .0) power rounds
+          → length c′ ≡ length c → Greatest F a b c′ found → Small (w .0) (power .0) (rounds .0)
       gcd-small {c′} wc l k =
           small F most room a b c′ (rw (call .words-f) (good-list most f (call .good-f) .1)) (rw (call .words-g) (good-list most g (call .good-g) .1)) (let s = gcd-fits in omega arith)
           (λ z. gcd-whole most p f g h answer gcd-completes .2 (sym (ap₂ (λ x y. significant x + significant y) (call .words-f) (call .words-g)) ∙ z))
           (rw d at k) (told .1)
 
       pub gcd-done : {c′ h′ answer′ : List ℕ} → c′ ≡ written (lowest (E.gcdRows p most a b c)) (padded most (gcdOf F a b)) c
-          → h′ ≡ bytesOf c′ → answer′ ≡ bytesOf (w .0 ∷ power ∷ rounds ∷ [])
+          → h′ ≡ bytesOf c′ → answer′ ≡ bytesOf (w .0 ∷ power .0 ∷ rounds .0 ∷ [])
           → (0 ≡ outcomeNumber (lowest (gcdRowsOver p most f g h answer)))
           × ((h′ ≡ written (lowest (gcdRowsOver p most f g h answer)) (bytesOf (padded most (gcdOf F (wordsOf f) (wordsOf g)))) h)
           × (answer′ ≡ written (lowest (gcdRowsOver p most f g h answer)) (bytesOf (gcdValues F (wordsOf f) (wordsOf g))) answer))

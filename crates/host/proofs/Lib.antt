@@ -1,5 +1,6 @@
 pub mod Words
 pub mod Fits
 pub mod Rows
+pub mod Judged
 pub mod Answers
 pub mod Calls

@@ -17,6 +17,9 @@ ghost use Rattle.lists.specs.Bytes.{wordCount, wordsOf, bytesOf};
 ghost use Rattle.host.specs.Calls.{productRows, divisionRows, gcdRows, productRowsOver, divisionRowsOver, gcdRowsOver};
 ghost use Rattle.host.specs.Workers.{badList, roomOf, gcdRoom};
 use gcd::Gcd;
+use gcd::Rounds;
+use lists::NaiveDegree;
+use lists::Power;
 use refusal::Outcome;
 use refusal::Refusal;
 
@@ -287,12 +290,12 @@ fn divide_lists(field: u8, g: &[u8], f: &[u8], q: &mut [u8], r: &mut [u8]) -> u8
     )
 }
 
-// Three numbers as words.
-fn write_three(w: usize, c: usize, rounds: usize, bytes: &mut [u8])
-    requires { ⌜ (w < 65536) × (c < 65536) × (rounds < 65536) × (length (now bytes) ≡ 6) ⌝ }
-    ensures { λ _. ⌜ now (bytes .exit) ≡ bytesOf (w ∷ c ∷ rounds ∷ []) ⌝ }
+// The three numbers of an answer as words.
+fn write_three(w: NaiveDegree, c: Power, rounds: Rounds, bytes: &mut [u8])
+    requires { ⌜ (w .0 < 65536) × (c .0 < 65536) × (rounds .0 < 65536) × (length (now bytes) ≡ 6) ⌝ }
+    ensures { λ _. ⌜ now (bytes .exit) ≡ bytesOf (w .0 ∷ c .0 ∷ rounds .0 ∷ []) ⌝ }
 {
-    let three = [w as u16, c as u16, rounds as u16];
+    let three = [w.0 as u16, c.0 as u16, rounds.0 as u16];
     write_words(&three, bytes);
 }
 
@@ -319,7 +322,7 @@ fn gcd_in(
     match found {
         Gcd::Done(w, power, rounds) => {
             write_words(c, h);
-            write_three(w.0, power, rounds, answer);
+            write_three(w, power, rounds, answer);
             COMPLETED
         }
         Gcd::Refused(why) => refusal::number_of(why),

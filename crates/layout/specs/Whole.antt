@@ -1,5 +1,6 @@
 -- The albums that are read are those of lists: the converse of the theorems in Written.antt.
 --     album-whole     an album of bytes that obeys its layout is the album of its lists
+--     body-whole      the bytes from where body i starts, as many as entry i says, are those of list i
 -- Assumes nothing.
 use mathlib.Core.Path.{_≡_, refl, sym, ap, ap₂, _∙_}
 use mathlib.Core.Bool.{false}
@@ -9,12 +10,12 @@ use native.Mathlib.Nat.{div-add-mod', mod-lt}
 use native.Mathlib.Numerals.{add-one}
 use native.Mathlib.Omega.{arith}
 use lib.Dec.{lit<}
-use lib.ListN.{length, getD, drop}
-use lib.Seq.{drop-cons, drop-length}
+use lib.ListN.{length, getD, take, drop}
+use lib.Seq.{take-at, drop-cons, drop-length}
 use Rattle.refusal.specs.Limits.{maxLists}
 use Rattle.lists.specs.Degrees.{naiveDegree}
 use Rattle.lists.specs.Tabulate.{tabulate}
-use Rattle.lists.specs.Bytes.{Bytes, wordAt, wordsAt, bytesOf}
+use Rattle.lists.specs.Bytes.{Bytes, wordAt, wordsAt, bytesOf, length-bytesOf}
 use Rattle.layout.specs.Layout.{count, entryAt, degreeAt, offsetAt, startAt, wrongCount, brokenLayout, listAt, listsFrom, listsOf}
 use Rattle.layout.specs.Workers.{Obeys}
 use Rattle.layout.specs.Places.{start-next, start-up, words-next, length-list, length-lists, entry-inside, obeys}
@@ -120,3 +121,10 @@ module _ (s : List ℕ) (o : Obeys s) (bytes : Bytes s) where
 pub album-whole : (s : List ℕ) → Bytes s → wrongCount maxLists s ≡ false → brokenLayout s ≡ false
     → albumOf (listsOf s) ≡ s
 album-whole s bytes counted laid = back s (obeys s counted laid) bytes
+
+pub body-whole : (s : List ℕ) → Bytes s → wrongCount maxLists s ≡ false → brokenLayout s ≡ false → (i : ℕ) → i < count s
+    → take (2 * (degreeAt s i + 1)) (drop (startAt s i) s) ≡ bytesOf (listAt s i)
+body-whole s bytes counted laid i l =
+    ap (take (2 * (degreeAt s i + 1))) (sym (list-back s (obeys s counted laid) bytes i l))
+    ∙ take-at (bytesOf (listAt s i)) (drop (startAt s (suc i)) s) (2 * (degreeAt s i + 1))
+    (length-bytesOf (listAt s i) ∙ ap (λ n. 2 * n) (length-list s i))

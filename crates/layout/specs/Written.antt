@@ -15,15 +15,12 @@ use mathlib.Core.Path.{_≡_, refl, sym, ap, ap₂, _∙_}
 use mathlib.Core.Bool.{true, false}
 use mathlib.Core.List.{List, [], _∷_, _++_, append-assoc}
 use Prim.Native.Nat.{ℕ, zero, suc, _+_, _*_, _/_, _%_, _≤_, _<_}
-use native.Mathlib.Nat.{div-add-mod', mod-lt}
 use native.Mathlib.Omega.{arith}
-use lib.Dec.{lit<}
 use lib.ListN.{length, getD, length-append}
-use lib.Seq.{getD-append-add}
 use Rattle.refusal.specs.Limits.{maxLists, entryBytes}
 use Rattle.lists.specs.Degrees.{naiveDegree}
 use Rattle.lists.specs.Tabulate.{tabulated}
-use Rattle.lists.specs.Bytes.{Bytes, byteValues, wordAt, wordsAt, bytesOf, length-bytesOf}
+use Rattle.lists.specs.Bytes.{Bytes, wordAt, wordsAt, bytesOf, length-bytesOf, low-high, after, word-after, bytes-word, bytes-cons, bytes-two, bytes-words}
 use Rattle.layout.specs.Layout.{count, entryAt, entryWords, degreeAt, offsetAt, startAt, offsetsAgree, wrongCount, brokenLayout, listAt, listsFrom, listsOf}
 use Rattle.layout.specs.Places.{start-next, agree-next, right-count, right-layout}
 
@@ -62,28 +59,6 @@ length-entries : (at : ℕ) (lists : List (List ℕ)) → length (entriesFrom at
 unfolding entriesFrom
 length-entries at [] = refl
 length-entries at (c ∷ lists) = omega (arith, length-entries (at + 2 * length c) lists)
-
--- ---- words as bytes
-low-high : (x : ℕ) → x % 256 + 256 * (x / 256) ≡ x
-low-high x = omega (arith, div-add-mod' x 256)
-
--- what stands after the front part of an album
-after : (front rest : List ℕ) (j i : ℕ) → length front + j ≡ i → getD (front ++ rest) i 0 ≡ getD rest j 0
-after front rest j i e = ap (λ n. getD (front ++ rest) n 0) (sym e) ∙ getD-append-add front rest j 0
-
-word-after : (front rest : List ℕ) (j i : ℕ) → length front + j ≡ i → wordAt (front ++ rest) i ≡ wordAt rest j
-word-after front rest j i e = ap₂ (λ a b. a + 256 * b) (after front rest j i e) (after front rest (j + 1) (i + 1) (omega arith))
-
-bytes-word : (c rest : List ℕ) (j : ℕ) → j < length c → wordAt (bytesOf c ++ rest) (2 * j) ≡ getD c j 0
-unfolding bytesOf
-bytes-word [] rest j l = absurd (omega arith)
-bytes-word (x ∷ c) rest zero l = low-high x
-bytes-word (x ∷ c) rest (suc j) l =
-    ap (wordAt (x % 256 ∷ x / 256 ∷ bytesOf c ++ rest)) next ∙ word-after (x % 256 ∷ x / 256 ∷ []) (bytesOf c ++ rest) (2 * j) (2 + 2 * j) refl
-    ∙ bytes-word c rest j (omega arith)
-  where
-    next : 2 * suc j ≡ 2 + 2 * j
-    next = omega arith
 
 -- ---- what an album says from entry k on: the lists, and that their bodies follow each other from `at` to the end
 abbrev Says : List ℕ → (k at : ℕ) → List (List ℕ) → Type 0
@@ -175,23 +150,10 @@ said s (c ∷ lists) k at e t h =
     next = omega arith
 
 -- ---- its bytes are bytes
-bytes-cons : (x : ℕ) (l : List ℕ) → x < byteValues → Bytes l → Bytes (x ∷ l)
-bytes-cons x l h b zero = h
-bytes-cons x l h b (suc k) = b k
-
 bytes-append : (a b : List ℕ) → Bytes a → Bytes b → Bytes (a ++ b)
 bytes-append [] b ha hb k = hb k
 bytes-append (x ∷ a) b ha hb zero = ha 0
 bytes-append (x ∷ a) b ha hb (suc k) = bytes-append a b (λ j. ha (suc j)) hb k
-
-bytes-two : (x : ℕ) (l : List ℕ) → x < 65536 → Bytes l → Bytes (x % 256 ∷ x / 256 ∷ l)
-bytes-two x l h b =
-    bytes-cons (x % 256) (x / 256 ∷ l) (mod-lt x (lit< tt)) (bytes-cons (x / 256) l (omega (arith, low-high x)) b)
-
-bytes-words : (c : List ℕ) → ((j : ℕ) → getD c j 0 < 65536) → Bytes (bytesOf c)
-unfolding bytesOf
-bytes-words [] h k = omega arith
-bytes-words (x ∷ c) h k = bytes-two x (bytesOf c) (h 0) (bytes-words c (λ j. h (suc j))) k
 
 bytes-bodies : (lists : List (List ℕ)) → AllFit lists → Bytes (bodiesOf lists)
 unfolding bodiesOf

@@ -1,10 +1,10 @@
-// Lists of words: their two counters, and what every call refuses in a list.
+// Lists of words: their two counters and the power between them, and what every call refuses in a list.
 ghost use mathlib.Core.Path.{_≡_};
 ghost use mathlib.Core.List.{[], _∷_};
-ghost use Prim.Native.Nat.{max, min};
+ghost use Prim.Native.Nat.{max, min, _-_};
 ghost use Rattle.refusal.specs.Lowest.{lowest};
 ghost use Rattle.field.specs.Fields.{modulus, longest};
-ghost use Rattle.lists.specs.Degrees.{significant};
+ghost use Rattle.lists.specs.Degrees.{naiveDegree, significant, extent, power};
 ghost use Rattle.lists.specs.Refused.{wrongLength, hasLoose, listRefusals};
 use refusal::Outcome;
 use refusal::Refusal;
@@ -14,6 +14,29 @@ pub struct NaiveDegree(pub usize);
 
 // The largest index whose word is not 0.
 pub struct Extent(pub usize);
+
+// The number of factors 1-t: the naive degree less the extent.
+pub struct Power(pub usize);
+
+// The power by the two counters; 0 where the extent is the larger one, which no list has.
+pub fn power_of(degree: NaiveDegree, extent: Extent) -> Power
+    ensures { λ r. ⌜ r .0 ≡ degree .0 - extent .0 ⌝ }
+{
+    if degree.0 < extent.0 {
+        return Power(0);
+    }
+    Power(degree.0 - extent.0)
+}
+
+// The naive degree of a list; 0 where it has no words.
+pub fn degree_of(list: &[u16]) -> NaiveDegree
+    ensures { λ r. ⌜ r .0 ≡ naiveDegree (now (list .entry)) ⌝ }
+{
+    if list.len() == 0 {
+        return NaiveDegree(0);
+    }
+    NaiveDegree(list.len() - 1)
+}
 
 // The larger of two numbers.
 pub fn larger(a: usize, b: usize) -> usize
@@ -67,6 +90,24 @@ pub fn significant_words(list: &[u16]) -> usize
         n -= 1;
     }
     0
+}
+
+// The extent of a list; 0 for a zero list, which has none.
+pub fn extent_of(list: &[u16]) -> Extent
+    ensures { λ r. ⌜ r .0 ≡ extent (now (list .entry)) ⌝ }
+{
+    let n = significant_words(list);
+    if n == 0 {
+        return Extent(0);
+    }
+    Extent(n - 1)
+}
+
+// The power of a list that is not zero.
+pub fn power_in(list: &[u16]) -> Power
+    ensures { λ r. ⌜ r .0 ≡ power (now (list .entry)) ⌝ }
+{
+    power_of(degree_of(list), extent_of(list))
 }
 
 // What a call refuses in its one list.

@@ -2,15 +2,15 @@
 -- Assumes nothing.
 use mathlib.Core.Path.{_≡_, refl}
 use mathlib.Core.List.{List, [], _∷_, map}
-use Prim.Native.Nat.{ℕ, suc, _+_, _-_, _*_, _≤_, _<_}
+use Prim.Native.Nat.{ℕ, suc, _+_, _*_, _≤_, _<_}
 use native.Mathlib.Decide.{ℕ-discrete}
 use native.Mathlib.Omega.{arith}
 use lib.ListN.{length, getD, length-append}
 use Rattle.refusal.specs.Refusal.{number}
 use Rattle.refusal.specs.declared.Refusal.{Refusal}
 use Rattle.refusal.proofs.Answers.{number-range}
-use Rattle.lists.specs.Degrees.{naiveDegree, significant}
-use Rattle.lists.specs.Extents.{significant-le}
+use Rattle.lists.specs.Degrees.{naiveDegree, significant, extent, power}
+use Rattle.lists.specs.Extents.{significant-le, power-is}
 use Rattle.report_text.specs.Text.{decimal, line}
 use Rattle.report_text.specs.Report.{⟨refused⟩, listLine, listLines, gcdLines, refusedLine}
 use Rattle.report_text.specs.Workers.{lineEnd}
@@ -35,13 +35,14 @@ end-fits c l = go (ℕ-discrete (significant c) 0)
     go (yes z) = rw (end-zero c refl z) (omega arith)
     go (no f) =
         let s = significant-le c in
-        rw (end-nonzero c refl f)
-        (simp length-append (omega (arith, digits (significant c - 1) (omega arith), digits (length c - significant c) (omega arith))))
+        let x : extent c < 65536 = unfold extent in omega arith in
+        rw (end-nonzero c refl f refl refl)
+        (simp length-append (omega (arith, digits (extent c) x, digits (power c) (omega (arith, power-is c f)))))
 
 list-fits : (i : ℕ) (c : List ℕ) → i < 65536 → length c ≤ 65536 → length (listLine i c) ≤ 24
 list-fits i c li lc =
     let d : naiveDegree c < 65536 = unfold naiveDegree in omega arith in
-    rw (list-line i c) (simp length-append (omega (arith, digits i li, digits (naiveDegree c) d, end-fits c lc)))
+    rw (list-line i c refl) (simp length-append (omega (arith, digits i li, digits (naiveDegree c) d, end-fits c lc)))
 
 pub lines-fit : (lists : List (List ℕ)) (i : ℕ) → i + length lists ≤ 65536
     → ((j : ℕ) → j < length lists → length (getD lists j []) ≤ 65536) → length (listLines i lists) ≤ 24 * length lists
@@ -70,5 +71,5 @@ pub gcd-fits : (h : List ℕ) (c : ℕ) → 0 < length h → length h + c ≤ 65
     → length (gcdLines h c) ≤ 16 + 6 * length h
 gcd-fits h c some few small =
     let d : naiveDegree h + c < 65536 = unfold naiveDegree in omega arith in
-    rw (gcd-lines h c)
+    rw (gcd-lines h c refl)
     (simp length-append (omega (arith, digits (naiveDegree h + c) d, digits c (omega arith), words-fit h some small)))

@@ -4,7 +4,7 @@
 use mathlib.Core.Path.{_≡_, refl, sym, _∙_, ap}
 use mathlib.Core.Bool.{Bool, true, false, cond}
 use mathlib.Core.List.{List, [], _∷_, _++_, append-assoc, map}
-use Prim.Native.Nat.{ℕ, suc, _+_, _-_, _≤_, _<_}
+use Prim.Native.Nat.{ℕ, suc, _+_, _≤_, _<_}
 use native.Mathlib.Numerals.{add-one}
 use native.Mathlib.Omega.{arith}
 use lib.Dec.{eqb}
@@ -12,7 +12,6 @@ use lib.ListN.{length, getD, drop, drop-of-length-le}
 use lib.Seq.{drop-cons}
 use borrow.Author.Tests.{eq-eqb, ne-eqb}
 use Rattle.lists.specs.Degrees.{naiveDegree, significant, extent, power}
-use Rattle.lists.specs.Extents.{power-is}
 use Rattle.report_text.specs.Text.{decimal, line}
 use Rattle.report_text.specs.Report.{⟨gcd⟩, ⟨-⟩, listLine, listLines, gcdLines}
 use Rattle.report_text.specs.Workers.{lineEnd}
@@ -27,23 +26,25 @@ module _ (c : List ℕ) {used : ℕ} (e : used ≡ significant c) where
   unfolding lineEnd line
   end-zero z = rw (eq-eqb (significant c) 0 (sym e ∙ z))
 
-  pub end-nonzero : ¬ (used ≡ 0) → lineEnd c ≡ (32 ∷ decimal (used - 1)) ++ ((32 ∷ decimal (length c - used)) ++ (10 ∷ []))
-  unfolding lineEnd line extent
-  end-nonzero f = rw (ne-eqb (significant c) 0 (λ z. f (e ∙ z)), power-is c (λ z. f (e ∙ z)), ← e)
+  pub end-nonzero : ¬ (used ≡ 0) → {x q : ℕ} → x ≡ extent c → q ≡ power c
+      → lineEnd c ≡ (32 ∷ decimal x) ++ ((32 ∷ decimal q) ++ (10 ∷ []))
+  unfolding lineEnd line
+  end-nonzero f ex eq = rw (ne-eqb (significant c) 0 (λ z. f (e ∙ z)), ex, eq)
 
-pub list-line : (i : ℕ) (c : List ℕ) → listLine i c ≡ decimal i ++ ((32 ∷ decimal (naiveDegree c)) ++ lineEnd c)
+-- d is the naive degree as the code finds it
+pub list-line : (i : ℕ) (c : List ℕ) {d : ℕ} → d ≡ naiveDegree c → listLine i c ≡ decimal i ++ ((32 ∷ decimal d) ++ lineEnd c)
 unfolding listLine lineEnd line
-list-line i c = go (eqb (significant c) 0)
+list-line i c e = rw e (go (eqb (significant c) 0))
   where
     go : (b : Bool) → line (decimal i ∷ decimal (naiveDegree c) ∷ cond b (⟨-⟩ ∷ ⟨-⟩ ∷ []) (decimal (extent c) ∷ decimal (power c) ∷ []))
         ≡ decimal i ++ ((32 ∷ decimal (naiveDegree c)) ++ (32 ∷ line (cond b (⟨-⟩ ∷ ⟨-⟩ ∷ []) (decimal (extent c) ∷ decimal (power c) ∷ []))))
     go true = refl
     go false = refl
 
-pub gcd-lines : (h : List ℕ) (c : ℕ)
-    → gcdLines h c ≡ ⟨gcd⟩ ++ ((32 ∷ decimal (naiveDegree h + c)) ++ ((32 ∷ decimal c) ++ ((10 ∷ []) ++ line (map decimal h))))
+pub gcd-lines : (h : List ℕ) (c : ℕ) {d : ℕ} → d ≡ naiveDegree h
+    → gcdLines h c ≡ ⟨gcd⟩ ++ ((32 ∷ decimal (d + c)) ++ ((32 ∷ decimal c) ++ ((10 ∷ []) ++ line (map decimal h))))
 unfolding gcdLines line
-gcd-lines h c = joined (decimal (naiveDegree h + c)) (decimal c) (line (map decimal h))
+gcd-lines h c e = rw e (joined (decimal (naiveDegree h + c)) (decimal c) (line (map decimal h)))
   where
     joined : (d e w : List ℕ)
         → (⟨gcd⟩ ++ (32 ∷ (d ++ (32 ∷ (e ++ (10 ∷ [])))))) ++ w ≡ ⟨gcd⟩ ++ ((32 ∷ d) ++ ((32 ∷ e) ++ ((10 ∷ []) ++ w)))

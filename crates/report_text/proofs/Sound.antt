@@ -17,6 +17,7 @@ use Rattle.refusal.specs.declared.Refusal.{Refusal}
 use Rattle.refusal.specs.declared.Refusal.the-variants.{AllZero}
 use Rattle.refusal.specs.declared.Outcome.the-variants.{Done, Refused}
 use Rattle.lists.specs.declared.NaiveDegree.{NaiveDegree}
+use Rattle.lists.specs.declared.Power.{Power}
 use Rattle.lists.specs.Degrees.{naiveDegree, power}
 use Rattle.lists.specs.Extents.{power-le}
 use Rattle.euclid.specs.Gcds.{commonPower, padded}
@@ -27,6 +28,7 @@ use Rattle.layout.specs.Layout.{listsOf}
 use Rattle.layout.specs.Workers.{Passed}
 use Rattle.gcd.specs.declared.Gcd.{Gcd}
 use Rattle.gcd.specs.declared.Gcd.the-variants as G
+use Rattle.gcd.specs.declared.Rounds.{Rounds}
 use Rattle.gcd.specs.Calls.{gcdReply}
 use Rattle.album_gcd.specs.Calls.{allZero, albumGcdRows, albumGcdValues, AlbumGreatestSo, AlbumGreatest}
 use Rattle.album_gcd.proofs.Judging.{judged-zero, judged-done}
@@ -78,10 +80,10 @@ module _ (F : PrimeField) (most : ℕ) (s h : List ℕ) (e : Passed (F .p) s) (q
     unfolding refusedLine
     refused-line = ap (λ n. line (⟨refused⟩ ∷ decimal n ∷ [])) (ap (λ r. r .number) (a ∙ reply-zero refused-zero))
 
-  module _ {h′ : List ℕ} (w : NaiveDegree) (c k : ℕ)
+  module _ {h′ : List ℕ} (w : NaiveDegree) (c : Power) (k : Rounds)
       (a : gcdReply (G.Done w c k) ≡ reply (lowest (albumGcdRows (F .p) most s h)) (albumGcdValues F (listsOf s)))
       (b : h′ ≡ written (lowest (albumGcdRows (F .p) most s h)) (padded most (albumGcd F (listsOf s) .list)) h)
-      (g : AlbumGreatestSo F (listsOf s) h′ (w .0) c) where
+      (g : AlbumGreatestSo F (listsOf s) h′ (w .0) (c .0)) where
     done-some : allZero (listsOf s) ≡ false
     done-some = go (allZero (listsOf s)) refl
       where
@@ -89,7 +91,7 @@ module _ (F : PrimeField) (most : ℕ) (s h : List ℕ) (e : Passed (F .p) s) (q
         go true z = absurd (let v = ap (λ r. r .number) (a ∙ reply-zero z) in omega arith)
         go false z = z
 
-    values : w .0 ∷ c ∷ k ∷ [] ≡ albumGcdValues F (listsOf s)
+    values : w .0 ∷ c .0 ∷ k .0 ∷ [] ≡ albumGcdValues F (listsOf s)
     values = ap (λ r. r .values) (a ∙ reply-done done-some)
 
     slice : h′ ≡ padded most (albumGcd F (listsOf s) .list)
@@ -110,7 +112,7 @@ module _ (F : PrimeField) (most : ℕ) (s h : List ℕ) (e : Passed (F .p) s) (q
         go (no f) =
             absurd (let z = List·getD-eq-default (albumGcd F (listsOf s) .list) 0 {n = w .0} (omega arith) in omega (arith, word (w .0), g .ends))
 
-    pub done-answer : Answer (listsOf s) (albumGcd F (listsOf s) .list) h′ (w .0) c
+    pub done-answer : Answer (listsOf s) (albumGcd F (listsOf s) .list) h′ (w .0) (c .0)
     unfolding padded albumGcdValues
     done-answer =
         record {
@@ -123,10 +125,10 @@ module _ (F : PrimeField) (most : ℕ) (s h : List ℕ) (e : Passed (F .p) s) (q
         }
 
 -- the same of any answer
-pub answered : (F : PrimeField) (most : ℕ) (s h : List ℕ) → Passed (F .p) s → length h ≡ most → {h′ : List ℕ} {w : NaiveDegree} {c k : ℕ} {r : Gcd}
+pub answered : (F : PrimeField) (most : ℕ) (s h : List ℕ) → Passed (F .p) s → length h ≡ most → {h′ : List ℕ} {w : NaiveDegree} {c : Power} {k : Rounds} {r : Gcd}
     → r ≡ G.Done w c k → gcdReply r ≡ reply (lowest (albumGcdRows (F .p) most s h)) (albumGcdValues F (listsOf s))
     → h′ ≡ written (lowest (albumGcdRows (F .p) most s h)) (padded most (albumGcd F (listsOf s) .list)) h
-    → AlbumGreatest F (listsOf s) h′ r → Answer (listsOf s) (albumGcd F (listsOf s) .list) h′ (w .0) c
+    → AlbumGreatest F (listsOf s) h′ r → Answer (listsOf s) (albumGcd F (listsOf s) .list) h′ (w .0) (c .0)
 answered F most s h e q {h′} {w} {c} {k} {r} i a b g =
     done-answer F most s h e q w c k (ap gcdReply (sym i) ∙ a) b (subst (AlbumGreatest F (listsOf s) h′) i g)
 

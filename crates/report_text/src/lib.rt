@@ -15,6 +15,7 @@ ghost use Rattle.report_text.specs.Report.{listLine, listLines, gcdLines
 ghost use Rattle.report_text.specs.Calls.{maxText, reportRefusals, textReply};
 ghost use Rattle.report_text.specs.Workers.{Room, Put, lineEnd, maxAnswer, answerLines};
 use gcd::Gcd;
+use lists::Power;
 use refusal::Outcome;
 use refusal::Refusal;
 
@@ -172,14 +173,13 @@ fn put_extent(list: &[u16], at: usize, out: &mut [u8]) -> usize
     requires { ⌜ Room (lineEnd (now list)) at (now out) ⌝ }
     ensures { λ r. ⌜ Put (lineEnd (now (list .entry))) at (now (out .entry)) (now (out .exit)) r ⌝ }
 {
-    let used = lists::significant_words(list);
-    if used == 0 {
+    if lists::significant_words(list) == 0 {
         return put_bytes(b" - -\n", at, out);
     }
-    let extent = used - 1;
-    let power = list.len() - used;
-    let next = put_field(extent, at, out);
-    let end = put_field(power, next, out);
+    let extent = lists::extent_of(list);
+    let power = lists::power_in(list);
+    let next = put_field(extent.0, at, out);
+    let end = put_field(power.0, next, out);
     put(10, end, out)
 }
 
@@ -189,8 +189,9 @@ fn put_list(i: usize, list: &[u16], at: usize, out: &mut [u8]) -> usize
     ensures { λ r. ⌜ Put (listLine i (now (list .entry))) at (now (out .entry)) (now (out .exit)) r ⌝ }
 {
     let number = put_number(i, at, out);
-    let degree = put_field(list.len() - 1, number, out);
-    put_extent(list, degree, out)
+    let degree = lists::degree_of(list);
+    let next = put_field(degree.0, number, out);
+    put_extent(list, next, out)
 }
 
 // The words of h, one space between them.
@@ -208,14 +209,15 @@ fn put_words(h: &[u16], at: usize, out: &mut [u8]) -> usize
 }
 
 // The two lines of the GCD.
-fn put_gcd(h: &[u16], c: usize, at: usize, out: &mut [u8]) -> usize
-    requires { ⌜ (0 < length (now h)) × (length (now h) ≤ maxWords) × (c < maxWords) ⌝ }
-    requires { ⌜ Room (gcdLines (now h) c) at (now out) ⌝ }
-    ensures { λ r. ⌜ Put (gcdLines (now (h .entry)) c) at (now (out .entry)) (now (out .exit)) r ⌝ }
+fn put_gcd(h: &[u16], c: Power, at: usize, out: &mut [u8]) -> usize
+    requires { ⌜ (0 < length (now h)) × (length (now h) ≤ maxWords) × (c .0 < maxWords) ⌝ }
+    requires { ⌜ Room (gcdLines (now h) (c .0)) at (now out) ⌝ }
+    ensures { λ r. ⌜ Put (gcdLines (now (h .entry)) (c .0)) at (now (out .entry)) (now (out .exit)) r ⌝ }
 {
     let named = put_bytes(b"gcd", at, out);
-    let degree = put_field(h.len() - 1 + c, named, out);
-    let power = put_field(c, degree, out);
+    let w = lists::degree_of(h);
+    let degree = put_field(w.0 + c.0, named, out);
+    let power = put_field(c.0, degree, out);
     let end = put(10, power, out);
     put_words(h, end, out)
 }

@@ -6,6 +6,7 @@ ghost use lib.ListN.{drop};
 ghost use Rattle.field.specs.Fields.{modulus, fieldAt};
 ghost use Rattle.euclid.specs.Gcds.{commonPower};
 ghost use Rattle.rounds.specs.Round.{roundSteps, roundFits, remaining, quotientWords, multiplied, zeroedFrom, writeFits, writtenWords};
+use lists::Power;
 
 // x becomes the remainder of x by y; the words of the quotient go to q. Their number.
 // The table of inverses saves time; nothing depends on it.
@@ -66,24 +67,24 @@ pub fn write_list(
     zero_from(out, words);
 }
 
-// The least power among those of f and g that are not zero.
-pub fn common_power(f: &[u16], g: &[u16]) -> usize
-    ensures { λ r. ⌜ r ≡ commonPower (now (f .entry) ∷ now (g .entry) ∷ []) ⌝ }
+// The least power among those of f and g that are not zero; 0 where both are.
+pub fn common_power(f: &[u16], g: &[u16]) -> Power
+    ensures { λ r. ⌜ r .0 ≡ commonPower (now (f .entry) ∷ now (g .entry) ∷ []) ⌝ }
 {
     let nf = lists::significant_words(f);
     let ng = lists::significant_words(g);
     if nf == 0 {
         if ng == 0 {
-            return 0;
+            return Power(0);
         }
-        return g.len() - ng;
+        return lists::power_in(g);
     }
+    let pf = lists::power_in(f);
     if ng == 0 {
-        return f.len() - nf;
+        return pf;
     }
-    let pf = f.len() - nf;
-    let pg = g.len() - ng;
-    if pf < pg {
+    let pg = lists::power_in(g);
+    if pf.0 < pg.0 {
         return pf;
     }
     pg

@@ -59,7 +59,7 @@ table =
     []
 
 -- the definitions that the computation opens
-unfoldable computes : Bool
+unfoldable pub computes : Bool
 unfolding A.computes total choose tabulate naiveDegree significantIn significant extent power word binomial coefficient scaled unscaled productAt of.product raiseAt of.raise derivativeAt of.derivative steps quotientOf remainderOf room identityDegree powers least commonPower roundsOf gcdOf countOf cofactorA cofactorB gcdValues
 computes = true
 

@@ -1,1 +1,1 @@
-// Document 01's sums to check by hand: the table and its theorem stand in specs/.
+// Sums to check by hand, document 01's and those of some albums: the tables and their theorems stand in specs/.

@@ -1,8 +1,9 @@
 //! Albums: the layout judged and read, and the GCD of an album.
 
-use crate::model::{self, Gcd, List};
+use crate::model::{self, Gcd, List, MAX_WORDS};
 
 pub const MAX_BYTES: usize = 8_241;
+pub const MAX_LISTS: usize = 16;
 
 pub fn word(low: u8, high: u8) -> u32 {
     u32::from(low) + 256 * u32::from(high)
@@ -16,10 +17,10 @@ pub fn bytes(words: &[u32]) -> Vec<u8> {
     words.iter().flat_map(|&w| (w as u16).to_le_bytes()).collect()
 }
 
-/// The lists, or the number of the refusal: 1 for the count, 2 for the rest of the layout, 5 for a loose word in any list.
-pub fn read(album: &[u8]) -> Result<Vec<List>, u8> {
+/// The lists, or the number of the refusal: 1 for the count, 2 for the rest of the layout.
+fn laid_out(album: &[u8]) -> Result<Vec<List>, u8> {
     let count = album.first().map_or(0, |&n| usize::from(n));
-    if count == 0 || count > 16 {
+    if count == 0 || count > MAX_LISTS {
         return Err(1);
     }
     let mut end = 1 + 3 * count;
@@ -32,8 +33,57 @@ pub fn read(album: &[u8]) -> Result<Vec<List>, u8> {
         end = body.end;
         lists.push(words(album.get(body).ok_or(2)?));
     }
-    model::refuse(&[(2, album.len() != end), (5, lists.iter().any(|list| model::is_loose(list)))])?;
+    model::refuse(&[(2, album.len() != end)])?;
     Ok(lists)
+}
+
+fn any_loose(lists: &[List]) -> bool {
+    lists.iter().any(|list| model::is_loose(list))
+}
+
+/// The lists; 5 for a loose word in any of them.
+pub fn read(album: &[u8]) -> Result<Vec<List>, u8> {
+    let lists = laid_out(album)?;
+    model::refuse(&[(5, any_loose(&lists))])?;
+    Ok(lists)
+}
+
+/// List i, by the album checked with i.
+pub fn check(album: &[u8], i: usize) -> Result<List, u8> {
+    let mut lists = laid_out(album)?;
+    model::refuse(&[(3, i >= lists.len()), (5, any_loose(&lists))])?;
+    Ok(lists.swap_remove(i))
+}
+
+/// The bytes of list i.
+pub fn body(album: &[u8], i: usize) -> Result<Vec<u8>, u8> {
+    check(album, i).map(|list| bytes(&list))
+}
+
+pub fn read_list(album: &[u8], i: usize, out: usize) -> Result<List, u8> {
+    let list = check(album, i)?;
+    model::refuse(&[(10, out != MAX_WORDS)])?;
+    Ok(list)
+}
+
+/// The records of an album's lists, zeros after the last: of each its offset and its naive degree.
+pub fn contents(album: &[u8], out: usize) -> Result<List, u8> {
+    let lists = read(album)?;
+    model::refuse(&[(10, out != MAX_LISTS)])?;
+    let mut offset = 1 + 3 * lists.len();
+    let mut records = vec![];
+    for list in &lists {
+        records.extend([offset as u32, list.len() as u32 - 1]);
+        offset += 2 * list.len();
+    }
+    records.resize(2 * MAX_LISTS, 0);
+    Ok(records)
+}
+
+pub fn gcd_of_album(album: &[u8], h: usize) -> Result<Gcd, u8> {
+    let gcd = gcd(&read(album)?)?;
+    model::refuse(&[(10, h != MAX_WORDS)])?;
+    Ok(gcd)
 }
 
 /// The album of 1 to 16 lists.

@@ -93,15 +93,6 @@ pub fn report_fault(input: &[u8], text: &[u8]) -> Option<String> {
     if text == right.as_bytes() { None } else { Some(format!("report {:?}, and not {right:?}", String::from_utf8_lossy(text))) }
 }
 
-/// What is wrong with the model's cofactors by demand 3's identity.
-pub fn cofactor_fault(f: &[u32], g: &[u32]) -> Option<String> {
-    let m = model::cofactor_degree(f, g);
-    let (gcd, a, b) = model::cofactors(f, g, MAX_WORDS, m + 2 - f.len(), m + 2 - g.len()).expect("not all zero");
-    let w = gcd.h.len() - 1;
-    let left = plus(&times(&of_list(&a), &of_list(f)), &times(&of_list(&b), &of_list(g)));
-    if left == times(&one_minus_t(m - w), &of_list(&gcd.h)) { None } else { Some(format!("cofactors {a:?} and {b:?}")) }
-}
-
 /// A way to break a copy of an answer, where it can be broken so: true if it was.
 type Break = fn(&Call, &mut Answer) -> bool;
 

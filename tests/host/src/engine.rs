@@ -1,6 +1,7 @@
 //! The engine: its three functions for a C host, and the program `report`.
 
 use crate::album::bytes;
+use crate::lent::Lent;
 use crate::model::MAX_WORDS;
 use std::io::{Read, Write};
 use std::process::{Command, Stdio};
@@ -53,30 +54,9 @@ unsafe extern "C" {
     fn bernstein_gcd(f: In, f_len: usize, g: In, g_len: usize, h: Out, h_len: usize, answer: Out, answer_len: usize) -> u8;
 }
 
-/// Bytes with a margin on both sides, to see whether something is written there; an odd one, so that words lie at odd addresses
-/// too.
-struct Lent(Vec<u8>);
-
-const MARGIN: [u8; 7] = [0xA5; 7];
-
-impl Lent {
-    fn new(bytes: &[u8]) -> Lent {
-        Lent([&MARGIN, bytes, &MARGIN].concat())
-    }
-
-    fn part(&mut self) -> &mut [u8] {
-        let end = self.0.len() - MARGIN.len();
-        &mut self.0[MARGIN.len()..end]
-    }
-
-    fn is_stray(&self) -> bool {
-        !self.0.starts_with(&MARGIN) || !self.0.ends_with(&MARGIN)
-    }
-}
-
 pub fn run(call: &Call) -> Answer {
     let mut lists = call.lists.each_ref().map(|list| Lent::new(list));
-    let mut results: Vec<Lent> = call.results.iter().map(|result| Lent::new(result)).collect();
+    let mut results: Vec<Lent<u8>> = call.results.iter().map(|result| Lent::new(result)).collect();
     let number = call_host(call.operation, lists.each_mut().map(Lent::part), results.iter_mut().map(Lent::part).collect());
     Answer {
         number,

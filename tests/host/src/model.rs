@@ -1,6 +1,6 @@
 //! The calls of document 01 on lists of words, worked out in the monomial basis where the engine uses scaled forms.
 
-use crate::field::{P, inverse};
+use crate::field::{self, P};
 use crate::poly::{self, Poly};
 
 pub type List = Vec<u32>;
@@ -32,6 +32,22 @@ pub fn extent(list: &[u32]) -> Option<usize> {
     list.iter().rposition(|&word| word != 0)
 }
 
+/// The sum, difference or product of two coefficients.
+pub fn coefficients(a: u32, b: u32, operation: fn(u32, u32) -> u32) -> Result<u32, u8> {
+    refuse(&[(5, a >= P || b >= P)])?;
+    Ok(operation(a, b))
+}
+
+pub fn inverse(a: u32) -> Result<u32, u8> {
+    refuse(&[(5, a >= P), (9, a == 0)])?;
+    Ok(field::inverse(a))
+}
+
+pub fn find_extent(f: &[u32]) -> Result<Option<usize>, u8> {
+    refuse(&[(4, bad_length(f)), (5, is_loose(f))])?;
+    Ok(extent(f))
+}
+
 pub fn product(f: &[u32], g: &[u32], out: usize) -> Result<List, u8> {
     let words = f.len() + g.len();
     refuse(&[
@@ -49,7 +65,8 @@ pub fn multiply(f: &[u32], g: &[u32]) -> List {
 }
 
 pub fn raise(f: &[u32], n: usize, out: usize) -> Result<List, u8> {
-    refuse(&[(4, bad_length(f)), (5, is_loose(f)), (6, n >= MAX_WORDS), (7, n + 1 < f.len()), (10, out != n + 1)])?;
+    let words = n.saturating_add(1);
+    refuse(&[(4, bad_length(f)), (5, is_loose(f)), (6, words > MAX_WORDS), (7, words < f.len()), (10, out != words)])?;
     Ok(poly::to_list(&poly::of_list(f), n))
 }
 
@@ -166,7 +183,7 @@ fn common_part(lists: &[&[u32]]) -> (List, usize) {
         common = poly::divide(&common, &poly::one_minus_t(1)).0;
         c += 1;
     }
-    let ending_in_1 = poly::scale(&common, inverse(poly::value(&common, 1)));
+    let ending_in_1 = poly::scale(&common, field::inverse(poly::value(&common, 1)));
     (poly::to_list(&ending_in_1, common.len() - 1 + at_infinity), c)
 }
 
@@ -211,7 +228,7 @@ fn coefficient_of_g(f: &Poly, g: &Poly) -> Poly {
         let part = poly::minus(&x_part, &poly::times(&quotient, &y_part));
         (x, y, x_part, y_part) = (y, remainder, y_part, part);
     }
-    poly::scale(&x_part, inverse(*x.last().expect("F is not zero")))
+    poly::scale(&x_part, field::inverse(*x.last().expect("F is not zero")))
 }
 
 /// m, the naive degree of a·f and of b·g.

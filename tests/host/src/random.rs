@@ -1,10 +1,12 @@
 //! Inputs drawn with a fixed seed: lists, calls for a C host, and albums, valid and damaged.
 
 use crate::album::{self, bytes};
+use crate::calls::{Name, PublicCall};
 use crate::engine::{Call, Operation};
 use crate::field::P;
 use crate::model::{List, MAX_WORDS, multiply};
 use crate::poly;
+use crate::public;
 
 /// The generator splitmix64.
 pub struct Random(pub u64);
@@ -111,6 +113,11 @@ impl Random {
 
     /// A call that nothing is wrong with but what the lists themselves bring.
     fn fair_call(&mut self, operation: Operation) -> Call {
+        let pair = self.fair_pair(operation);
+        Call::fitting(operation, &pair[0], &pair[1])
+    }
+
+    fn fair_pair(&mut self, operation: Operation) -> [List; 2] {
         let mut pair = self.pair();
         match operation {
             Operation::Product if self.percent(10) => {
@@ -129,7 +136,7 @@ impl Random {
             Operation::Gcd if self.percent(8) => pair.iter_mut().for_each(|list| list.fill(0)),
             _ => {}
         }
-        Call::fitting(operation, &pair[0], &pair[1])
+        pair
     }
 
     pub fn call(&mut self, operation: Operation) -> Call {
@@ -165,7 +172,7 @@ impl Random {
         }
     }
 
-    fn damage_length(&mut self, part: &mut Vec<u8>) {
+    fn damage_length<T: Clone + Default>(&mut self, part: &mut Vec<T>) {
         let length = match self.below(6) {
             0 => part.len() + 1,
             1 => part.len().saturating_sub(1),
@@ -174,7 +181,108 @@ impl Random {
             4 => 0,
             _ => self.below(600),
         };
-        part.resize(length, 0);
+        part.resize(length, T::default());
+    }
+
+    /// A public call: about two in three with nothing wrong but what the lists, numbers and albums themselves bring.
+    pub fn public_call(&mut self, name: Name) -> PublicCall {
+        let mut call = self.fair_public_call(name);
+        let damages = if self.percent(65) { 0 } else { 1 + self.below(2) };
+        for _ in 0..damages {
+            self.damage_public_call(&mut call);
+        }
+        let memory = &mut call.memory;
+        if name == Name::Contents {
+            // whole records
+            let words = memory.results[0].len() / 2 * 2;
+            memory.results[0].truncate(words);
+        }
+        memory.results.iter_mut().flatten().for_each(|word| *word = self.below(65_536) as u16);
+        memory.part.iter_mut().for_each(|byte| *byte = self.below(256) as u8);
+        memory.answer.iter_mut().for_each(|value| *value = usize::MAX - self.below(256));
+        call
+    }
+
+    fn fair_public_call(&mut self, name: Name) -> PublicCall {
+        let (mut lists, mut album, mut numbers) = (vec![], vec![], vec![]);
+        match name {
+            Name::FieldSum | Name::FieldDifference | Name::FieldProduct => numbers = vec![self.operand(), self.operand()],
+            Name::Inverse => numbers = vec![self.operand()],
+            Name::Product => lists = self.fair_pair(Operation::Product).to_vec(),
+            Name::Sum | Name::Difference => lists = self.pair().to_vec(),
+            Name::Divide => lists = self.fair_pair(Operation::Division).to_vec(),
+            Name::Gcd | Name::Cofactors => lists = self.fair_pair(Operation::Gcd).to_vec(),
+            Name::FindExtent | Name::Trim | Name::Derivative => lists = vec![self.any_list()],
+            Name::Raise => {
+                lists = vec![self.any_list()];
+                numbers = vec![self.target(lists[0].len())];
+            }
+            Name::Evaluate => {
+                lists = vec![self.any_list()];
+                numbers = vec![self.operand()];
+            }
+            Name::Check | Name::Body | Name::ReadList => {
+                album = self.album();
+                numbers = vec![self.index(&album)];
+            }
+            Name::Contents | Name::GcdOfAlbum => album = self.album(),
+        }
+        public::fitting(name, &lists, &album, &numbers)
+    }
+
+    /// A word, with those near 0, p and the largest more often.
+    fn operand(&mut self) -> usize {
+        match self.below(8) {
+            0 => self.below(3),
+            1 => P as usize - 1 - self.below(2),
+            2 => self.loose() as usize,
+            _ => self.word() as usize,
+        }
+    }
+
+    /// A naive degree to raise a list of so many words to.
+    fn target(&mut self, words: usize) -> usize {
+        match self.below(10) {
+            0 => [MAX_WORDS, MAX_WORDS + self.below(40), usize::MAX][self.below(3)],
+            1 => self.below(words),
+            2 => words - 1,
+            3 => MAX_WORDS - 1,
+            _ => words - 1 + self.below(MAX_WORDS + 1 - words),
+        }
+    }
+
+    /// The index of a list, seldom of none.
+    fn index(&mut self, album: &[u8]) -> usize {
+        let count = usize::from(*album.first().unwrap_or(&1));
+        match self.below(8) {
+            0 => [count, count + self.below(20), usize::MAX][self.below(3)],
+            _ => self.below(count.max(1)),
+        }
+    }
+
+    fn damage_public_call(&mut self, call: &mut PublicCall) {
+        let memory = &mut call.memory;
+        match self.below(10) {
+            0..=4 if !memory.lists.is_empty() => {
+                let which = self.below(memory.lists.len());
+                let list = &mut memory.lists[which];
+                match self.below(4) {
+                    0 => list.clear(),
+                    1 => *list = vec![1; MAX_WORDS + 1 + self.below(40)],
+                    _ if list.is_empty() => list.push(self.loose() as u16),
+                    _ => {
+                        let at = self.below(list.len());
+                        list[at] = self.loose() as u16;
+                    }
+                }
+            }
+            0..=7 if !memory.results.is_empty() => {
+                let which = self.below(memory.results.len());
+                self.damage_length(&mut memory.results[which]);
+            }
+            8 => self.damage_length(&mut memory.part),
+            _ => self.damage_length(&mut memory.answer),
+        }
     }
 
     fn lists(&mut self) -> Vec<List> {

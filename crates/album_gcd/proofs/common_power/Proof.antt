@@ -1,12 +1,12 @@
 -- `album_gcd::common_power` meets its contract. The loop's invariant: `least` is at most the power of each list below j that is not zero,
 -- and is the words of the longest list or the power of a list that is not zero. The measure is the number of lists left.
 -- Assumes nothing.
-use mathlib.Core.Path.{_≡_, sym, _∙_}
+use mathlib.Core.Path.{_≡_, sym, _∙_, ap}
 use mathlib.Core.List.{[]}
 use mathlib.Core.Logic.{⊎-elim}
-use Prim.Native.Nat.{_≤_, _<_, _-_}
+use Prim.Native.Nat.{min, _≤_, _-_}
 use native.Mathlib.Omega.{arith}
-use lib.ListN.{length, getD}
+use lib.ListN.{length, getD, take}
 use borrow.Author.Needs.{needs}
 use Rattle.field.specs.Fields.{modulus, longest}
 use Rattle.field.specs.FieldsLaws.{longest-full}
@@ -15,9 +15,9 @@ use Rattle.layout.specs.Layout.{listAt, listsOf}
 use Rattle.layout.specs.Places.{length-lists, list-at}
 use Rattle.layout.proofs.Passed.{passed-obeys, passed-each}
 use Rattle.album.specs.Workers.{Held}
-use Rattle.album.proofs.Held.{held-inside, held-count, read-held}
+use Rattle.album.proofs.Held.{held-take, held-inside, held-count, read-held}
 use Rattle.album_gcd.proofs.Zeros.{nonzero}
-use Rattle.album_gcd.proofs.Power.{list-power, Lowest, lowest-start, lowest-keep, lowest-less, lowest-end}
+use Rattle.album_gcd.proofs.Power.{Lowest, lowest-start, lowest-next, lowest-over, lowest-end}
 use Rattle.album_gcd.proofs.common_power.Statement.{statement}
 use Rattle.album_gcd.proofs.common_power.Tie as tie
 
@@ -45,31 +45,26 @@ held c =
     let counted = c .before .before .before .before .before .count-lists .ensures in
     read-held _ _ _ _ _ (c .before .before .before .before .before .before .before .before .pre .0 .0) (omega arith) (c .before .before .before .loop .inv .1) (c .read .kept .1 .1 .1 .0) (c .read .ensures .0) (c .read .ensures .1)
 
-slice-reshare-prefix-significant-words :
-    tie.Need-slice-reshare-prefix-significant-words Inv-loop μ-loop
-slice-reshare-prefix-significant-words c = held-inside (held (c .before .before))
+-- its words
+words : (c : tie.After-read Inv-loop μ-loop) → take (c .read .result) (c .read .last .1 .1 .1 .0) ≡ getD (listsOf (c .before .before .before .before .before .before .before .before .args .album .now)) (c .before .before .before .loop .j) []
+words c =
+    let counted = c .before .before .before .before .before .count-lists .ensures in
+    held-take (held c) ∙ sym (list-at (c .before .before .before .before .before .before .before .before .args .album .now) _ (omega arith))
 
-slice-aggregate-significant-words : tie.Need-slice-aggregate-significant-words Inv-loop μ-loop
-slice-aggregate-significant-words c = held-count (held (c .before .before .before))
+slice-reshare-prefix-words : tie.Need-slice-reshare-prefix-words Inv-loop μ-loop
+slice-reshare-prefix-words c = held-inside (held (c .before .before))
+
+slice-aggregate-words : tie.Need-slice-aggregate-words Inv-loop μ-loop
+slice-aggregate-words c = held-count (held (c .before .before .before))
 
 significant-words-requires : tie.Need-significant-words-requires Inv-loop μ-loop
 significant-words-requires c κs = search needs
 
--- what is found of list j: its significant words, at most as many as its words; the difference is its power
-listed : (c : tie.After-significant-words Inv-loop μ-loop)
-    → (c .significant-words .result ≡ significant (getD (listsOf (c .before .before .before .before .before .before .before .before .before .before .before .before .args .album .now)) (c .before .before .before .before .before .before .before .loop .j) []))
-    × (c .significant-words .result ≤ c .before .before .before .before .read .result)
-    × (0 < c .significant-words .result → c .before .before .before .before .read .result - c .significant-words .result ≡ power (getD (listsOf (c .before .before .before .before .before .before .before .before .before .before .before .before .args .album .now)) (c .before .before .before .before .before .before .before .loop .j) []))
-listed c =
-    let s = c .before .before .before .before .before .before .before .before .before .before .before .before .args .album .now in
-    let counted = c .before .before .before .before .before .before .before .before .before .count-lists .ensures in
-    list-power (sym (list-at s _ (omega arith))) (held (c .before .before .before .before)) (c .significant-words .ensures)
+power-in-requires : tie.Need-power-in-requires Inv-loop μ-loop
+power-in-requires c κs = search needs
 
-sub-if2 : tie.Need-sub-if2 Inv-loop μ-loop
-sub-if2 c = let inside = listed (c .before) .1 in omega arith
-
-sub-least : tie.Need-sub-least Inv-loop μ-loop
-sub-least c = let inside = listed (c .before .before) .1 in omega arith
+smaller-requires : tie.Need-smaller-requires Inv-loop μ-loop
+smaller-requires c κs = search needs
 
 add-j : tie.Need-add-j Inv-loop μ-loop
 add-j c = search needs
@@ -80,14 +75,13 @@ loop-less c = search needs
 loop-again : tie.Need-loop-again Inv-loop μ-loop
 loop-again c =
     let inv = c .before .before .before .before .before .before .before .before .loop .inv .2 in
-    let list = listed (c .before) in (
+    let list = words (c .before .before .before .before .before) in
+    let used = c .before .significant-words .ensures ∙ ap significant list in (
       omega arith,
       search needs,
       ⊎-elim
-          (λ came. let some = came .0 .taken in let less = came .1 .taken in lowest-less _ _ inv (omega (arith, list .0)) (came .2 ∙ list .2 (omega arith)) (omega (arith, came .2)))
-          (⊎-elim
-          (λ came. let some = came .0 .taken in let more = came .1 .left in lowest-keep _ _ inv (came .2) (λ z. omega (arith, list .2 (omega arith))))
-          (λ came. let none = came .0 .left in lowest-keep _ _ inv (came .1) (λ z. absurd (omega (arith, list .0)))))
+          (λ came. lowest-next _ _ inv (λ z. came .0 .taken (used ∙ z)) (came .3 ∙ came .2 .ensures ∙ ap (min _) (came .1 .ensures ∙ ap power list)))
+          (λ came. let none = came .0 .left in lowest-over _ _ inv (sym used ∙ none) (came .1))
           (c .if1 .came),
     )
 
@@ -113,11 +107,11 @@ common-power-spec =
     longest-of-requires
     loop-holds
     read-requires
-    slice-reshare-prefix-significant-words
-    slice-aggregate-significant-words
+    slice-reshare-prefix-words
+    slice-aggregate-words
     significant-words-requires
-    sub-if2
-    sub-least
+    power-in-requires
+    smaller-requires
     add-j
     loop-less
     loop-again

@@ -27,7 +27,7 @@ enum-known-w c = search needs
 -- what the GCD gives
 given : (c : tie.After-w)
     → Answer (listsOf (c .before .before .before .before .before .before .before .before .before .args .album .now)) (albumGcd (fieldAt (c .before .before .before .before .before .before .before .before .before .args .field)) (listsOf (c .before .before .before .before .before .before .before .before .before .args .album .now)) .list)
-    (c .before .before .before .before .album-gcd-over .last .1 .1 .0) (c .w .given .0 .0 .0) (c .w .given .0 .1 .0)
+    (c .before .before .before .before .album-gcd-over .last .1 .1 .0) (c .w .given .0 .0 .0) (c .w .given .0 .1 .0 .0)
 unfolding fieldAt
 given c =
     let pre = c .before .before .before .before .before .before .before .before .before .pre .0 in
@@ -39,7 +39,7 @@ whole : (c : tie.After-w) → length (c .before .before .before .before .album-g
 whole c = omega (arith, c .before .before .before .before .album-gcd-over .kept .1 .1 .0, c .before .before .before .before .before .before .before .before .before .pre .0 .1, longest-room (c .before .before .before .before .before .before .before .before .before .args .field))
 
 -- the common power is below the number of words
-small : (c : tie.After-w) → c .w .given .0 .1 .0 < maxWords
+small : (c : tie.After-w) → c .w .given .0 .1 .0 .0 < maxWords
 small c =
     let start = c .before .before .before .before .before .before .before .before .before in
     let s = start .args .album .now in
@@ -64,7 +64,7 @@ put-gcd-requires c κs =
     let found = c .before .before .before .before in
     let answer = given found in
     let words = ap length (answer .list) in
-    let text = ap (λ h. length (gcdLines h (found .w .given .0 .1 .0))) (answer .list) in
+    let text = ap (λ h. length (gcdLines h (found .w .given .0 .1 .0 .0))) (answer .list) in
     let fits = answer-fits answer (whole found) (small found) (λ k. omega (arith, c .before .before .before .before .before .before .slice-known3 .given k)) in (
       (omega (arith, answer .words), omega (arith, answer .short, whole found), small found),
       record { fits = omega (arith, c .before .before .before .before .before .before .before .before .before .before .before .before .before .pre .1) },

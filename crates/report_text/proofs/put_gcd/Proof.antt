@@ -3,6 +3,7 @@
 use mathlib.Core.Path.{refl, sym}
 use mathlib.Core.List.{List, [], _∷_, _++_, map}
 use Prim.Native.Nat.{ℕ, _+_}
+use native.Mathlib.Omega.{arith}
 use borrow.Author.Needs.{needs}
 use Rattle.lists.specs.Degrees.{naiveDegree}
 use Rattle.report_text.specs.Text.{decimal, line}
@@ -20,36 +21,35 @@ afterPower h = (10 ∷ []) ++ line (map decimal h)
 abbrev afterDegree : List ℕ → ℕ → List ℕ
 afterDegree h c = (32 ∷ decimal c) ++ afterPower h
 
-abbrev afterName : List ℕ → ℕ → List ℕ
-afterName h c = (32 ∷ decimal (naiveDegree h + c)) ++ afterDegree h c
+abbrev afterName : List ℕ → (w c : ℕ) → List ℕ
+afterName h w c = (32 ∷ decimal (w + c)) ++ afterDegree h c
 
 slice-aggregate-put-bytes : tie.Need-slice-aggregate-put-bytes
 slice-aggregate-put-bytes c = search needs
 
 put-bytes-requires : tie.Need-put-bytes-requires
-put-bytes-requires c κs = room-first ⟨gcd⟩ _ (room-is (gcd-lines (c .before .before .before .before .args .h .now) (c .before .before .before .before .args .c)) (c .before .before .before .before .pre .1))
+put-bytes-requires c κs = room-first ⟨gcd⟩ _ (room-is (gcd-lines (c .before .before .before .before .args .h .now) (c .before .before .before .before .args .c .0) refl) (c .before .before .before .before .pre .1))
+
+degree-of-requires : tie.Need-degree-of-requires
+degree-of-requires c κs = search needs
 
 -- the room of each
-name-room : (c : tie.After-put-bytes)
-    → Room (afterName (c .before .before .before .before .before .args .h .now) (c .before .before .before .before .before .args .c)) (c .put-bytes .result) (c .put-bytes .last .1 .1 .0)
-name-room c = room-then (room-is (gcd-lines (c .before .before .before .before .before .args .h .now) (c .before .before .before .before .before .args .c)) (c .before .before .before .before .before .pre .1)) (c .put-bytes .ensures)
+name-room : (c : tie.After-degree-of)
+    → Room (afterName (c .before .before .before .before .before .before .before .before .args .h .now) (c .degree-of .result .0) (c .before .before .before .before .before .before .before .before .args .c .0)) (c .before .before .before .put-bytes .result) (c .before .before .before .put-bytes .last .1 .1 .0)
+name-room c = room-then (room-is (gcd-lines (c .before .before .before .before .before .before .before .before .args .h .now) (c .before .before .before .before .before .before .before .before .args .c .0) (c .degree-of .ensures)) (c .before .before .before .before .before .before .before .before .pre .1)) (c .before .before .before .put-bytes .ensures)
 
 degree-room : (c : tie.After-put-field)
-    → Room (afterDegree (c .before .before .before .before .before .before .before .before .before .args .h .now) (c .before .before .before .before .before .before .before .before .before .args .c)) (c .put-field .result) (c .put-field .last .1 .1 .0)
-unfolding naiveDegree
+    → Room (afterDegree (c .before .before .before .before .before .before .before .before .before .before .before .before .args .h .now) (c .before .before .before .before .before .before .before .before .before .before .before .before .args .c .0)) (c .put-field .result) (c .put-field .last .1 .1 .0)
 degree-room c = room-then (name-room (c .before .before .before .before)) (c .put-field .ensures)
 
-power-room : (c : tie.After-put-field2) → Room (afterPower (c .before .before .before .before .before .before .before .before .before .before .before .before .before .args .h .now)) (c .put-field2 .result) (c .put-field2 .last .1 .1 .0)
+power-room : (c : tie.After-put-field2) → Room (afterPower (c .before .before .before .before .before .before .before .before .before .before .before .before .before .before .before .before .args .h .now)) (c .put-field2 .result) (c .put-field2 .last .1 .1 .0)
 power-room c = room-then (degree-room (c .before .before .before .before)) (c .put-field2 .ensures)
 
-sub-put-field : tie.Need-sub-put-field
-sub-put-field c = search needs
-
 add-put-field : tie.Need-add-put-field
-add-put-field c = search needs
+unfolding naiveDegree
+add-put-field c = omega (arith, c .before .before .degree-of .ensures, c .before .before .before .before .before .before .before .before .before .before .pre .0)
 
 put-field-requires : tie.Need-put-field-requires
-unfolding naiveDegree
 put-field-requires c κs = room-first _ _ (name-room (c .before .before .before))
 
 put-field-requires-2 : tie.Need-put-field-requires-2
@@ -65,8 +65,7 @@ same-length : tie.Need-same-length
 same-length c = search needs
 
 returns : tie.Need-returns
-unfolding naiveDegree
-returns c = put-is (sym (gcd-lines _ _)) refl (put-then (c .before .before .before .before .before .before .before .before .before .before .before .before .before .before .before .before .before .before .put-bytes .ensures) (put-then (c .before .before .before .before .before .before .before .before .before .before .before .before .before .before .put-field .ensures) (put-then (c .before .before .before .before .before .before .before .before .before .before .put-field2 .ensures) (put-then (c .before .before .before .before .before .before .put .ensures) (c .before .before .put-words .ensures)))))
+returns c = put-is (sym (gcd-lines _ _ (c .before .before .before .before .before .before .before .before .before .before .before .before .before .before .before .before .before .before .degree-of .ensures))) refl (put-then (c .before .before .before .before .before .before .before .before .before .before .before .before .before .before .before .before .before .before .before .before .before .put-bytes .ensures) (put-then (c .before .before .before .before .before .before .before .before .before .before .before .before .before .before .put-field .ensures) (put-then (c .before .before .before .before .before .before .before .before .before .before .put-field2 .ensures) (put-then (c .before .before .before .before .before .before .put .ensures) (c .before .before .put-words .ensures)))))
 
 pub put-gcd-spec : {M : Type 1} → statement M
 put-gcd-spec =
@@ -74,7 +73,7 @@ put-gcd-spec =
     (tie.spec
     slice-aggregate-put-bytes
     put-bytes-requires
-    sub-put-field
+    degree-of-requires
     add-put-field
     put-field-requires
     put-field-requires-2

@@ -2,8 +2,7 @@
 -- Assumes nothing.
 use native.Mathlib.Omega.{arith}
 use borrow.Author.Needs.{needs}
-use Rattle.lists.specs.Extents.{significant-le}
-use Rattle.rounds.proofs.Power.{none, first, second, both-first, both-second}
+use Rattle.rounds.proofs.Power.{none, first, second, both}
 use Rattle.rounds.proofs.common_power.Statement.{statement}
 use Rattle.rounds.proofs.common_power.Tie as tie
 
@@ -18,39 +17,34 @@ returns c =
     let a = c .before .before .before .before .before .before .args in
     omega (arith, none (a .f .now) (a .g .now) (omega arith) (omega arith))
 
-sub-result : tie.Need-sub-result
-sub-result c = omega (arith, significant-le (c .before .before .before .before .before .before .args .g .now))
+power-in-requires : tie.Need-power-in-requires
+power-in-requires c κs = search needs
 
 returns-2 : tie.Need-returns-2
 returns-2 c =
-    let a = c .before .before .before .before .before .before .args in
+    let a = c .before .before .before .before .before .before .before .args in
     omega (arith, second (a .f .now) (a .g .now) (omega arith) (omega arith))
 
-sub-result-2 : tie.Need-sub-result-2
-sub-result-2 c = omega (arith, significant-le (c .before .before .before .before .before .before .args .f .now))
+power-in-requires-2 : tie.Need-power-in-requires-2
+power-in-requires-2 c κs = search needs
 
 returns-3 : tie.Need-returns-3
 returns-3 c =
-    let a = c .before .before .before .before .before .before .args in
+    let a = c .before .before .before .before .before .before .before .args in
     omega (arith, first (a .f .now) (a .g .now) (omega arith) (omega arith))
 
-sub-pf : tie.Need-sub-pf
-sub-pf c = omega (arith, significant-le (c .before .before .before .before .before .before .args .f .now))
-
-sub-pg : tie.Need-sub-pg
-sub-pg c = omega (arith, significant-le (c .before .before .before .before .before .before .args .g .now))
+power-in-requires-3 : tie.Need-power-in-requires-3
+power-in-requires-3 c κs = search needs
 
 returns-4 : tie.Need-returns-4
 returns-4 c =
-    let a = c .before .before .before .before .before .before .before .args in
-    both-first (a .f .now) (a .g .now) (c .before .before .before .before .significant-words .ensures) (c .before .before .before .significant-words2 .ensures)
-    (c .before .before .if1 .left) (c .before .if3 .left) (c .if4 .taken)
+    let a = c .before .before .before .before .before .before .before .before .before .before .before .args in
+    omega (arith, both (a .f .now) (a .g .now) (omega arith) (omega arith))
 
 returns-5 : tie.Need-returns-5
 returns-5 c =
-    let a = c .before .before .before .before .before .before .before .args in
-    both-second (a .f .now) (a .g .now) (c .before .before .before .before .significant-words .ensures) (c .before .before .before .significant-words2 .ensures)
-    (c .before .before .if1 .left) (c .before .if3 .left) (c .if4 .left)
+    let a = c .before .before .before .before .before .before .before .before .before .before .before .args in
+    omega (arith, both (a .f .now) (a .g .now) (omega arith) (omega arith))
 
 pub common-power-spec : {M : Type 1} → statement M
 common-power-spec =
@@ -59,11 +53,10 @@ common-power-spec =
     significant-words-requires
     significant-words-requires-2
     returns
-    sub-result
+    power-in-requires
     returns-2
-    sub-result-2
+    power-in-requires-2
     returns-3
-    sub-pf
-    sub-pg
+    power-in-requires-3
     returns-4
     returns-5)

@@ -1,0 +1,32 @@
+-- `test_calls::test_derivative` meets its contract: what the call ensures, with the number in place of the answer.
+-- Assumes nothing.
+use borrow.Author.Needs.{needs}
+use Rattle.refusal.specs.Lowest.{lowest}
+use Rattle.field.specs.Fields.{p}
+use Rattle.derivatives.specs.Calls.{derivativeRefusals}
+use Rattle.test_calls.proofs.Answers.{counted}
+use Rattle.test_calls.proofs.test_derivative.Statement.{statement}
+use Rattle.test_calls.proofs.test_derivative.Tie as tie
+
+derivative-requires : tie.Need-derivative-requires
+derivative-requires c κs = search needs
+
+outcome-number-requires : tie.Need-outcome-number-requires
+outcome-number-requires c κs = search needs
+
+same-length : tie.Need-same-length
+same-length c = search needs
+
+returns : tie.Need-returns
+returns c =
+    let start = c .before .before .before .before .before .before .before in
+    (counted (lowest (derivativeRefusals p (start .args .f .now) (start .args .out .now))) (c .before .before .before .derivative .result) (c .before .before .before .derivative .ensures .0) (c .outcome-number .ensures), (c .before .before .before .derivative .ensures .1))
+
+pub test-derivative-spec : {M : Type 1} → statement M
+test-derivative-spec =
+    tie.close
+    (tie.spec
+    derivative-requires
+    outcome-number-requires
+    same-length
+    returns)

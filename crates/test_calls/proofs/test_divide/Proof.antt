@@ -1,0 +1,36 @@
+-- `test_calls::test_divide` meets its contract: what the call ensures, with the number in place of the answer.
+-- Assumes nothing.
+use borrow.Author.Needs.{needs}
+use Rattle.refusal.specs.Lowest.{lowest}
+use Rattle.field.specs.Fields.{p}
+use Rattle.division.specs.Calls.{divideRefusals}
+use Rattle.test_calls.proofs.Answers.{counted}
+use Rattle.test_calls.proofs.test_divide.Statement.{statement}
+use Rattle.test_calls.proofs.test_divide.Tie as tie
+
+divide-requires : tie.Need-divide-requires
+divide-requires c κs = search needs
+
+outcome-number-requires : tie.Need-outcome-number-requires
+outcome-number-requires c κs = search needs
+
+same-length : tie.Need-same-length
+same-length c = search needs
+
+same-length-2 : tie.Need-same-length-2
+same-length-2 c = search needs
+
+returns : tie.Need-returns
+returns c =
+    let start = c .before .before .before .before .before .before .before .before .before .before .before .before in
+    (counted (lowest (divideRefusals p (start .args .g .now) (start .args .f .now) (start .args .q .now) (start .args .r .now))) (c .before .before .before .before .before .divide .result) (c .before .before .before .before .before .divide .ensures .0) (c .outcome-number .ensures), ((c .before .before .before .before .before .divide .ensures .1 .0), (c .before .before .before .before .before .divide .ensures .1 .1 .0)))
+
+pub test-divide-spec : {M : Type 1} → statement M
+test-divide-spec =
+    tie.close
+    (tie.spec
+    divide-requires
+    outcome-number-requires
+    same-length
+    same-length-2
+    returns)

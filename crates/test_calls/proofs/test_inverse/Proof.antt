@@ -1,0 +1,33 @@
+-- `test_calls::test_inverse` meets its contract: what the call ensures, with the number in place of the answer.
+-- Assumes nothing.
+use borrow.Author.Needs.{needs}
+use mathlib.Core.List.{[], _∷_}
+use Rattle.refusal.specs.Lowest.{lowest}
+use Rattle.field.specs.Fields.{F65521, p}
+use Rattle.field.specs.Field.{inverseRefusals, inverseOf}
+use Rattle.test_calls.proofs.Answers.{told}
+use Rattle.test_calls.proofs.test_inverse.Statement.{statement}
+use Rattle.test_calls.proofs.test_inverse.Tie as tie
+
+inverse-requires : tie.Need-inverse-requires
+inverse-requires c κs = search needs
+
+note-word-requires : tie.Need-note-word-requires
+note-word-requires c κs = search needs
+
+same-length : tie.Need-same-length
+same-length c = search needs
+
+returns : tie.Need-returns
+returns c =
+    let start = c .before .before .before .before .before .before in
+    told (lowest (inverseRefusals p (start .args .a))) (inverseOf F65521 (start .args .a) ∷ []) (start .args .answer .now) (c .before .before .before .before .inverse .ensures .0) (c .before .before .note-word .ensures .0) (c .before .before .note-word .ensures .1)
+
+pub test-inverse-spec : {M : Type 1} → statement M
+test-inverse-spec =
+    tie.close
+    (tie.spec
+    inverse-requires
+    note-word-requires
+    same-length
+    returns)

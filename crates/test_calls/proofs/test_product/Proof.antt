@@ -1,0 +1,32 @@
+-- `test_calls::test_product` meets its contract: what the call ensures, with the number in place of the answer.
+-- Assumes nothing.
+use borrow.Author.Needs.{needs}
+use Rattle.refusal.specs.Lowest.{lowest}
+use Rattle.field.specs.Fields.{p}
+use Rattle.products.specs.Calls.{productRefusals}
+use Rattle.test_calls.proofs.Answers.{counted}
+use Rattle.test_calls.proofs.test_product.Statement.{statement}
+use Rattle.test_calls.proofs.test_product.Tie as tie
+
+product-requires : tie.Need-product-requires
+product-requires c κs = search needs
+
+outcome-number-requires : tie.Need-outcome-number-requires
+outcome-number-requires c κs = search needs
+
+same-length : tie.Need-same-length
+same-length c = search needs
+
+returns : tie.Need-returns
+returns c =
+    let start = c .before .before .before .before .before .before .before .before in
+    (counted (lowest (productRefusals p (start .args .f .now) (start .args .g .now) (start .args .out .now))) (c .before .before .before .product .result) (c .before .before .before .product .ensures .0) (c .outcome-number .ensures), (c .before .before .before .product .ensures .1))
+
+pub test-product-spec : {M : Type 1} → statement M
+test-product-spec =
+    tie.close
+    (tie.spec
+    product-requires
+    outcome-number-requires
+    same-length
+    returns)

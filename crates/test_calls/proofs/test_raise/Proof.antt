@@ -1,0 +1,32 @@
+-- `test_calls::test_raise` meets its contract: what the call ensures, with the number in place of the answer.
+-- Assumes nothing.
+use borrow.Author.Needs.{needs}
+use Rattle.refusal.specs.Lowest.{lowest}
+use Rattle.field.specs.Fields.{p}
+use Rattle.products.specs.Calls.{raiseRefusals}
+use Rattle.test_calls.proofs.Answers.{counted}
+use Rattle.test_calls.proofs.test_raise.Statement.{statement}
+use Rattle.test_calls.proofs.test_raise.Tie as tie
+
+raise-requires : tie.Need-raise-requires
+raise-requires c κs = search needs
+
+outcome-number-requires : tie.Need-outcome-number-requires
+outcome-number-requires c κs = search needs
+
+same-length : tie.Need-same-length
+same-length c = search needs
+
+returns : tie.Need-returns
+returns c =
+    let start = c .before .before .before .before .before .before .before in
+    (counted (lowest (raiseRefusals p (start .args .f .now) (start .args .to) (start .args .out .now))) (c .before .before .before .raise .result) (c .before .before .before .raise .ensures .0) (c .outcome-number .ensures), (c .before .before .before .raise .ensures .1))
+
+pub test-raise-spec : {M : Type 1} → statement M
+test-raise-spec =
+    tie.close
+    (tie.spec
+    raise-requires
+    outcome-number-requires
+    same-length
+    returns)

@@ -1,0 +1,59 @@
+"""Writes the albums of samples/ from the lists below: run `python3 samples/write.py`."""
+from math import comb
+from pathlib import Path
+
+P = 65521
+
+
+def album(lists):
+    out, place = [len(lists)], 1 + 3 * len(lists)
+    for c in lists:
+        out += [len(c) - 1, place % 256, place // 256]
+        place += 2 * len(c)
+    return bytes(out + [b for c in lists for w in c for b in (w % 256, w // 256)])
+
+
+def times(f, g):
+    """The product of two lists, by its scaled form."""
+    d, e = len(f) - 1, len(g) - 1
+    scaled = [0] * (d + e + 1)
+    for i, x in enumerate(f):
+        for j, y in enumerate(g):
+            scaled[i + j] += comb(d, i) * x * comb(e, j) * y
+    return [s * pow(comb(d + e, k), -1, P) % P for k, s in enumerate(scaled)]
+
+
+def some_words(n, seed):
+    """n words that follow no pattern."""
+    words = []
+    for _ in range(n):
+        seed = (13849 + 25173 * seed) % P
+        words.append(seed)
+    return words
+
+
+EXAMPLE = [[0, 1], [0, 0, 1]]
+FACTOR = [3, 1, 4, 1]
+SHARED = [times(FACTOR, some_words(n, n)) for n in (2, 3, 5)]
+LARGEST = [some_words(256, k) for k in range(1, 17)]
+EXAMPLE_BYTES = album(EXAMPLE)
+
+SAMPLES = {
+    "example": EXAMPLE_BYTES,
+    "shared_factor": album(SHARED),
+    "powers": album([[1, 0], [1, 0, 0]]),
+    "factor_and_powers": album([times(c, [1] + [0] * k) for k, c in zip((3, 2, 4), SHARED)]),
+    "coprime": album([some_words(n, 7 * n) for n in (4, 6, 8)]),
+    "zero_lists": album([[0, 0, 0], SHARED[0], [0], SHARED[1]]),
+    "all_zero": album([[0], [0, 0]]),
+    "one_list": album([[5, 7, 0, 0]]),
+    "largest": album(LARGEST),
+    "seventeen_lists": bytes([17]) + EXAMPLE_BYTES[1:],
+    "cut": EXAMPLE_BYTES[:-1],
+    "byte_too_many": EXAMPLE_BYTES + bytes(1),
+    "wrong_place": EXAMPLE_BYTES[:5] + bytes([12]) + EXAMPLE_BYTES[6:],
+    "loose_word": album([[0, 1], [0, 0, P]]),
+}
+
+for name, content in SAMPLES.items():
+    Path(__file__).with_name(name + ".album").write_bytes(content)

@@ -1,0 +1,216 @@
+//! Every public call of the engine, by the functions that crates/test_calls exports (tests/calls.h).
+
+use crate::lent::Lent;
+
+#[derive(Clone, Copy, Debug, PartialEq)]
+pub enum Name {
+    FieldSum,
+    FieldDifference,
+    FieldProduct,
+    Inverse,
+    Product,
+    Raise,
+    Sum,
+    Difference,
+    FindExtent,
+    Trim,
+    Derivative,
+    Evaluate,
+    Divide,
+    Gcd,
+    Cofactors,
+    Check,
+    Body,
+    ReadList,
+    Contents,
+    GcdOfAlbum,
+}
+
+/// Each call with the numbers that document 01's table can give it, 0 for completed. 11 is not among them: every word that is not
+/// 0 has an inverse.
+pub const CALLS: [(Name, &[u8]); 20] = [
+    (Name::FieldSum, &[0, 5]),
+    (Name::FieldDifference, &[0, 5]),
+    (Name::FieldProduct, &[0, 5]),
+    (Name::Inverse, &[0, 5, 9]),
+    (Name::Product, &[0, 4, 5, 6, 10]),
+    (Name::Raise, &[0, 4, 5, 6, 7, 10]),
+    (Name::Sum, &[0, 4, 5, 10]),
+    (Name::Difference, &[0, 4, 5, 10]),
+    (Name::FindExtent, &[0, 4, 5]),
+    (Name::Trim, &[0, 4, 5, 9, 10]),
+    (Name::Derivative, &[0, 4, 5, 10]),
+    (Name::Evaluate, &[0, 4, 5]),
+    (Name::Divide, &[0, 4, 5, 7, 8, 10]),
+    (Name::Gcd, &[0, 4, 5, 9, 10]),
+    (Name::Cofactors, &[0, 4, 5, 9, 10]),
+    (Name::Check, &[0, 1, 2, 3, 5]),
+    (Name::Body, &[0, 1, 2, 3, 5]),
+    (Name::ReadList, &[0, 1, 2, 3, 5, 10]),
+    (Name::Contents, &[0, 1, 2, 5, 10]),
+    (Name::GcdOfAlbum, &[0, 1, 2, 5, 9, 10]),
+];
+
+/// What is handed over, before a call and after it. `part` is where the bytes of a body go, `answer` the values.
+#[derive(Clone, Debug, Default, PartialEq)]
+pub struct Memory {
+    pub lists: Vec<Vec<u16>>,
+    pub album: Vec<u8>,
+    pub results: Vec<Vec<u16>>,
+    pub part: Vec<u8>,
+    pub answer: Vec<usize>,
+}
+
+/// One call. The numbers are the operands, the degree of a raise, the point or the list's index.
+#[derive(Clone, Debug)]
+pub struct PublicCall {
+    pub name: Name,
+    pub numbers: Vec<usize>,
+    pub memory: Memory,
+}
+
+/// What is there after a call. `returned` is the refusal's number, or of a body the number of its bytes; `stray` says that
+/// something beside a slice was changed.
+#[derive(Clone, Debug, PartialEq)]
+pub struct Answer {
+    pub returned: usize,
+    pub memory: Memory,
+    pub stray: bool,
+}
+
+/// A record of the contents: two words of a result.
+#[repr(C)]
+struct Entry {
+    offset: u16,
+    degree: u16,
+}
+
+type List = *const u16;
+type Slice = *mut u16;
+type Album = *const u8;
+type Values = *mut usize;
+
+#[link(name = "test_calls", kind = "static")]
+unsafe extern "C" {
+    fn test_field_sum(a: u16, b: u16, answer: Values, answer_len: usize) -> u8;
+    fn test_field_difference(a: u16, b: u16, answer: Values, answer_len: usize) -> u8;
+    fn test_field_product(a: u16, b: u16, answer: Values, answer_len: usize) -> u8;
+    fn test_inverse(a: u16, answer: Values, answer_len: usize) -> u8;
+    fn test_product(f: List, f_len: usize, g: List, g_len: usize, out: Slice, out_len: usize) -> u8;
+    fn test_raise(f: List, f_len: usize, to: usize, out: Slice, out_len: usize) -> u8;
+    fn test_sum(f: List, f_len: usize, g: List, g_len: usize, out: Slice, out_len: usize) -> u8;
+    fn test_difference(f: List, f_len: usize, g: List, g_len: usize, out: Slice, out_len: usize) -> u8;
+    fn test_find_extent(f: List, f_len: usize, answer: Values, answer_len: usize) -> u8;
+    fn test_trim(f: List, f_len: usize, out: Slice, out_len: usize) -> u8;
+    fn test_derivative(f: List, f_len: usize, out: Slice, out_len: usize) -> u8;
+    fn test_evaluate(f: List, f_len: usize, x: u16, answer: Values, answer_len: usize) -> u8;
+    fn test_divide(g: List, g_len: usize, f: List, f_len: usize, q: Slice, q_len: usize, r: Slice, r_len: usize) -> u8;
+    fn test_gcd(f: List, f_len: usize, g: List, g_len: usize, h: Slice, h_len: usize, answer: Values, answer_len: usize) -> u8;
+    fn test_cofactors(
+        f: List,
+        f_len: usize,
+        g: List,
+        g_len: usize,
+        h: Slice,
+        h_len: usize,
+        a: Slice,
+        a_len: usize,
+        b: Slice,
+        b_len: usize,
+        answer: Values,
+        answer_len: usize,
+    ) -> u8;
+    fn test_check(album: Album, album_len: usize, i: usize) -> u8;
+    fn test_body(album: Album, album_len: usize, i: usize, out: *mut u8, out_len: usize) -> usize;
+    fn test_read_list(
+        album: Album,
+        album_len: usize,
+        i: usize,
+        out: Slice,
+        out_len: usize,
+        answer: Values,
+        answer_len: usize,
+    ) -> u8;
+    fn test_contents(album: Album, album_len: usize, out: *mut Entry, out_len: usize) -> u8;
+    fn test_gcd_of_album(album: Album, album_len: usize, h: Slice, h_len: usize, answer: Values, answer_len: usize) -> u8;
+}
+
+/// Runs a call on copies of its slices.
+pub fn run(call: &PublicCall) -> Answer {
+    let before = &call.memory;
+    let mut lists: Vec<Lent<u16>> = before.lists.iter().map(|list| Lent::new(list)).collect();
+    let mut album = Lent::new(&before.album);
+    let mut results: Vec<Lent<u16>> = before.results.iter().map(|result| Lent::new(result)).collect();
+    let mut part = Lent::new(&before.part);
+    let mut answer = Lent::new(&before.answer);
+    let returned = call_engine(call, &mut lists, &mut album, &mut results, &mut part, &mut answer);
+    let stray = lists.iter().chain(&results).any(Lent::is_stray) || album.is_stray() || part.is_stray() || answer.is_stray();
+    let memory = Memory {
+        lists: lists.iter_mut().map(|list| list.part().to_vec()).collect(),
+        album: album.part().to_vec(),
+        results: results.iter_mut().map(|result| result.part().to_vec()).collect(),
+        part: part.part().to_vec(),
+        answer: answer.part().to_vec(),
+    };
+    Answer { returned, memory, stray }
+}
+
+fn call_engine(
+    call: &PublicCall,
+    lists: &mut [Lent<u16>],
+    album: &mut Lent<u8>,
+    results: &mut [Lent<u16>],
+    part: &mut Lent<u8>,
+    answer: &mut Lent<usize>,
+) -> usize {
+    let word = |k: usize| call.numbers[k] as u16;
+    let number = |k: usize| call.numbers[k];
+    let lists: Vec<(List, usize)> = lists.iter_mut().map(|list| (list.part().as_ptr(), list.part().len())).collect();
+    let list = |k: usize| lists[k];
+    let results: Vec<(Slice, usize)> =
+        results.iter_mut().map(|result| (result.part().as_mut_ptr(), result.part().len())).collect();
+    let result = |k: usize| results[k];
+    let (s, n) = (album.part().as_ptr(), album.part().len());
+    let (values, room) = (answer.part().as_mut_ptr(), answer.part().len());
+    // SAFETY: each pointer goes with the length of a slice that is borrowed until the call returns, and no two overlap.
+    let refusal = unsafe {
+        match call.name {
+            Name::FieldSum => test_field_sum(word(0), word(1), values, room),
+            Name::FieldDifference => test_field_difference(word(0), word(1), values, room),
+            Name::FieldProduct => test_field_product(word(0), word(1), values, room),
+            Name::Inverse => test_inverse(word(0), values, room),
+            Name::Product | Name::Sum | Name::Difference => {
+                let function = match call.name {
+                    Name::Product => test_product,
+                    Name::Sum => test_sum,
+                    _ => test_difference,
+                };
+                let ((f, d), (g, e), (out, length)) = (list(0), list(1), result(0));
+                function(f, d, g, e, out, length)
+            }
+            Name::Raise => test_raise(list(0).0, list(0).1, number(0), result(0).0, result(0).1),
+            Name::FindExtent => test_find_extent(list(0).0, list(0).1, values, room),
+            Name::Trim => test_trim(list(0).0, list(0).1, result(0).0, result(0).1),
+            Name::Derivative => test_derivative(list(0).0, list(0).1, result(0).0, result(0).1),
+            Name::Evaluate => test_evaluate(list(0).0, list(0).1, word(0), values, room),
+            Name::Divide => {
+                let ((g, e), (f, d), (q, q_len), (r, r_len)) = (list(0), list(1), result(0), result(1));
+                test_divide(g, e, f, d, q, q_len, r, r_len)
+            }
+            Name::Gcd => {
+                let ((f, d), (g, e), (h, h_len)) = (list(0), list(1), result(0));
+                test_gcd(f, d, g, e, h, h_len, values, room)
+            }
+            Name::Cofactors => {
+                let ((f, d), (g, e), (h, h_len), (a, a_len), (b, b_len)) = (list(0), list(1), result(0), result(1), result(2));
+                test_cofactors(f, d, g, e, h, h_len, a, a_len, b, b_len, values, room)
+            }
+            Name::Check => test_check(s, n, number(0)),
+            Name::Body => return test_body(s, n, number(0), part.part().as_mut_ptr(), part.part().len()),
+            Name::ReadList => test_read_list(s, n, number(0), result(0).0, result(0).1, values, room),
+            Name::Contents => test_contents(s, n, result(0).0.cast(), result(0).1 * size_of::<u16>() / size_of::<Entry>()),
+            Name::GcdOfAlbum => test_gcd_of_album(s, n, result(0).0, result(0).1, values, room),
+        }
+    };
+    usize::from(refusal)
+}

@@ -1,0 +1,201 @@
+//! What document 01 says of every public call, compared with what the engine answers.
+
+use crate::album;
+use crate::calls::{self, Answer, Memory, Name, PublicCall};
+use crate::field::{add, mul, sub};
+use crate::model::{self, Gcd, List, MAX_WORDS};
+use crate::poly::{of_list, one_minus_t, plus, times};
+use crate::random::Random;
+
+/// What a call that completes writes and hands back: the words of its results, its values, and of a body the bytes.
+#[derive(Debug, Default, PartialEq)]
+pub struct Done {
+    pub results: Vec<List>,
+    pub values: Vec<usize>,
+    pub part: Vec<u8>,
+}
+
+impl Done {
+    fn results(results: impl Into<Vec<List>>) -> Done {
+        Done { results: results.into(), ..Done::default() }
+    }
+
+    fn value(value: u32) -> Done {
+        Done { values: vec![value as usize], ..Done::default() }
+    }
+
+    /// h with zeros after it; w, c and rounds.
+    pub fn gcd(gcd: Gcd) -> Done {
+        let values = vec![gcd.h.len() - 1, gcd.c, gcd.rounds];
+        Done { results: vec![padded(gcd.h)], values, ..Done::default() }
+    }
+}
+
+fn padded(mut list: List) -> List {
+    list.resize(MAX_WORDS, 0);
+    list
+}
+
+fn words(list: &[u32]) -> Vec<u16> {
+    list.iter().map(|&word| word as u16).collect()
+}
+
+fn list(words: &[u16]) -> List {
+    words.iter().map(|&word| u32::from(word)).collect()
+}
+
+/// The number of values that a call hands back.
+pub fn values(name: Name) -> usize {
+    match name {
+        Name::FieldSum | Name::FieldDifference | Name::FieldProduct | Name::Inverse => 1,
+        Name::FindExtent | Name::Evaluate | Name::ReadList => 1,
+        Name::Gcd | Name::Cofactors | Name::GcdOfAlbum => 3,
+        _ => 0,
+    }
+}
+
+/// A call with slices that fit, full of zeros.
+pub fn fitting(name: Name, lists: &[List], album: &[u8], numbers: &[usize]) -> PublicCall {
+    let length = |k: usize| lists[k].len();
+    let room = match name {
+        Name::Product => vec![length(0) + length(1) - 1],
+        Name::Raise => vec![numbers[0].saturating_add(1).min(2 * MAX_WORDS)],
+        Name::Sum | Name::Difference => vec![length(0).max(length(1))],
+        Name::Trim => vec![model::extent(&lists[0]).map_or(1, |x| x + 1)],
+        Name::Derivative => vec![length(0).max(2) - 1],
+        Name::Divide => vec![(length(0) + 1).saturating_sub(length(1)), length(1) - 1],
+        Name::Gcd | Name::ReadList | Name::GcdOfAlbum => vec![MAX_WORDS],
+        Name::Contents => vec![2 * album::MAX_LISTS],
+        Name::Cofactors => {
+            let m = model::cofactor_degree(&lists[0], &lists[1]);
+            vec![MAX_WORDS, m + 2 - length(0), m + 2 - length(1)]
+        }
+        _ => vec![],
+    };
+    let part = if name == Name::Body { album::body(album, numbers[0]).map_or(4, |part| part.len()) } else { 0 };
+    let memory = Memory {
+        lists: lists.iter().map(|list| words(list)).collect(),
+        album: album.to_vec(),
+        results: room.into_iter().map(|length| vec![0; length]).collect(),
+        part: vec![0; part],
+        answer: vec![usize::MAX; values(name)],
+    };
+    PublicCall { name, numbers: numbers.to_vec(), memory }
+}
+
+/// What the call does, or the number of its refusal.
+pub fn outcome(call: &PublicCall) -> Result<Done, u8> {
+    let lists: Vec<List> = call.memory.lists.iter().map(|words| list(words)).collect();
+    let (number, word) = (|k: usize| call.numbers[k], |k: usize| call.numbers[k] as u32);
+    let room = |k: usize| call.memory.results[k].len();
+    let album = &call.memory.album[..];
+    let one = |list: List| Done::results([list]);
+    match call.name {
+        Name::FieldSum => model::coefficients(word(0), word(1), add).map(Done::value),
+        Name::FieldDifference => model::coefficients(word(0), word(1), sub).map(Done::value),
+        Name::FieldProduct => model::coefficients(word(0), word(1), mul).map(Done::value),
+        Name::Inverse => model::inverse(word(0)).map(Done::value),
+        Name::Product => model::product(&lists[0], &lists[1], room(0)).map(one),
+        Name::Raise => model::raise(&lists[0], number(0), room(0)).map(one),
+        Name::Sum => model::sum(&lists[0], &lists[1], room(0)).map(one),
+        Name::Difference => model::difference(&lists[0], &lists[1], room(0)).map(one),
+        Name::FindExtent => model::find_extent(&lists[0]).map(|x| Done { values: x.into_iter().collect(), ..Done::default() }),
+        Name::Trim => model::remove_top_zeros(&lists[0], room(0)).map(one),
+        Name::Derivative => model::derivative(&lists[0], room(0)).map(one),
+        Name::Evaluate => model::evaluate(&lists[0], word(0)).map(Done::value),
+        Name::Divide => model::divide(&lists[0], &lists[1], room(0), room(1)).map(|(q, r)| Done::results([q, r])),
+        Name::Gcd => model::gcd(&lists[0], &lists[1], room(0)).map(Done::gcd),
+        Name::Cofactors => model::cofactors(&lists[0], &lists[1], room(0), room(1), room(2)).map(|(gcd, a, b)| {
+            let mut done = Done::gcd(gcd);
+            done.results.extend([a, b]);
+            done
+        }),
+        Name::Check => album::check(album, number(0)).map(|_| Done::default()),
+        Name::Body => album::body(album, number(0)).map(|part| Done { part, ..Done::default() }),
+        Name::ReadList => album::read_list(album, number(0), room(0)).map(|list| Done {
+            values: vec![list.len() - 1],
+            results: vec![padded(list)],
+            ..Done::default()
+        }),
+        Name::Contents => album::contents(album, room(0) / 2).map(one),
+        Name::GcdOfAlbum => album::gcd_of_album(album, room(0)).map(Done::gcd),
+    }
+}
+
+/// The answer that document 01 gives. Values are written where their slice has room for exactly them, and so is a body.
+pub fn expected(call: &PublicCall) -> Answer {
+    let mut memory = call.memory.clone();
+    let returned = match outcome(call) {
+        Ok(done) => {
+            memory.results = done.results.iter().map(|result| words(result)).collect();
+            if memory.answer.len() == done.values.len() {
+                memory.answer = done.values;
+            }
+            let bytes = done.part.len();
+            if memory.part.len() == bytes {
+                memory.part = done.part;
+            }
+            if call.name == Name::Body { bytes } else { 0 }
+        }
+        Err(_) if call.name == Name::Body => 0,
+        Err(number) => usize::from(number),
+    };
+    Answer { returned, memory, stray: false }
+}
+
+/// What is wrong with an answer of the engine, if anything is.
+pub fn fault(call: &PublicCall, answer: &Answer) -> Option<String> {
+    let expected = expected(call);
+    if *answer != expected {
+        return Some(format!("{answer:?}, and not {expected:?}"));
+    }
+    if call.name == Name::Cofactors && answer.returned == 0 { cofactor_fault(&answer.memory) } else { None }
+}
+
+/// Demand 3's identity of the cofactors, between polynomials in t: a f + b g = (1-t)^(m-w) h.
+pub fn cofactor_fault(memory: &Memory) -> Option<String> {
+    let ([f, g], [h, a, b]) = (&memory.lists[..], &memory.results[..]) else { panic!("two lists and three results") };
+    let [f, g, h, a, b] = [f, g, h, a, b].map(|words| list(words));
+    let m = model::cofactor_degree(&f, &g);
+    let w = model::extent(&h).unwrap_or(0);
+    let left = plus(&times(&of_list(&a), &of_list(&f)), &times(&of_list(&b), &of_list(&g)));
+    let right = times(&one_minus_t(m - w), &of_list(&h[..=w]));
+    if left == right { None } else { Some("a f + b g is not (1-t)^(m-w) h".into()) }
+}
+
+/// A way to break a copy of an answer, where it can be broken so: true if it was.
+type Break = fn(&mut Answer) -> bool;
+
+const BREAKS: [(&str, Break); 6] = [
+    ("another number", |answer| {
+        answer.returned += 1;
+        true
+    }),
+    ("one word of a result", |answer| {
+        answer.memory.results.last_mut().and_then(|r| r.first_mut()).map(|word| *word ^= 1).is_some()
+    }),
+    ("a value", |answer| answer.memory.answer.last_mut().map(|value| *value ^= 1).is_some()),
+    ("one word of a list", |answer| answer.memory.lists.last_mut().and_then(|l| l.last_mut()).map(|word| *word ^= 1).is_some()),
+    ("a byte of an album", |answer| answer.memory.album.last_mut().map(|byte| *byte ^= 1).is_some()),
+    ("a byte of a body", |answer| answer.memory.part.last_mut().map(|byte| *byte ^= 1).is_some()),
+];
+
+/// Tries broken copies of real answers, of each call; an error names the first that is not noticed.
+pub fn try_broken_copies(random: &mut Random) -> Result<String, String> {
+    let mut tried = [0; BREAKS.len()];
+    for (name, _) in calls::CALLS {
+        for _ in 0..10 {
+            let call = random.public_call(name);
+            let answer = calls::run(&call);
+            for ((what, break_copy), count) in BREAKS.iter().zip(&mut tried) {
+                let mut copy = answer.clone();
+                if break_copy(&mut copy) {
+                    fault(&call, &copy).ok_or(format!("not noticed: {what} changed in the answer to {call:?}"))?;
+                    *count += 1;
+                }
+            }
+        }
+    }
+    let said: Vec<String> = BREAKS.iter().zip(tried).map(|((what, _), count)| format!("{what} ({count})")).collect();
+    if tried.contains(&0) { Err(format!("some break was never tried: {}", said.join(", "))) } else { Ok(said.join(", ")) }
+}

@@ -16,7 +16,6 @@ ghost use Rattle.cofactors.specs.Calls.{cofactorRefusals};
 ghost use Rattle.layout.specs.Calls.{checkRefusals};
 ghost use Rattle.album.specs.Calls.{listedReply, readRefusals};
 ghost use Rattle.album_gcd.specs.Calls.{albumGcdRefusals};
-ghost use Rattle.report_text.specs.Calls.{textReply, reportRefusals};
 ghost use Rattle.host.specs.Calls.{productRows, divisionRows, gcdRows};
 ghost use Rattle.demand1.specs.Demand1.{Demand1, slice, EmptyRefused};
 use album::Listed;
@@ -25,7 +24,6 @@ use field::Word;
 use gcd::Gcd;
 use lists::NaiveDegree;
 use refusal::Outcome;
-use report_text::Text;
 
 fn field_sum(a: u16, b: u16) -> Word
     ensures { λ r. ⌜ Demand1 (operandRefusals p a b) (wordReply r .number) [] ⌝ }
@@ -140,12 +138,6 @@ fn gcd_of_album(album: &[u8], h: &mut [u16]) -> Gcd
     ensures { λ r. ⌜ Demand1 (albumGcdRefusals p (now (album .entry)) (now (h .entry))) (gcdReply r .number) (slice (now (h .entry)) (now (h .exit)) ∷ []) ⌝ }
 {
     album_gcd::gcd_of_album(album, h)
-}
-
-fn write_report(album: &[u8], out: &mut [u8]) -> Text
-    ensures { λ r. ⌜ Demand1 (reportRefusals (now (out .entry))) (textReply r .number) (slice (now (out .entry)) (now (out .exit)) ∷ []) ⌝ }
-{
-    report_text::write_report(album, out)
 }
 
 fn host_bernstein_product(f: &[u8], g: &[u8], out: &mut [u8]) -> u8

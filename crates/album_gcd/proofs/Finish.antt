@@ -14,17 +14,19 @@ use Rattle.refusal.specs.declared.Refusal.{Refusal}
 use Rattle.refusal.specs.declared.Outcome.the-variants.{Done, Refused}
 use Rattle.lists.specs.Degrees.{naiveDegree}
 use Rattle.lists.specs.Lists.{Coefficients}
-use Rattle.lists.specs.Refused.{Listed}
-use Rattle.euclid.specs.Gcds.{commonPower, padded}
-use Rattle.euclid.specs.Loops.{getD-padded}
-use Rattle.albums.specs.Albums.{albumGcd}
-use Rattle.albums.specs.Greatest.{coefficients-none, album-length, album-ends, album-is-greatest}
-use Rattle.albums.specs.Folds.{zeroStart, foldGcd, fold-album}
-use Rattle.layout.specs.Layout.{listsOf}
-use Rattle.gcd.specs.declared.Gcd.the-variants as G
-use Rattle.gcd.specs.Calls.{gcdReply}
+use Rattle.lists.specs.Refused.{IsList}
+use Rattle.euclid_theory.specs.Gcd.{commonPower}
+use Rattle.lists.specs.Padded.{padded}
+use Rattle.lists.proofs.Padded.{getD-padded}
+use Rattle.album_theory.specs.Albums.{albumGcd}
+use Rattle.album_theory.proofs.Greatest.{coefficients-none, album-length, album-ends, album-is-greatest}
+use Rattle.album_theory.specs.Folds.{zeroStart, foldGcd}
+use Rattle.album_theory.proofs.Folds.{fold-album}
+use Rattle.album_layout.specs.Layout.{listsOf}
+use Rattle.list_gcd.specs.declared.Gcd.the-variants as G
+use Rattle.list_gcd.specs.Calls.{gcdReply}
 use Rattle.album_gcd.specs.Calls.{albumGcdRows, albumGcdValues, AlbumGreatestSo}
-use Rattle.album_gcd.specs.Workers.{Folded, Answered}
+use Rattle.album_gcd.specs.Internal.{Folded, Answered}
 use Rattle.album_gcd.proofs.Zeros.{Nonzero}
 
 pub refused : (F : PrimeField) (most : ℕ) (s h : List ℕ) {why : Refusal} → lowest (albumGcdRows (F .p) most s h) ≡ Refused why
@@ -37,7 +39,7 @@ refused F most s h e =
     }
 
 module _ (F : PrimeField) (most : ℕ) (big : most ≤ F .p) (lists : List (List ℕ))
-    (listed : (i : ℕ) → i < length lists → Listed (F .p) most (getD lists i [])) (one : Nonzero lists) where
+    (listed : (i : ℕ) → i < length lists → IsList (F .p) most (getD lists i [])) (one : Nonzero lists) where
   pub each : (i : ℕ) → Coefficients F (getD lists i [])
   each i = go (decLt i (length lists))
     where
@@ -81,7 +83,7 @@ module _ (F : PrimeField) (most : ℕ) (big : most ≤ F .p) (lists : List (List
         (f .rounds ∙ ap (λ r. r .rounds) (sym whole))
 
 module _ (F : PrimeField) (most : ℕ) (big : most ≤ F .p) (s h : List ℕ)
-    (listed : (i : ℕ) → i < length (listsOf s) → Listed (F .p) most (getD (listsOf s) i [])) (one : Nonzero (listsOf s)) where
+    (listed : (i : ℕ) → i < length (listsOf s) → IsList (F .p) most (getD (listsOf s) i [])) (one : Nonzero (listsOf s)) where
   pub answered : {x : List ℕ} {n k c : ℕ} → Done ≡ lowest (albumGcdRows (F .p) most s h) → Folded F most (listsOf s) x n k
       → c ≡ commonPower (listsOf s) → Answered F most s h x (G.Done (record { 0 = n - 1 }) (record { 0 = c }) (record { 0 = k }))
   answered {x} {n} {k} {c} e f ec =

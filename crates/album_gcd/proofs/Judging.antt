@@ -12,9 +12,9 @@ use Rattle.refusal.specs.declared.Refusal.{Refusal}
 use Rattle.refusal.specs.declared.Refusal.the-variants.{AllZero, Misfit}
 use Rattle.refusal.specs.declared.Outcome.the-variants.{Done, Refused}
 use Rattle.refusal.proofs.First.{refuse, or-else, first-then, refuse-done, or-else-done}
-use Rattle.layout.specs.Layout.{listsOf}
-use Rattle.layout.specs.Calls.{albumRefusals}
-use Rattle.layout.specs.Workers.{Passed}
+use Rattle.album_layout.specs.Layout.{listsOf}
+use Rattle.album_layout.specs.Calls.{albumRefusals}
+use Rattle.album_layout.specs.Internal.{Passed}
 use Rattle.album_gcd.specs.Calls.{allZero, albumGcdRows}
 
 module _ (p most : ℕ) (s h : List ℕ) where

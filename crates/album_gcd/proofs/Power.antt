@@ -9,9 +9,9 @@ use native.Mathlib.Decide.{ℕ-discrete, decLt}
 use native.Mathlib.Omega.{arith}
 use lib.ListN.{getD, length, List·getD-eq-default}
 use Rattle.lists.specs.Degrees.{significant, power}
-use Rattle.lists.specs.Extents.{significant-le, power-is}
-use Rattle.euclid.specs.Gcds.{commonPower}
-use Rattle.euclid.specs.Powers.{significant-nil, commonPower-le, commonPower-attained}
+use Rattle.lists.proofs.Extents.{significant-le, power-is}
+use Rattle.euclid_theory.specs.Gcd.{commonPower}
+use Rattle.euclid_theory.proofs.Powers.{significant-nil, commonPower-le, commonPower-attained}
 use Rattle.album_gcd.proofs.Zeros.{Nonzero}
 
 module _ (most : ℕ) (lists : List (List ℕ)) where

@@ -20,21 +20,23 @@ use Rattle.refusal.specs.declared.Outcome.the-variants.{Done}
 use Rattle.lists.specs.declared.NaiveDegree.{NaiveDegree}
 use Rattle.lists.specs.declared.Power.{Power}
 use Rattle.lists.specs.Degrees.{naiveDegree, significant}
-use Rattle.lists.specs.Extents.{significant-le}
+use Rattle.lists.proofs.Extents.{significant-le}
 use Rattle.lists.specs.Lists.{Coefficients}
-use Rattle.lists.specs.Refused.{wrongLength, hasLoose, listRefusals, Listed}
+use Rattle.lists.specs.Refused.{wrongLength, hasLoose, listRefusals, IsList}
 use Rattle.lists.proofs.Judged.{judged}
-use Rattle.euclid.specs.Gcds.{gcdOf, countOf, padded}
-use Rattle.euclid.specs.Gcd.{gcd-rounds}
-use Rattle.euclid.specs.Loops.{padded-is}
-use Rattle.albums.specs.Folds.{zeroStart, turn, foldGcd, turn-zero, turn-nonzero, fold-none, fold-drop, start-listed, turn-listed}
-use Rattle.gcd.specs.declared.Gcd.the-variants as G
-use Rattle.gcd.specs.declared.Rounds.{Rounds}
-use Rattle.gcd.specs.Calls.{gcdReply, gcdValues, gcdRows}
-use Rattle.gcd.proofs.Ready.{judged-done}
-use Rattle.album.specs.Workers.{Held}
-use Rattle.album.proofs.Held.{held-take, held-length}
-use Rattle.album_gcd.specs.Workers.{Turned, Folded}
+use Rattle.euclid_theory.specs.Gcd.{gcdOf, roundsOf}
+use Rattle.lists.specs.Padded.{padded}
+use Rattle.euclid_theory.proofs.Gcd.{gcd-rounds}
+use Rattle.lists.proofs.Padded.{padded-is}
+use Rattle.album_theory.specs.Folds.{zeroStart, turn, foldGcd}
+use Rattle.album_theory.proofs.Folds.{turn-zero, turn-nonzero, fold-none, fold-drop, start-listed, turn-listed}
+use Rattle.list_gcd.specs.declared.Gcd.the-variants as G
+use Rattle.list_gcd.specs.declared.Rounds.{Rounds}
+use Rattle.list_gcd.specs.Calls.{gcdReply, gcdValues, gcdRows}
+use Rattle.list_gcd.proofs.Ready.{judged-done}
+use Rattle.album_reader.specs.Internal.{Held}
+use Rattle.album_reader.proofs.Held.{held-take, held-length}
+use Rattle.album_gcd.specs.Internal.{Turned, Folded}
 
 -- a list that no call refuses passes
 module _ (p most : ℕ) where
@@ -43,13 +45,13 @@ module _ (p most : ℕ) where
   tight [] h = refl
   tight (x ∷ c) h = rw (lt-leb p x (h 0)) (tight c (λ k. h (suc k)))
 
-  right-length : (c : List ℕ) → Listed p most c → wrongLength most c ≡ false
+  right-length : (c : List ℕ) → IsList p most c → wrongLength most c ≡ false
   unfolding wrongLength
   right-length c l =
       let some = l .some in
       simp (ne-eqb (length c) 0 (λ e. omega arith), le-ltb most (length c) (l .short))
 
-  module _ (f g : List ℕ) (lf : Listed p most f) (lg : Listed p most g) where
+  module _ (f g : List ℕ) (lf : IsList p most f) (lg : IsList p most g) where
     lists-pass : lowest (listRefusals p most (f ∷ g ∷ [])) ≡ Done
     lists-pass =
         judged p most (f ∷ g ∷ [])
@@ -73,7 +75,7 @@ module _ (F : PrimeField) (most : ℕ) (big : most ≤ F .p) where
           is = λ k. turn-zero F (record { list = f; rounds = k }) c e ∙ ap (λ j. record { list = f; rounds = j }) (sym (add-zero k));
         }
 
-    module _ (lc : Listed (F .p) most c) (some : ¬ (significant c ≡ 0)) where
+    module _ (lc : IsList (F .p) most c) (some : ¬ (significant c ≡ 0)) where
       pass : lowest (gcdRows (F .p) most f c x) ≡ Done
       pass = gcd-pass (F .p) most f c (h .listed) lc x some (held-length h)
 
@@ -90,13 +92,13 @@ module _ (F : PrimeField) (most : ℕ) (big : most ≤ F .p) where
         unfolding gcdValues
         degree = value 0
 
-        count : k .0 ≡ countOf F f c
+        count : k .0 ≡ roundsOf F f c
         unfolding gcdValues
         count = value 2
 
-        listed : Listed (F .p) most (gcdOf F f c)
+        listed : IsList (F .p) most (gcdOf F f c)
         listed =
-            subst (λ r. Listed (F .p) most (r .list)) (turn-nonzero F (record { list = f; rounds = 0 }) c some)
+            subst (λ r. IsList (F .p) most (r .list)) (turn-nonzero F (record { list = f; rounds = 0 }) c some)
             (turn-listed F most (record { list = f; rounds = 0 }) c big (h .listed) lc)
 
         coefficients : Coefficients F f

@@ -19,13 +19,13 @@ use Rattle.refusal.specs.Lowest.{Condition, _given-when_}
 use Rattle.refusal.specs.declared.Refusal.the-variants.{AllZero, Misfit}
 use Rattle.lists.specs.Degrees.{naiveDegree, significant}
 use Rattle.lists.specs.Lists.{meaning}
-use Rattle.euclid.specs.Gcds.{commonPower}
-use Rattle.albums.specs.Albums.{albumGcd}
-use Rattle.albums.specs.Greatest.{IsGreatestOf}
-use Rattle.layout.specs.Layout.{listsOf}
-use Rattle.layout.specs.Calls.{albumRefusals}
-use Rattle.gcd.specs.declared.Gcd.{Gcd}
-use Rattle.gcd.specs.declared.Gcd.the-variants.{Done, Refused}
+use Rattle.euclid_theory.specs.Gcd.{commonPower}
+use Rattle.album_theory.specs.Albums.{albumGcd}
+use Rattle.album_theory.specs.Greatest.{IsGreatestOf}
+use Rattle.album_layout.specs.Layout.{listsOf}
+use Rattle.album_layout.specs.Calls.{albumRefusals}
+use Rattle.list_gcd.specs.declared.Gcd.{Gcd}
+use Rattle.list_gcd.specs.declared.Gcd.the-variants.{Done, Refused}
 
 unfoldable pub allZero : List (List ℕ) → Bool
 allZero [] = true

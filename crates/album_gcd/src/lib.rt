@@ -7,17 +7,18 @@ ghost use Rattle.field.specs.Fields.{F65521, p, modulus, fieldAt, longest};
 ghost use Rattle.refusal.specs.Limits.{maxWords};
 ghost use Rattle.refusal.specs.Refusal.{reply, written};
 ghost use Rattle.refusal.specs.Lowest.{lowest};
-ghost use Rattle.lists.specs.Refused.{Listed};
-ghost use Rattle.euclid.specs.Gcds.{padded, commonPower};
-ghost use Rattle.albums.specs.Albums.{albumGcd};
-ghost use Rattle.layout.specs.Layout.{count, listsOf};
-ghost use Rattle.layout.specs.Workers.{Passed};
-ghost use Rattle.album.specs.Workers.{Held};
-ghost use Rattle.gcd.specs.Calls.{gcdReply};
+ghost use Rattle.lists.specs.Refused.{IsList};
+ghost use Rattle.euclid_theory.specs.Gcd.{commonPower};
+ghost use Rattle.lists.specs.Padded.{padded};
+ghost use Rattle.album_theory.specs.Albums.{albumGcd};
+ghost use Rattle.album_layout.specs.Layout.{count, listsOf};
+ghost use Rattle.album_layout.specs.Internal.{Passed};
+ghost use Rattle.album_reader.specs.Internal.{Held};
+ghost use Rattle.list_gcd.specs.Calls.{gcdReply};
 ghost use Rattle.album_gcd.specs.Calls.{allZero, albumGcdRows, albumGcdRefusals, albumGcdValues, AlbumGreatest};
-ghost use Rattle.album_gcd.specs.Workers.{Turned, Folded, Answered};
-use gcd::Gcd;
-use gcd::Rounds;
+ghost use Rattle.album_gcd.specs.Internal.{Turned, Folded, Answered};
+use list_gcd::Gcd;
+use list_gcd::Rounds;
 use lists::NaiveDegree;
 use lists::Power;
 use refusal::Outcome;
@@ -70,7 +71,7 @@ fn all_zero(field: u8, album: &[u8], list: &mut [u16]) -> bool
     let n = count_lists(album);
     let mut i = 0;
     while i < n {
-        let m = album::read(field, album, i, list);
+        let m = album_reader::read(field, album, i, list);
         if lists::significant_words(&list[..m]) != 0 {
             return false;
         }
@@ -84,7 +85,7 @@ fn judge(field: u8, album: &[u8], list: &mut [u16], h: &[u16]) -> Outcome
     requires { ⌜ length (now list) ≡ longest field ⌝ }
     ensures { λ r. ⌜ r ≡ lowest (albumGcdRows (modulus field) (longest field) (now (album .entry)) (now (h .entry))) ⌝ }
 {
-    if let Outcome::Refused(why) = layout::judge_album(field, album) {
+    if let Outcome::Refused(why) = album_layout::judge_album(field, album) {
         return Outcome::Refused(why);
     }
     if all_zero(field, album, list) {
@@ -106,7 +107,7 @@ fn common_power(field: u8, album: &[u8], list: &mut [u16]) -> Power
     let mut least = field::longest_of(field);
     let mut j = 0;
     while j < n {
-        let m = album::read(field, album, j, list);
+        let m = album_reader::read(field, album, j, list);
         let words = &list[..m];
         if lists::significant_words(words) != 0 {
             least = lists::smaller(least, lists::power_in(words).0);
@@ -136,7 +137,7 @@ struct Found {
 
 // One more list: the result so far, in h, becomes the GCD of both, and stays where the list is zero. last is room for a copy of it.
 fn turn(field: u8, list: &[u16], last: &mut [u16], h: &mut [u16], words: usize) -> Found
-    requires { ⌜ Listed (modulus field) (longest field) (now list) ⌝ }
+    requires { ⌜ IsList (modulus field) (longest field) (now list) ⌝ }
     requires { ⌜ Held (modulus field) (longest field) (now h) words (take words (now h)) ⌝ }
     requires { ⌜ length (now last) ≡ longest field ⌝ }
     ensures { λ r. ⌜ Turned (fieldAt field) (longest field) (take words (now (h .entry))) (now (list .entry)) (now (h .exit)) (r .words) (r .rounds) ⌝ }
@@ -145,7 +146,7 @@ fn turn(field: u8, list: &[u16], last: &mut [u16], h: &mut [u16], words: usize) 
         return Found { words, rounds: 0 };
     }
     copy(h, last);
-    match gcd::gcd_over(field, &last[..words], list, h) {
+    match list_gcd::gcd_over(field, &last[..words], list, h) {
         Gcd::Done(w, _, rounds) => Found {
             words: w.0 + 1,
             rounds: rounds.0,
@@ -167,7 +168,7 @@ fn all_turns(field: u8, album: &[u8], list: &mut [u16], last: &mut [u16], h: &mu
     let mut rounds = 0;
     let mut k = 0;
     while k < n {
-        let m = album::read(field, album, k, list);
+        let m = album_reader::read(field, album, k, list);
         let found = turn(field, &list[..m], last, h, words);
         words = found.words;
         rounds += found.rounds;

@@ -14,7 +14,13 @@ pub mod Division
 pub mod Euclid
 pub mod Rounds
 pub mod Monic
-pub mod CommonDivisor
 pub mod Choose
 pub mod PrimeField
 pub mod Derivative
+pub mod Modular
+pub mod ModularLaws
+pub mod Residues
+pub mod ResiduesLaws
+pub mod RingLaws
+pub mod Sequences
+pub mod SequencesLaws

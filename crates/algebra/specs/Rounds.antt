@@ -4,15 +4,12 @@
 --                  x = q · y + r for a polynomial q, and r is 0 or of lower degree than y.
 --
 -- Assumes nothing.
-use mathlib.Core.Path.{_≡_, _∙_, refl, sym, ap, subst}
-use Prim.Native.Nat.{ℕ, zero, suc, _-_, _≤_}
-use native.Mathlib.Omega.{arith}
-use Rattle.algebra.specs.Ring.{CommRing, IsField}
-use Rattle.algebra.specs.Series.{SeriesRing, coeff-0}
-use Rattle.algebra.specs.Polynomial.{Below, below-mono, Polynomial, polynomial}
-use Rattle.algebra.specs.Degree.{Degree, degree-unique, size, size-le, size-extent, size-least, size-zero}
-use Rattle.algebra.specs.Division.{division, quotient-below, division-unique}
-use Rattle.algebra.specs.Euclid.{Euclid, remainderBy, done, next, euclid, euclid-end, euclid-round, remainder-small}
+use mathlib.Core.Path.{_≡_}
+use Prim.Native.Nat.{ℕ, zero, suc}
+use Rattle.algebra.specs.Ring.{CommRing}
+use Rattle.algebra.specs.Series.{SeriesRing}
+use Rattle.algebra.specs.Polynomial.{Below, Polynomial}
+use Rattle.algebra.specs.Degree.{Degree}
 
 module _ {Rg : CommRing} (X : SeriesRing Rg) where
   open CommRing (X .ring) using (Carrier as S, zero as 0ˢ, add as _+ˢ_, mul as _*ˢ_)
@@ -23,41 +20,3 @@ module _ {Rg : CommRing} (X : SeriesRing Rg) where
     stop : {x y : S} → y ≡ 0ˢ → Rounds x y 0 x
     round : {x y q r l : S} {d k : ℕ} → Degree X d y → Polynomial X q → Below X d r → x ≡ q *ˢ y +ˢ r → Rounds y r k l
         → Rounds x y (suc k) l
-
-  degree-nonzero : {d : ℕ} {y : S} → Degree X d y → y ≡ 0ˢ → ⊥
-  degree-nonzero {d} {y} xy e = xy .top (ap (λ s. X .coeff s d) e ∙ coeff-0 X d)
-
-  module _ (K : IsField Rg) where
-    -- one number of rounds and one last x
-    pub rounds-unique : {x y l l′ : S} {k k′ : ℕ} → Rounds x y k l → Rounds x y k′ l′ → (k ≡ k′) × (l ≡ l′)
-    rounds-unique (stop e) (stop e′) = (refl, refl)
-    rounds-unique (stop e) (round xy pq hr q z) = absurd (degree-nonzero xy e)
-    rounds-unique (round xy pq hr q z) (stop e) = absurd (degree-nonzero xy e)
-    rounds-unique (round {y = y} {r = r} {d = d} xy pq hr e z) (round {r = r′} {l = l} {k = k} xy′ pq′ hr′ e′ z′) =
-        let same : r ≡ r′ = division-unique X K d xy pq pq′ hr (subst (λ i. Below X i r′) (degree-unique X xy′ xy) hr′) (sym e ∙ e′) .1 in
-        let b = rounds-unique z (subst (λ s. Rounds y s k l) (sym same) z′) in
-        (ap suc (b .0), b .1)
-
-    abbrev Counts : S → S → Euclid X K → Type 0
-    Counts x y z = Rounds x y (z .rounds) (z .last)
-
-    -- those that euclid counts
-    pub euclid-rounds : (fuel n : ℕ) {x y : S} → Below X n x → Below X n y → size X K n y ≤ fuel
-        → Rounds x y (euclid X K fuel n x y .rounds) (euclid X K fuel n x y .last)
-    unfolding done next
-    euclid-rounds zero n {x} {y} hx hy l =
-        let e : size X K n y ≡ 0 = omega arith in rw (euclid-end X K 0 n x y e) (stop (size-zero X K n hy e))
-    euclid-rounds (suc fuel) n {x} {y} hx hy l =
-        go
-        (λ d e. let h = remainder-small X K n d hx hy e in
-        euclid-rounds fuel n hy (below-mono X (let l1 = size-le X K n y in omega arith) h)
-        (let l2 = size-least X K n d h in omega arith))
-        (size X K n y) refl
-      where
-        go : ((d : ℕ) → size X K n y ≡ suc d → Counts y (remainderBy X K n d x y) (euclid X K fuel n y (remainderBy X K n d x y)))
-            → (j : ℕ) → size X K n y ≡ j → Counts x y (euclid X K (suc fuel) n x y)
-        go ih zero e = rw (euclid-end X K (suc fuel) n x y e) (stop (size-zero X K n hy e))
-        go ih (suc d) e =
-            rw (euclid-round X K fuel n d x y e)
-            (round (size-extent X K n d hy e) (polynomial X (quotient-below X K (size X K n x - d) d x y))
-            (remainder-small X K n d hx hy e) (division X K (size X K n x - d) d x y) (ih d e))

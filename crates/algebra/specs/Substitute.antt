@@ -3,59 +3,12 @@
 -- ⟨1+u⟩   the polynomial 1 + u. With u = t/(1-t) it is 1/(1-t), so at degree 1 it homogenises to 1.
 --
 -- Assumes nothing.
-use mathlib.Core.Path.{_≡_, _∙_, sym, ap, ap₂, subst}
-use Prim.Native.Nat.{ℕ, zero, suc, _+_}
-use native.Mathlib.Nat as N
-use native.Mathlib.Numerals.{add-one}
-use native.Mathlib.Omega.{arith}
-use Rattle.algebra.specs.Ring as R
-use Rattle.algebra.specs.Ring.{CommRing, RING}
-use Rattle.algebra.specs.Series.{SeriesRing, C, t, tail, coeff-add, coeff-1-zero, coeff-1-suc, coeff-tail, coeff-t-zero, coeff-t-one, C-one}
-use Rattle.algebra.specs.Polynomial.{Below, below-mono, below-add, below-1, below-t, below-mul}
-use Rattle.algebra.specs.OneMinusT.{⟨1-t⟩, ⟨1-t⟩^-zero, ⟨1-t⟩^-suc}
-use Rattle.algebra.specs.Homogenise.{hom, hom-zero, hom-suc, hom-mul}
+use Rattle.algebra.specs.Ring.{CommRing}
+use Rattle.algebra.specs.Series.{SeriesRing, t}
 
 module _ {Rg : CommRing} (X : SeriesRing Rg) where
-  open CommRing Rg using (one as 𝟙)
-  open CommRing (X .ring) using (Carrier as S, one as 1ˢ, add as _+ˢ_, mul as _*ˢ_)
+  open CommRing (X .ring) using (Carrier as S, one as 1ˢ, add as _+ˢ_)
 
   infixl 65 _+ˢ_
-  infixl 70 _*ˢ_
   unfoldable pub ⟨1+u⟩ : S
   ⟨1+u⟩ = 1ˢ +ˢ t X
-
-  pub below-⟨1+u⟩ : Below X 2 ⟨1+u⟩
-  unfolding ⟨1+u⟩
-  below-⟨1+u⟩ = below-add X (below-mono X (omega arith) (below-1 X)) (below-t X)
-
-  pub below-pow : (n : ℕ) {U : S} → Below X 2 U → Below X (suc n) (R.pow (X .ring) U n)
-  below-pow zero {U} h = rw (R.pow-zero (X .ring) U) (below-1 X)
-  below-pow (suc n) {U} h =
-      rw (R.pow-suc (X .ring) U n)
-      (subst (λ k. Below X k (U *ˢ R.pow (X .ring) U n)) (N.add-comm 1 (suc n) ∙ add-one (suc n))
-      (below-mul X 1 (suc n) h (below-pow n h)))
-
-  hom-⟨1+u⟩ : hom X 1 ⟨1+u⟩ ≡ 1ˢ
-  unfolding ⟨1+u⟩ ⟨1-t⟩
-  hom-⟨1+u⟩ =
-      hom-suc X 0 ⟨1+u⟩
-      ∙ ap₂ (λ x y. x *ˢ C X (X .coeff ⟨1+u⟩ 0) +ˢ t X *ˢ y) (⟨1-t⟩^-suc X 0 ∙ ap (λ x. ⟨1-t⟩ X *ˢ x) (⟨1-t⟩^-zero X))
-      (hom-zero X (tail X ⟨1+u⟩) ∙ ap (C X) (coeff-tail X ⟨1+u⟩ 0))
-      ∙ ap₂ (λ x y. ⟨1-t⟩ X *ˢ 1ˢ *ˢ C X x +ˢ t X *ˢ C X y) c0 c1 ∙ rw (C-one X) (simp RING)
-    where
-      c0 : X .coeff (1ˢ +ˢ t X) 0 ≡ 𝟙
-      c0 = simp (coeff-add, coeff-1-zero, coeff-t-zero) (simp RING)
-
-      c1 : X .coeff (1ˢ +ˢ t X) 1 ≡ 𝟙
-      c1 = simp (coeff-add, coeff-1-suc X 0, coeff-t-one) (simp RING)
-
-  hom-pow : (n : ℕ) → hom X n (R.pow (X .ring) ⟨1+u⟩ n) ≡ 1ˢ
-  hom-pow zero = simp (R.pow-zero, hom-zero, coeff-1-zero, C-one)
-  hom-pow (suc n) =
-      ap₂ (λ k x. hom X k x) (sym (N.add-comm 1 n ∙ add-one n)) (R.pow-suc (X .ring) ⟨1+u⟩ n)
-      ∙ hom-mul X 1 n below-⟨1+u⟩ (below-pow n below-⟨1+u⟩) ∙ ap₂ (λ x y. x *ˢ y) hom-⟨1+u⟩ (hom-pow n) ∙ R.mul-one (X .ring) 1ˢ
-
-  -- degree elevation: (1+u)^j · s at degree j + n is s at degree n
-  pub elevate : (n j : ℕ) {s : S} → Below X (suc n) s → hom X (j + n) (R.pow (X .ring) ⟨1+u⟩ j *ˢ s) ≡ hom X n s
-  elevate n j {s} h =
-      hom-mul X j n (below-pow j below-⟨1+u⟩) h ∙ ap (λ x. x *ˢ hom X n s) (hom-pow j) ∙ R.one-mul (X .ring) _

@@ -16,8 +16,8 @@ use Rattle.refusal.specs.declared.Outcome.{Outcome}
 use Rattle.refusal.specs.declared.Outcome.the-variants.{Done, Refused}
 use Rattle.refusal.proofs.Answers.{number-is}
 use Rattle.field.specs.Fields.{p}
-use Rattle.contents.specs.Calls.{contentsRefusals, recordsFrom, filled}
-use Rattle.contents.specs.declared.Entry.{Entry}
+use Rattle.album_contents.specs.Calls.{contentsRefusals, recordsFrom, filled}
+use Rattle.album_contents.specs.declared.Entry.{Entry}
 use Rattle.demand1.specs.Demand1.{Slice, slice, Demand1, EmptyRefused, Left}
 
 -- by cases on what `lowest` is

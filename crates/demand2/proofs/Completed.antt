@@ -23,15 +23,16 @@ use Rattle.field.specs.Field.{operandRefusals, inverseRefusals, inverseOf}
 use Rattle.lists.specs.Bytes.{wordsOf, bytesOf}
 use Rattle.lists.specs.Degrees.{significant, extent}
 use Rattle.lists.specs.Operations.{product, raise, sumOf, differenceOf, trim, derivative, evaluate}
-use Rattle.products.specs.Calls.{productRefusals, raiseRefusals}
-use Rattle.sums.specs.Calls.{sumRefusals}
-use Rattle.extents.specs.Calls.{extentValues, extentRefusals, trimRefusals}
-use Rattle.derivatives.specs.Calls.{derivativeRefusals}
-use Rattle.evaluation.specs.Calls.{evaluateRefusals}
-use Rattle.host.specs.Calls.{productRows}
-use Rattle.host.proofs.Answers.{done-reply}
-use Rattle.host.proofs.Judged.{done-number, words-are, bytes-are, product-judged}
-use Rattle.demands.specs.Demand2.{TheWord, TheValue, TheList, TheTrim, IsExtent, of-engine}
+use Rattle.list_product.specs.Calls.{productRefusals, raiseRefusals}
+use Rattle.list_sum.specs.Calls.{sumRefusals}
+use Rattle.list_extent.specs.Calls.{extentValues, extentRefusals, trimRefusals}
+use Rattle.list_derivative.specs.Calls.{derivativeRefusals}
+use Rattle.list_value.specs.Calls.{evaluateRefusals}
+use Rattle.bernstein.specs.Calls.{productRows}
+use Rattle.bernstein.proofs.Answers.{done-reply}
+use Rattle.bernstein.proofs.Judged.{done-number, words-are, bytes-are, product-judged}
+use Rattle.statement.specs.Demand2.{TheWord, TheValue, TheList, TheTrim, IsExtent}
+use Rattle.statement.proofs.Demand2.{of-engine}
 use Rattle.demand2.specs.Calls.{Answers, ProductSo, RaiseSo, SumSo, DifferenceSo, TrimSo, DerivativeSo, ExtentSo, ValueSo, WordSumSo, WordDifferenceSo, WordProductSo, InverseSo, HostProductSo}
 
 pub slice-holds : (P : List ℕ → Type 0) (o : Outcome) (new old : List ℕ) {out : List ℕ} {r : Reply} → r ≡ reply o [] → out ≡ written o new old

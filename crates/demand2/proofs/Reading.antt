@@ -17,23 +17,24 @@ use Rattle.refusal.specs.Lowest.{lowest}
 use Rattle.refusal.specs.declared.Outcome.the-variants.{Done}
 use Rattle.refusal.proofs.First.{first-is, first-then, refuse-done, or-else-done}
 use Rattle.field.specs.Fields.{p, F65521, fieldAt}
-use Rattle.field.specs.FieldsLaws.{modulus-high, modulus-some}
+use Rattle.field.proofs.FieldsLaws.{modulus-high, modulus-some}
 use Rattle.lists.specs.Bytes.{Bytes, bytesOf}
 use Rattle.lists.specs.Refused.{hasLoose, anyOf}
 use Rattle.lists.proofs.Search.{tight}
-use Rattle.euclid.specs.Gcds.{padded}
-use Rattle.layout.specs.Layout.{count, degreeAt, entryWords, wrongCount, brokenLayout, listAt, listsOf}
-use Rattle.layout.specs.Calls.{albumRefusals, checkRefusals, bodyOf}
-use Rattle.layout.specs.Workers.{Passed}
-use Rattle.layout.specs.Places.{length-lists}
-use Rattle.layout.specs.Written.{Writable}
-use Rattle.layout.proofs.Passed.{passed-obeys, passed-each}
-use Rattle.album.specs.Calls.{readRows, readRefusals}
-use Rattle.album.proofs.Judged.{read-done}
-use Rattle.contents.specs.Calls.{recordsFrom, contentsRefusals, filled}
-use Rattle.contents.specs.declared.Entry.{Entry}
-use Rattle.host.proofs.Answers.{done-reply}
-use Rattle.demands.specs.Demand2.{Contained, of-engine}
+use Rattle.lists.specs.Padded.{padded}
+use Rattle.album_layout.specs.Layout.{count, degreeAt, entryWords, wrongCount, brokenLayout, listAt, listsOf}
+use Rattle.album_layout.specs.Calls.{albumRefusals, checkRefusals, bodyOf}
+use Rattle.album_layout.specs.Internal.{Passed}
+use Rattle.album_layout.proofs.Places.{length-lists}
+use Rattle.album_layout.specs.Written.{Writable}
+use Rattle.album_layout.proofs.Passed.{passed-obeys, passed-each}
+use Rattle.album_reader.specs.Calls.{readRows, readRefusals}
+use Rattle.album_reader.proofs.Judged.{read-done}
+use Rattle.album_contents.specs.Calls.{recordsFrom, contentsRefusals, filled}
+use Rattle.album_contents.specs.declared.Entry.{Entry}
+use Rattle.bernstein.proofs.Answers.{done-reply}
+use Rattle.statement.specs.Demand2.{Contained}
+use Rattle.statement.proofs.Demand2.{of-engine}
 use Rattle.demand2.specs.Calls.{Holds, Handed, ReadSo, BodySo, Entries, ContentsSo}
 
 -- no word is loose, list by list

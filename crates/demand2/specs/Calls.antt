@@ -26,11 +26,11 @@ use Rattle.field.specs.Field.{IsInverse}
 use Rattle.lists.specs.Bytes.{wordsOf, bytesOf}
 use Rattle.lists.specs.Degrees.{naiveDegree}
 use Rattle.lists.specs.Lists.{meaning}
-use Rattle.euclid.specs.Gcds.{padded}
-use Rattle.derivatives.specs.Calls.{derivativeWords}
-use Rattle.layout.specs.Written.{albumOf, Writable}
-use Rattle.contents.specs.declared.Entry.{Entry}
-use Rattle.demands.specs.Demand2.{TheWord, TheValue, TheList, TheTrim, IsExtent, none}
+use Rattle.lists.specs.Padded.{padded}
+use Rattle.list_derivative.specs.Calls.{derivativeWords}
+use Rattle.album_layout.specs.Written.{albumOf, Writable}
+use Rattle.album_contents.specs.declared.Entry.{Entry}
+use Rattle.statement.specs.Demand2.{TheWord, TheValue, TheList, TheTrim, IsExtent, none}
 
 abbrev pub Answers : Reply → List ℕ → Type 0
 Answers r values = r ≡ reply Done values

@@ -13,24 +13,26 @@ use Rattle.refusal.specs.Limits.{maxWords}
 use Rattle.refusal.specs.Refusal.{Reply, reply, outcomeNumber, written}
 use Rattle.refusal.specs.Lowest.{lowest}
 use Rattle.field.specs.Fields.{p, longest, F65521, fieldAt}
-use Rattle.field.specs.FieldsLaws.{longest-in}
+use Rattle.field.proofs.FieldsLaws.{longest-in}
 use Rattle.lists.specs.Bytes.{wordsOf, bytesOf}
 use Rattle.lists.specs.Degrees.{naiveDegree, significant}
 use Rattle.lists.specs.Lists.{Coefficients, meaning}
-use Rattle.euclid.specs.Quotients.{quotientOf, remainderOf}
-use Rattle.euclid.specs.Gcds.{identityDegree, gcdOf, countOf, commonPower, cofactorA, cofactorB, padded}
-use Rattle.euclid.specs.Gcd.{length-gcd}
-use Rattle.euclid.specs.Cofactors.{AreCofactors, identity-left, identity-right, identity-within, cofactors-are, cofactors-only}
-use Rattle.division.specs.Calls.{divideRefusals}
-use Rattle.gcd.specs.Calls.{gcdValues}
-use Rattle.gcd.proofs.Ready.{gcd-ready}
-use Rattle.gcd.proofs.Finish.{ready-greatest}
-use Rattle.cofactors.specs.Calls.{cofactorRefusals}
-use Rattle.cofactors.proofs.Results.{cofactors-ready}
-use Rattle.host.specs.Calls.{divisionRows, gcdRows}
-use Rattle.host.proofs.Answers.{done-reply}
-use Rattle.host.proofs.Judged.{done-number, words-are, bytes-are, division-judged, gcd-judged}
-use Rattle.demands.specs.Demand3.{of-engine}
+use Rattle.euclid_theory.specs.Division.{quotientOf, remainderOf}
+use Rattle.euclid_theory.specs.Gcd.{identityDegree, gcdOf, roundsOf, commonPower, cofactorA, cofactorB}
+use Rattle.lists.specs.Padded.{padded}
+use Rattle.euclid_theory.proofs.Gcd.{length-gcd}
+use Rattle.euclid_theory.specs.Cofactors.{AreCofactors}
+use Rattle.euclid_theory.proofs.Cofactors.{identity-left, identity-right, identity-within, cofactors-are, cofactors-only}
+use Rattle.list_division.specs.Calls.{divideRefusals}
+use Rattle.list_gcd.specs.Calls.{gcdValues}
+use Rattle.list_gcd.proofs.Ready.{gcd-ready}
+use Rattle.list_gcd.proofs.Finish.{ready-greatest}
+use Rattle.list_cofactors.specs.Calls.{cofactorRefusals}
+use Rattle.list_cofactors.proofs.Results.{cofactors-ready}
+use Rattle.bernstein.specs.Calls.{divisionRows, gcdRows}
+use Rattle.bernstein.proofs.Answers.{done-reply}
+use Rattle.bernstein.proofs.Judged.{done-number, words-are, bytes-are, division-judged, gcd-judged}
+use Rattle.statement.proofs.Demand3.{of-engine}
 use Rattle.demand3.specs.Calls.{Meet, Fixed, CofactorsOf, HostDivisionSo, HostGcdSo}
 
 -- a list has no more words than the field has elements
@@ -145,7 +147,7 @@ gcd-so f g old-h old-answer e eh ea z =
     record {
       w = naiveDegree (gcdOf F65521 (wordsOf f) (wordsOf g));
       c = commonPower (wordsOf f ∷ wordsOf g ∷ []);
-      rounds = countOf F65521 (wordsOf f) (wordsOf g);
+      rounds = roundsOf F65521 (wordsOf f) (wordsOf g);
       answer-is = ea ∙ ap (λ o. written o (bytesOf (gcdValues F65521 (wordsOf f) (wordsOf g))) old-answer) d;
       h-is = bytes-are h h-is;
       greatest = rw (words-are h h-is) (ready-greatest F65521 maxWords (wordsOf f) (wordsOf g) ready);

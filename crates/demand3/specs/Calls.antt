@@ -20,8 +20,8 @@ use Rattle.refusal.specs.declared.Outcome.the-variants.{Done}
 use Rattle.lists.specs.Bytes.{wordsOf, bytesOf}
 use Rattle.lists.specs.Degrees.{naiveDegree, significant, extent}
 use Rattle.lists.specs.Lists.{Coefficients, meaning}
-use Rattle.division.specs.Calls.{DividesSo}
-use Rattle.gcd.specs.Calls.{GreatestSo}
+use Rattle.list_division.specs.Calls.{DividesSo}
+use Rattle.list_gcd.specs.Calls.{GreatestSo}
 
 module _ (F : PrimeField) where
   open CommRing (F .series .ring) using (add as _+ˢ_, mul as _*ˢ_)

@@ -11,7 +11,8 @@
 -- Assumes nothing.
 use mathlib.Core.Bool.{Bool, true}
 use Prim.Native.Nat.{ℕ, zero, suc}
-use Rattle.algebra.specs.Prime.{Prime, prime-of-test}
+use Rattle.algebra.specs.Prime.{Prime}
+use Rattle.algebra.proofs.Prime.{prime-of-test}
 use Rattle.algebra.specs.Zp.{Zp}
 use Rattle.algebra.specs.Series.{series}
 use Rattle.algebra.specs.PrimeField as A

@@ -1,4 +1,2 @@
 pub mod Field
-pub mod Theorems
 pub mod Fields
-pub mod FieldsLaws

@@ -12,7 +12,7 @@ use Rattle.refusal.specs.Lowest.{lowest}
 use Rattle.refusal.specs.declared.Refusal.the-variants.{Length, LooseWord}
 use Rattle.refusal.specs.declared.Outcome.the-variants.{Done}
 use Rattle.refusal.proofs.First.{refuse, first-is, refuse-done, or-false}
-use Rattle.lists.specs.Refused.{wrongLength, hasLoose, anyOf, listRefusals, Listed}
+use Rattle.lists.specs.Refused.{wrongLength, hasLoose, anyOf, listRefusals, IsList}
 use Rattle.lists.proofs.Search.{none-loose, tight}
 
 pub judged : (p most : ℕ) (lists : List (List ℕ)) → lowest (listRefusals p most lists) ≡ refuse (anyOf (wrongLength most) lists) Length (refuse (anyOf (hasLoose p) lists) LooseWord Done)
@@ -20,20 +20,20 @@ unfolding listRefusals
 judged p most lists = first-is (listRefusals p most lists) tt
 
 module _ (p most : ℕ) (big : 0 < p) where
-  listed : (c : List ℕ) → wrongLength most c ≡ false → hasLoose p c ≡ false → Listed p most c
+  listed : (c : List ℕ) → wrongLength most c ≡ false → hasLoose p c ≡ false → IsList p most c
   unfolding wrongLength
   listed c e l =
       let h = or-false (eqb (length c) 0) (ltb most (length c)) e in
       let z = eqb-false (length c) 0 (h .0) in
       record { some = omega arith; short = ltb-false most (length c) (h .1); words = none-loose p c big l }
 
-  pub one-listed : (f : List ℕ) → lowest (listRefusals p most (f ∷ [])) ≡ Done → Listed p most f
+  pub one-listed : (f : List ℕ) → lowest (listRefusals p most (f ∷ [])) ≡ Done → IsList p most f
   one-listed f e =
       let h = refuse-done (anyOf (wrongLength most) (f ∷ [])) _ _ (sym (judged p most (f ∷ [])) ∙ e) in
       let l = refuse-done (anyOf (hasLoose p) (f ∷ [])) _ _ (h .1) in
       listed f (or-false (wrongLength most f) false (h .0) .0) (or-false (hasLoose p f) false (l .0) .0)
 
-  pub two-listed : (f g : List ℕ) → lowest (listRefusals p most (f ∷ g ∷ [])) ≡ Done → Listed p most f × Listed p most g
+  pub two-listed : (f g : List ℕ) → lowest (listRefusals p most (f ∷ g ∷ [])) ≡ Done → IsList p most f × IsList p most g
   two-listed f g e =
       let h = refuse-done (anyOf (wrongLength most) (f ∷ g ∷ [])) _ _ (sym (judged p most (f ∷ g ∷ [])) ∙ e) in
       let l = refuse-done (anyOf (hasLoose p) (f ∷ g ∷ [])) _ _ (h .1) in
@@ -42,7 +42,7 @@ module _ (p most : ℕ) (big : 0 < p) where
       (listed f (hf .0) (lf .0), listed g (or-false (wrongLength most g) false (hf .1) .0) (or-false (hasLoose p g) false (lf .1) .0))
 
 -- a list that no call refuses passes
-module _ (p most : ℕ) (c : List ℕ) (l : Listed p most c) where
+module _ (p most : ℕ) (c : List ℕ) (l : IsList p most c) where
   pub right-length : wrongLength most c ≡ false
   unfolding wrongLength
   right-length =

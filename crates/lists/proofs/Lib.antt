@@ -3,3 +3,13 @@ pub mod Largest
 pub mod Judged
 pub mod Filled
 pub mod Parts
+pub mod Bytes
+pub mod Calculus
+pub mod Extents
+pub mod Products
+pub mod Scaled
+pub mod Sums
+pub mod Tabulate
+pub mod Trims
+pub mod Words
+pub mod Padded

@@ -10,7 +10,7 @@ use lib.ListN.{getD}
 use borrow.Author.Tests.{leb-false, lt-leb}
 use Rattle.refusal.proofs.First.{or-false}
 use Rattle.lists.specs.Degrees.{significantIn}
-use Rattle.lists.specs.Extents.{significantIn-none, significantIn-zero, significantIn-nonzero}
+use Rattle.lists.proofs.Extents.{significantIn-none, significantIn-zero, significantIn-nonzero}
 use Rattle.lists.specs.Refused.{hasLoose}
 
 module _ (p : ℕ) where

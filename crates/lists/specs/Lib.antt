@@ -4,10 +4,5 @@ pub mod Bytes
 pub mod Refused
 pub mod Lists
 pub mod Operations
-pub mod Scaled
 pub mod Words
-pub mod Products
-pub mod Extents
-pub mod Trims
-pub mod Sums
-pub mod Calculus
+pub mod Padded

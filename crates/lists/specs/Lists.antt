@@ -35,16 +35,16 @@ module _ (F : PrimeField) where
   unfoldable pub binomial : ℕ → ℕ → K
   binomial n k = residue F (choose n k)
 
-  unfoldable pub coefficient : List ℕ → ℕ → K
-  coefficient c k = word c k ⊗ binomial (naiveDegree c) k
+  unfoldable pub scaledCoefficient : List ℕ → ℕ → K
+  scaledCoefficient c k = word c k ⊗ binomial (naiveDegree c) k
 
   unfoldable pub meaning : List ℕ → S
   meaning c =
       sum (F .series) (length c)
-      (λ k. C (F .series) (coefficient c k) *ˢ pow (F .series .ring) (t (F .series)) k *ˢ ⟨1-t⟩^ (F .series) (naiveDegree c - k))
+      (λ k. C (F .series) (scaledCoefficient c k) *ˢ pow (F .series .ring) (t (F .series)) k *ˢ ⟨1-t⟩^ (F .series) (naiveDegree c - k))
 
   unfoldable pub scaled : List ℕ → S
-  scaled c = F .series .mk (coefficient c)
+  scaled c = F .series .mk (scaledCoefficient c)
 
   unfoldable pub unscaled : ℕ → S → List ℕ
   unscaled n s = tabulate n (λ k. value F (F .series .coeff s k ⊗ inverse F (binomial (n - 1) k)))

@@ -17,7 +17,7 @@ use Rattle.algebra.specs.Sum.{total}
 use Rattle.algebra.specs.PrimeField.{PrimeField, scalars, residue, value, inverse}
 use Rattle.lists.specs.Tabulate.{tabulate}
 use Rattle.lists.specs.Degrees.{naiveDegree, significant}
-use Rattle.lists.specs.Lists.{word, binomial, coefficient, scaled, unscaled}
+use Rattle.lists.specs.Lists.{word, binomial, scaledCoefficient, scaled, unscaled}
 
 module _ (F : PrimeField) where
   open CommRing (scalars F) using (Carrier as K, one as 𝟙, neg as ⊖_, add as _⊕_, mul as _⊗_)
@@ -42,18 +42,18 @@ module _ (F : PrimeField) where
   raise n f = tabulate (suc n) (λ k. value F (raiseAt n f k))
 
   -- the naive degree of a sum
-  unfoldable pub larger : (f g : List ℕ) → ℕ
-  larger f g = max (naiveDegree f) (naiveDegree g)
+  unfoldable pub largerDegree : (f g : List ℕ) → ℕ
+  largerDegree f g = max (naiveDegree f) (naiveDegree g)
 
   unfoldable pub sumOf : (f g : List ℕ) → List ℕ
   sumOf f g =
-      tabulate (suc (larger f g))
-      (λ k. value F (word F (raise (larger f g) f) k ⊕ word F (raise (larger f g) g) k))
+      tabulate (suc (largerDegree f g))
+      (λ k. value F (word F (raise (largerDegree f g) f) k ⊕ word F (raise (largerDegree f g) g) k))
 
   unfoldable pub differenceOf : (f g : List ℕ) → List ℕ
   differenceOf f g =
-      tabulate (suc (larger f g))
-      (λ k. value F (word F (raise (larger f g) f) k ⊕ ⊖ word F (raise (larger f g) g) k))
+      tabulate (suc (largerDegree f g))
+      (λ k. value F (word F (raise (largerDegree f g) f) k ⊕ ⊖ word F (raise (largerDegree f g) g) k))
 
   unfoldable pub trim : List ℕ → List ℕ
   trim f = unscaled F (significant f) (scaled F f)
@@ -67,7 +67,7 @@ module _ (F : PrimeField) where
   unfoldable pub evaluateAt : List ℕ → K → K
   evaluateAt c x =
       total (scalars F) (length c)
-      (λ k. coefficient F c k ⊗ pow (scalars F) x k ⊗ pow (scalars F) (𝟙 ⊕ ⊖ x) (naiveDegree c - k))
+      (λ k. scaledCoefficient F c k ⊗ pow (scalars F) x k ⊗ pow (scalars F) (𝟙 ⊕ ⊖ x) (naiveDegree c - k))
 
   unfoldable pub evaluate : List ℕ → ℕ → ℕ
   evaluate c x = value F (evaluateAt c (residue F x))

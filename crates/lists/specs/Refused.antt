@@ -30,7 +30,7 @@ listRefusals p most lists =
     LooseWord given-when anyOf (hasLoose p) lists ∷
     []
 
-pub record Listed (p most : ℕ) (c : List ℕ) : Type 0 where
+pub record IsList (p most : ℕ) (c : List ℕ) : Type 0 where
   pub some : 0 < length c
   pub short : length c ≤ most
   pub words : (k : ℕ) → getD c k 0 < p

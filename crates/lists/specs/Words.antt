@@ -5,103 +5,22 @@
 --     Low n             the same as far as word n - 1
 --     ZeroFrom n        from word n on every word is 0
 -- Assumes nothing.
-use mathlib.Core.Path.{_≡_, sym, _∙_, ap}
+use mathlib.Core.Path.{_≡_}
 use mathlib.Core.List.{List}
 use Prim.Native.Nat.{ℕ, _≤_, _<_}
-use native.Mathlib.Decide.{decLt}
-use native.Mathlib.Omega.{arith}
-use lib.ListN.{getD, length, List·getD-eq-default}
+use lib.ListN.{getD}
 use Rattle.algebra.specs.Ring.{CommRing}
-use Rattle.algebra.specs.Series.{coeff-mk, ext}
-use Rattle.algebra.specs.Polynomial.{Below}
-use Rattle.algebra.specs.PrimeField.{PrimeField, scalars, positive, residue, value, residue-value, value-residue, value-lt, residue-0, residue-nonzero}
-use Rattle.lists.specs.Tabulate.{tabulate, length-tabulate, getD-tabulate}
-use Rattle.lists.specs.Lists.{coefficient, scaled}
-use Rattle.lists.specs.Scaled.{coeff-scaled, below-scaled}
+use Rattle.algebra.specs.PrimeField.{PrimeField, residue}
 
 pub record ZeroFrom (n : ℕ) (buf : List ℕ) : Type 0 where
   pub at : (k : ℕ) → n ≤ k → getD buf k 0 ≡ 0
 
-pub zero-later : {n m : ℕ} {buf : List ℕ} → n ≤ m → ZeroFrom n buf → ZeroFrom m buf
-zero-later l z = record { at = λ k h. z .at k (omega arith) }
-
 module _ (F : PrimeField) where
-  open CommRing (scalars F) using (Carrier as K, zero as 𝟘)
   open CommRing (F .series .ring) using (Carrier as S)
-
-  -- the word that stands for an element
-  pub value-is : (w : ℕ) (a : K) → w < F .p → residue F w ≡ a → w ≡ value F a
-  value-is w a l e = sym (value-residue F w l) ∙ ap (value F) e
 
   unfoldable pub seriesOf : List ℕ → S
   seriesOf l = F .series .mk (λ k. residue F (getD l k 0))
 
-  pub coeff-seriesOf : (l : List ℕ) (k : ℕ) → F .series .coeff (seriesOf l) k ≡ residue F (getD l k 0)
-  unfolding seriesOf
-  coeff-seriesOf l k = coeff-mk (F .series) _ k
-
-  unfoldable pub scaledWords : List ℕ → List ℕ
-  scaledWords c = tabulate (length c) (λ k. value F (coefficient F c k))
-
-  pub length-scaledWords : (c : List ℕ) → length (scaledWords c) ≡ length c
-  unfolding scaledWords
-  length-scaledWords c = length-tabulate (length c) _
-
-  pub getD-scaledWords : (c : List ℕ) (k : ℕ) → k < length c → getD (scaledWords c) k 0 ≡ value F (coefficient F c k)
-  unfolding scaledWords
-  getD-scaledWords c k l = getD-tabulate (length c) _ k l
-
-  pub below-scaledWords : (c : List ℕ) (k : ℕ) → getD (scaledWords c) k 0 < F .p
-  below-scaledWords c k = go (decLt k (length c))
-    where
-      go : Dec (k < length c) → getD (scaledWords c) k 0 < F .p
-      go (yes l) = rw (getD-scaledWords c k l) (value-lt F _)
-      go (no l) =
-          let e = length-scaledWords c in
-          rw (List·getD-eq-default (scaledWords c) 0 {n = k} (omega arith)) (positive F)
-
-  pub seriesOf-scaledWords : (c : List ℕ) → seriesOf (scaledWords c) ≡ scaled F c
-  seriesOf-scaledWords c = ext (F .series) _ _ λ k. coeff-seriesOf (scaledWords c) k ∙ go k (decLt k (length c))
-    where
-      go : (k : ℕ) → Dec (k < length c) → residue F (getD (scaledWords c) k 0) ≡ F .series .coeff (scaled F c) k
-      go k (yes l) = ap (residue F) (getD-scaledWords c k l) ∙ residue-value F _ ∙ sym (coeff-scaled F c k)
-      go k (no l) =
-          let e = length-scaledWords c in
-          ap (residue F) (List·getD-eq-default (scaledWords c) 0 (omega arith)) ∙ residue-0 F
-          ∙ sym (below-scaled F c .at k (omega arith))
-
-  pub record Carries (buf : List ℕ) (s : S) : Type 0 where
-    pub below : (k : ℕ) → getD buf k 0 < F .p
-    pub at : (k : ℕ) → residue F (getD buf k 0) ≡ F .series .coeff s k
-
   pub record Low (n : ℕ) (buf : List ℕ) (s : S) : Type 0 where
     pub below : (k : ℕ) → getD buf k 0 < F .p
     pub at : (k : ℕ) → k < n → residue F (getD buf k 0) ≡ F .series .coeff s k
-
-  pub carries-seriesOf : {buf : List ℕ} → ((k : ℕ) → getD buf k 0 < F .p) → Carries buf (seriesOf buf)
-  carries-seriesOf {buf} h = record { below = h; at = λ k. sym (coeff-seriesOf buf k) }
-
-  -- words that stand for a series are that series
-  pub seriesOf-carries : {buf : List ℕ} {s : S} → Carries buf s → seriesOf buf ≡ s
-  seriesOf-carries {buf} c = ext (F .series) _ _ λ k. coeff-seriesOf buf k ∙ c .at k
-
-  pub carries-below : {buf : List ℕ} {s : S} → Carries buf s → Below (F .series) (length buf) s
-  carries-below {buf} {s} c =
-      record { at = λ k l. sym (c .at k) ∙ ap (residue F) (List·getD-eq-default buf 0 l) ∙ residue-0 F }
-
-  -- the words of a scaled form stand for it
-  pub carries-scaled : (c : List ℕ) → Carries (scaledWords c) (scaled F c)
-  carries-scaled c = rw (← seriesOf-scaledWords c) (carries-seriesOf (λ k. low k (decLt k (length c))))
-    where
-      low : (k : ℕ) → Dec (k < length c) → getD (scaledWords c) k 0 < F .p
-      low k (yes l) = rw (getD-scaledWords c k l) (value-lt F _)
-      low k (no l) =
-          let e = length-scaledWords c in
-          rw (List·getD-eq-default (scaledWords c) 0 {n = k} (omega arith)) (positive F)
-
-  -- the tests of a search for the last word that is not 0
-  pub carries-zero : {buf : List ℕ} {s : S} → Carries buf s → (k : ℕ) → getD buf k 0 ≡ 0 → F .series .coeff s k ≡ 𝟘
-  carries-zero c k e = sym (c .at k) ∙ ap (residue F) e ∙ residue-0 F
-
-  pub carries-nonzero : {buf : List ℕ} {s : S} → Carries buf s → (k : ℕ) → ¬ (getD buf k 0 ≡ 0) → ¬ (F .series .coeff s k ≡ 𝟘)
-  carries-nonzero c k h e = residue-nonzero F _ (c .below k) h (c .at k ∙ e)

@@ -10,10 +10,10 @@ use Rattle.refusal.specs.Refusal.{number}
 use Rattle.refusal.specs.declared.Refusal.{Refusal}
 use Rattle.refusal.proofs.Answers.{number-range}
 use Rattle.lists.specs.Degrees.{naiveDegree, significant, extent, power}
-use Rattle.lists.specs.Extents.{significant-le, power-is}
+use Rattle.lists.proofs.Extents.{significant-le, power-is}
 use Rattle.report_text.specs.Text.{decimal, line}
 use Rattle.report_text.specs.Report.{⟨refused⟩, listLine, listLines, gcdLines, refusedLine}
-use Rattle.report_text.specs.Workers.{lineEnd}
+use Rattle.report_text.specs.Internal.{lineEnd}
 use Rattle.report_text.proofs.Digits.{decimal-short}
 use Rattle.report_text.proofs.Lines.{fields, named-line, end-zero, end-nonzero, list-line, gcd-lines, words-line}
 

@@ -14,7 +14,7 @@ use borrow.Author.Tests.{eq-eqb, ne-eqb}
 use Rattle.lists.specs.Degrees.{naiveDegree, significant, extent, power}
 use Rattle.report_text.specs.Text.{decimal, line}
 use Rattle.report_text.specs.Report.{⟨gcd⟩, ⟨-⟩, listLine, listLines, gcdLines}
-use Rattle.report_text.specs.Workers.{lineEnd}
+use Rattle.report_text.specs.Internal.{lineEnd}
 
 pub named-line : (name : List ℕ) (n : ℕ) → line (name ∷ decimal n ∷ []) ≡ name ++ ((32 ∷ decimal n) ++ (10 ∷ []))
 unfolding line

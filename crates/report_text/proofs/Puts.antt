@@ -8,8 +8,8 @@ use native.Mathlib.Numerals.{add-one}
 use native.Mathlib.Omega.{arith}
 use lib.ListN.{length, getD, take, set, replicate, length-append, length-set, length-take, length-replicate, replicate-append-replicate}
 use lib.Seq.{take-suc, take-suc-set, take-all}
-use Rattle.euclid.specs.Gcds.{padded}
-use Rattle.report_text.specs.Workers.{Room, Put}
+use Rattle.lists.specs.Padded.{padded}
+use Rattle.report_text.specs.Internal.{Room, Put}
 
 -- nothing
 pub put-none : (at : ℕ) (a : List ℕ) → Put [] at a a at

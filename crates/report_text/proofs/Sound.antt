@@ -19,23 +19,24 @@ use Rattle.refusal.specs.declared.Outcome.the-variants.{Done, Refused}
 use Rattle.lists.specs.declared.NaiveDegree.{NaiveDegree}
 use Rattle.lists.specs.declared.Power.{Power}
 use Rattle.lists.specs.Degrees.{naiveDegree, power}
-use Rattle.lists.specs.Extents.{power-le}
-use Rattle.euclid.specs.Gcds.{commonPower, padded}
-use Rattle.euclid.specs.Loops.{padded-inside, getD-padded}
-use Rattle.euclid.specs.Powers.{commonPower-attained}
-use Rattle.albums.specs.Albums.{albumGcd}
-use Rattle.layout.specs.Layout.{listsOf}
-use Rattle.layout.specs.Workers.{Passed}
-use Rattle.gcd.specs.declared.Gcd.{Gcd}
-use Rattle.gcd.specs.declared.Gcd.the-variants as G
-use Rattle.gcd.specs.declared.Rounds.{Rounds}
-use Rattle.gcd.specs.Calls.{gcdReply}
+use Rattle.lists.proofs.Extents.{power-le}
+use Rattle.euclid_theory.specs.Gcd.{commonPower}
+use Rattle.lists.specs.Padded.{padded}
+use Rattle.lists.proofs.Padded.{padded-inside, getD-padded}
+use Rattle.euclid_theory.proofs.Powers.{commonPower-attained}
+use Rattle.album_theory.specs.Albums.{albumGcd}
+use Rattle.album_layout.specs.Layout.{listsOf}
+use Rattle.album_layout.specs.Internal.{Passed}
+use Rattle.list_gcd.specs.declared.Gcd.{Gcd}
+use Rattle.list_gcd.specs.declared.Gcd.the-variants as G
+use Rattle.list_gcd.specs.declared.Rounds.{Rounds}
+use Rattle.list_gcd.specs.Calls.{gcdReply}
 use Rattle.album_gcd.specs.Calls.{allZero, albumGcdRows, albumGcdValues, AlbumGreatestSo, AlbumGreatest}
 use Rattle.album_gcd.proofs.Judging.{judged-zero, judged-done}
 use Rattle.album_gcd.proofs.Zeros.{nonzero}
 use Rattle.report_text.specs.Text.{decimal, line}
 use Rattle.report_text.specs.Report.{⟨lists⟩, ⟨refused⟩, listLines, gcdLines, refusedLine, soundReport}
-use Rattle.report_text.specs.Workers.{maxAnswer, answerLines}
+use Rattle.report_text.specs.Internal.{maxAnswer, answerLines}
 use Rattle.report_text.proofs.Fits.{gcd-fits}
 
 pub record Answer (lists : List (List ℕ)) (h slice : List ℕ) (w c : ℕ) : Type 0 where

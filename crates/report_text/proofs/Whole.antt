@@ -15,19 +15,19 @@ use Rattle.refusal.specs.declared.Refusal.{Refusal}
 use Rattle.refusal.specs.declared.Refusal.the-variants.{Misfit}
 use Rattle.refusal.specs.declared.Outcome.{Outcome}
 use Rattle.refusal.specs.declared.Outcome.the-variants.{Done, Refused}
-use Rattle.euclid.specs.Gcds.{padded}
-use Rattle.euclid.specs.Loops.{padded-inside}
-use Rattle.layout.specs.Layout.{count, entryWords, listsOf}
-use Rattle.layout.specs.Calls.{albumRefusals}
-use Rattle.layout.specs.Workers.{Passed}
-use Rattle.layout.specs.Places.{length-lists}
-use Rattle.layout.proofs.Passed.{passed-obeys, passed-each}
+use Rattle.lists.specs.Padded.{padded}
+use Rattle.lists.proofs.Padded.{padded-inside}
+use Rattle.album_layout.specs.Layout.{count, entryWords, listsOf}
+use Rattle.album_layout.specs.Calls.{albumRefusals}
+use Rattle.album_layout.specs.Internal.{Passed}
+use Rattle.album_layout.proofs.Places.{length-lists}
+use Rattle.album_layout.proofs.Passed.{passed-obeys, passed-each}
 use Rattle.report_text.specs.Text.{decimal, line}
 use Rattle.report_text.specs.Report.{⟨lists⟩, listLines, refusedLine, soundReport, reportOf}
 use Rattle.report_text.specs.Calls.{maxText, reportRefusals, textReply}
 use Rattle.report_text.specs.declared.Text.{Text}
 use Rattle.report_text.specs.declared.Text.the-variants as T
-use Rattle.report_text.specs.Workers.{Room, Put, maxAnswer, answerLines}
+use Rattle.report_text.specs.Internal.{Room, Put, maxAnswer, answerLines}
 use Rattle.report_text.proofs.Puts.{put-is, put-then}
 use Rattle.report_text.proofs.Fits.{named-fits, lines-fit}
 use Rattle.report_text.proofs.Sound.{sound-lines}

@@ -1,4 +1,4 @@
 pub mod Text
 pub mod Report
 pub mod Calls
-pub mod Workers
+pub mod Internal

@@ -20,10 +20,10 @@ use Rattle.refusal.specs.declared.Refusal.the-variants.{AllZero}
 use Rattle.refusal.specs.declared.Outcome.{Outcome}
 use Rattle.refusal.specs.declared.Outcome.the-variants.{Done, Refused}
 use Rattle.lists.specs.Degrees.{naiveDegree, significant, extent, power}
-use Rattle.euclid.specs.Gcds.{commonPower}
-use Rattle.albums.specs.Albums.{albumGcd}
-use Rattle.layout.specs.Layout.{listsOf}
-use Rattle.layout.specs.Calls.{albumRefusals}
+use Rattle.euclid_theory.specs.Gcd.{commonPower}
+use Rattle.album_theory.specs.Albums.{albumGcd}
+use Rattle.album_layout.specs.Layout.{listsOf}
+use Rattle.album_layout.specs.Calls.{albumRefusals}
 use Rattle.album_gcd.specs.Calls.{allZero}
 use Rattle.report_text.specs.Text.{decimal, line}
 

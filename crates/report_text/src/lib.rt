@@ -7,14 +7,14 @@ ghost use Rattle.field.specs.Fields.{F65521, p, modulus, fieldAt, longest};
 ghost use Rattle.refusal.specs.Limits.{maxWords};
 ghost use Rattle.refusal.specs.Refusal.{reply, written};
 ghost use Rattle.refusal.specs.Lowest.{lowest};
-ghost use Rattle.euclid.specs.Gcds.{padded};
-ghost use Rattle.layout.specs.Layout.{listsOf};
-ghost use Rattle.layout.specs.Workers.{Passed};
+ghost use Rattle.lists.specs.Padded.{padded};
+ghost use Rattle.album_layout.specs.Layout.{listsOf};
+ghost use Rattle.album_layout.specs.Internal.{Passed};
 ghost use Rattle.report_text.specs.Text.{decimal, line};
 ghost use Rattle.report_text.specs.Report.{listLine, listLines, gcdLines, refusedLine, soundReport, reportOf};
 ghost use Rattle.report_text.specs.Calls.{maxText, reportRefusals, textReply};
-ghost use Rattle.report_text.specs.Workers.{Room, Put, lineEnd, maxAnswer, answerLines};
-use gcd::Gcd;
+ghost use Rattle.report_text.specs.Internal.{Room, Put, lineEnd, maxAnswer, answerLines};
+use list_gcd::Gcd;
 use lists::Power;
 use refusal::Outcome;
 use refusal::Refusal;
@@ -78,7 +78,7 @@ fn report_in(field: u8, album: &[u8], list: &mut [u16], h: &mut [u16], out: &mut
     requires { ⌜ (length (now list) ≡ longest field) × (length (now h) ≡ longest field) × (length (now out) ≡ maxText) ⌝ }
     ensures { λ r. ⌜ Put (reportOf (modulus field) (fieldAt field) (now (album .entry))) 0 (now (out .entry)) (now (out .exit)) r ⌝ }
 {
-    match layout::judge_album(field, album) {
+    match album_layout::judge_album(field, album) {
         Outcome::Refused(why) => put_refused(why, 0, out),
         Outcome::Done => put_sound(field, album, list, h, out),
     }
@@ -232,7 +232,7 @@ fn put_lists(field: u8, album: &[u8], list: &mut [u16], at: usize, out: &mut [u8
     let mut place = at;
     let mut i = 0;
     while i < n {
-        let m = album::read(field, album, i, list);
+        let m = album_reader::read(field, album, i, list);
         place = put_list(i, &list[..m], place, out);
         i += 1;
     }

@@ -11,28 +11,29 @@ ghost use Rattle.refusal.specs.Lowest.{lowest};
 ghost use Rattle.field.specs.Fields.{F65521, p};
 ghost use Rattle.field.specs.Field.{wordReply, operandRefusals, inverseRefusals, sumOf, differenceOf, productOf, inverseOf};
 ghost use Rattle.lists.specs.Operations as of;
-ghost use Rattle.euclid.specs.Quotients.{quotientOf, remainderOf};
-ghost use Rattle.euclid.specs.Gcds.{gcdOf, cofactorA, cofactorB, padded};
-ghost use Rattle.products.specs.Calls.{productRefusals, raiseRefusals};
-ghost use Rattle.sums.specs.Calls.{sumRefusals};
-ghost use Rattle.extents.specs.Calls.{extentReply, extentValues, extentRefusals, trimRefusals};
-ghost use Rattle.derivatives.specs.Calls.{derivativeRefusals};
-ghost use Rattle.evaluation.specs.Calls.{evaluateRefusals};
-ghost use Rattle.division.specs.Calls.{divideRefusals};
-ghost use Rattle.gcd.specs.Calls.{gcdReply, gcdValues, gcdRefusals};
-ghost use Rattle.cofactors.specs.Calls.{cofactorRefusals};
-ghost use Rattle.layout.specs.Layout.{degreeAt, listAt, listsOf};
-ghost use Rattle.layout.specs.Calls.{checkRefusals, bodyOf};
-ghost use Rattle.album.specs.Calls.{listedReply, readRefusals};
-ghost use Rattle.contents.specs.Calls.{contentsRefusals, filled, recordsFrom};
-ghost use Rattle.albums.specs.Albums.{albumGcd};
+ghost use Rattle.euclid_theory.specs.Division.{quotientOf, remainderOf};
+ghost use Rattle.euclid_theory.specs.Gcd.{gcdOf, cofactorA, cofactorB};
+ghost use Rattle.lists.specs.Padded.{padded};
+ghost use Rattle.list_product.specs.Calls.{productRefusals, raiseRefusals};
+ghost use Rattle.list_sum.specs.Calls.{sumRefusals};
+ghost use Rattle.list_extent.specs.Calls.{extentReply, extentValues, extentRefusals, trimRefusals};
+ghost use Rattle.list_derivative.specs.Calls.{derivativeRefusals};
+ghost use Rattle.list_value.specs.Calls.{evaluateRefusals};
+ghost use Rattle.list_division.specs.Calls.{divideRefusals};
+ghost use Rattle.list_gcd.specs.Calls.{gcdReply, gcdValues, gcdRefusals};
+ghost use Rattle.list_cofactors.specs.Calls.{cofactorRefusals};
+ghost use Rattle.album_layout.specs.Layout.{degreeAt, listAt, listsOf};
+ghost use Rattle.album_layout.specs.Calls.{checkRefusals, bodyOf};
+ghost use Rattle.album_reader.specs.Calls.{listedReply, readRefusals};
+ghost use Rattle.album_contents.specs.Calls.{contentsRefusals, filled, recordsFrom};
+ghost use Rattle.album_theory.specs.Albums.{albumGcd};
 ghost use Rattle.album_gcd.specs.Calls.{albumGcdRefusals, albumGcdValues};
 ghost use Rattle.test_calls.specs.Lent.{fitted};
-use album::Listed;
-use contents::Entry;
-use extents::Found;
+use album_contents::Entry;
+use album_reader::Listed;
 use field::Word;
-use gcd::Gcd;
+use list_extent::Found;
+use list_gcd::Gcd;
 use lists::NaiveDegree;
 
 // What a function returns whose call completes.
@@ -71,7 +72,7 @@ pub extern "C" fn test_inverse(a: u16, answer: &mut [usize]) -> u8
     ensures number { λ r. ⌜ r ≡ outcomeNumber (lowest (inverseRefusals p a)) ⌝ }
     ensures values { λ _. ⌜ now (answer .exit) ≡ written (lowest (inverseRefusals p a)) (fitted (inverseOf F65521 a ∷ []) (now (answer .entry))) (now (answer .entry)) ⌝ }
 {
-    note_word(inverses::inverse(a), answer)
+    note_word(field_inverse::inverse(a), answer)
 }
 
 // The product of two lists.
@@ -80,7 +81,7 @@ pub extern "C" fn test_product(f: &[u16], g: &[u16], out: &mut [u16]) -> u8
     ensures number { λ r. ⌜ r ≡ outcomeNumber (lowest (productRefusals p (now (f .entry)) (now (g .entry)) (now (out .entry)))) ⌝ }
     ensures writes { λ _. ⌜ now (out .exit) ≡ written (lowest (productRefusals p (now (f .entry)) (now (g .entry)) (now (out .entry)))) (of.product F65521 (now (f .entry)) (now (g .entry))) (now (out .entry)) ⌝ }
 {
-    refusal::outcome_number(products::product(f, g, out))
+    refusal::outcome_number(list_product::product(f, g, out))
 }
 
 // A list raised to a naive degree.
@@ -89,7 +90,7 @@ pub extern "C" fn test_raise(f: &[u16], to: usize, out: &mut [u16]) -> u8
     ensures number { λ r. ⌜ r ≡ outcomeNumber (lowest (raiseRefusals p (now (f .entry)) to (now (out .entry)))) ⌝ }
     ensures writes { λ _. ⌜ now (out .exit) ≡ written (lowest (raiseRefusals p (now (f .entry)) to (now (out .entry)))) (of.raise F65521 to (now (f .entry))) (now (out .entry)) ⌝ }
 {
-    refusal::outcome_number(products::raise(f, NaiveDegree(to), out))
+    refusal::outcome_number(list_product::raise(f, NaiveDegree(to), out))
 }
 
 // The sum of two lists.
@@ -98,7 +99,7 @@ pub extern "C" fn test_sum(f: &[u16], g: &[u16], out: &mut [u16]) -> u8
     ensures number { λ r. ⌜ r ≡ outcomeNumber (lowest (sumRefusals p (now (f .entry)) (now (g .entry)) (now (out .entry)))) ⌝ }
     ensures writes { λ _. ⌜ now (out .exit) ≡ written (lowest (sumRefusals p (now (f .entry)) (now (g .entry)) (now (out .entry)))) (of.sumOf F65521 (now (f .entry)) (now (g .entry))) (now (out .entry)) ⌝ }
 {
-    refusal::outcome_number(sums::sum(f, g, out))
+    refusal::outcome_number(list_sum::sum(f, g, out))
 }
 
 // The difference of two lists.
@@ -107,7 +108,7 @@ pub extern "C" fn test_difference(f: &[u16], g: &[u16], out: &mut [u16]) -> u8
     ensures number { λ r. ⌜ r ≡ outcomeNumber (lowest (sumRefusals p (now (f .entry)) (now (g .entry)) (now (out .entry)))) ⌝ }
     ensures writes { λ _. ⌜ now (out .exit) ≡ written (lowest (sumRefusals p (now (f .entry)) (now (g .entry)) (now (out .entry)))) (of.differenceOf F65521 (now (f .entry)) (now (g .entry))) (now (out .entry)) ⌝ }
 {
-    refusal::outcome_number(sums::difference(f, g, out))
+    refusal::outcome_number(list_sum::difference(f, g, out))
 }
 
 // The extent of a list; a zero list has none, and the answer is left as it came.
@@ -116,7 +117,7 @@ pub extern "C" fn test_find_extent(f: &[u16], answer: &mut [usize]) -> u8
     ensures number { λ r. ⌜ r ≡ outcomeNumber (lowest (extentRefusals p (now (f .entry)))) ⌝ }
     ensures values { λ _. ⌜ now (answer .exit) ≡ written (lowest (extentRefusals p (now (f .entry)))) (fitted (extentValues (now (f .entry))) (now (answer .entry))) (now (answer .entry)) ⌝ }
 {
-    note_found(extents::find_extent(f), answer)
+    note_found(list_extent::find_extent(f), answer)
 }
 
 // A list less its top zeros.
@@ -125,7 +126,7 @@ pub extern "C" fn test_trim(f: &[u16], out: &mut [u16]) -> u8
     ensures number { λ r. ⌜ r ≡ outcomeNumber (lowest (trimRefusals p (now (f .entry)) (now (out .entry)))) ⌝ }
     ensures writes { λ _. ⌜ now (out .exit) ≡ written (lowest (trimRefusals p (now (f .entry)) (now (out .entry)))) (of.trim F65521 (now (f .entry))) (now (out .entry)) ⌝ }
 {
-    refusal::outcome_number(extents::trim(f, out))
+    refusal::outcome_number(list_extent::trim(f, out))
 }
 
 // The derivative of a list.
@@ -134,7 +135,7 @@ pub extern "C" fn test_derivative(f: &[u16], out: &mut [u16]) -> u8
     ensures number { λ r. ⌜ r ≡ outcomeNumber (lowest (derivativeRefusals p (now (f .entry)) (now (out .entry)))) ⌝ }
     ensures writes { λ _. ⌜ now (out .exit) ≡ written (lowest (derivativeRefusals p (now (f .entry)) (now (out .entry)))) (of.derivative F65521 (now (f .entry))) (now (out .entry)) ⌝ }
 {
-    refusal::outcome_number(derivatives::derivative(f, out))
+    refusal::outcome_number(list_derivative::derivative(f, out))
 }
 
 // The value of f at x.
@@ -143,7 +144,7 @@ pub extern "C" fn test_evaluate(f: &[u16], x: u16, answer: &mut [usize]) -> u8
     ensures number { λ r. ⌜ r ≡ outcomeNumber (lowest (evaluateRefusals p (now (f .entry)) x)) ⌝ }
     ensures values { λ _. ⌜ now (answer .exit) ≡ written (lowest (evaluateRefusals p (now (f .entry)) x)) (fitted (of.evaluate F65521 (now (f .entry)) x ∷ []) (now (answer .entry))) (now (answer .entry)) ⌝ }
 {
-    note_word(evaluation::evaluate(f, x), answer)
+    note_word(list_value::evaluate(f, x), answer)
 }
 
 // g divided by f.
@@ -153,7 +154,7 @@ pub extern "C" fn test_divide(g: &[u16], f: &[u16], q: &mut [u16], r: &mut [u16]
     ensures quotient { λ _. ⌜ now (q .exit) ≡ written (lowest (divideRefusals p (now (g .entry)) (now (f .entry)) (now (q .entry)) (now (r .entry)))) (quotientOf F65521 (now (g .entry)) (now (f .entry))) (now (q .entry)) ⌝ }
     ensures remainder { λ _. ⌜ now (r .exit) ≡ written (lowest (divideRefusals p (now (g .entry)) (now (f .entry)) (now (q .entry)) (now (r .entry)))) (remainderOf F65521 (now (g .entry)) (now (f .entry))) (now (r .entry)) ⌝ }
 {
-    refusal::outcome_number(division::divide(g, f, q, r))
+    refusal::outcome_number(list_division::divide(g, f, q, r))
 }
 
 // The GCD of two lists; the answer is w, c and rounds.
@@ -163,7 +164,7 @@ pub extern "C" fn test_gcd(f: &[u16], g: &[u16], h: &mut [u16], answer: &mut [us
     ensures writes { λ _. ⌜ now (h .exit) ≡ written (lowest (gcdRefusals p (now (f .entry)) (now (g .entry)) (now (h .entry)))) (padded maxWords (gcdOf F65521 (now (f .entry)) (now (g .entry)))) (now (h .entry)) ⌝ }
     ensures values { λ _. ⌜ now (answer .exit) ≡ written (lowest (gcdRefusals p (now (f .entry)) (now (g .entry)) (now (h .entry)))) (fitted (gcdValues F65521 (now (f .entry)) (now (g .entry))) (now (answer .entry))) (now (answer .entry)) ⌝ }
 {
-    note_gcd(gcd::gcd_of(f, g, h), answer)
+    note_gcd(list_gcd::gcd_of(f, g, h), answer)
 }
 
 // The GCD of two lists with its cofactors; the answer is w, c and rounds.
@@ -182,7 +183,7 @@ pub extern "C" fn test_cofactors(
     ensures right { λ _. ⌜ now (b .exit) ≡ written (lowest (cofactorRefusals p (now (f .entry)) (now (g .entry)) (now (h .entry)) (now (a .entry)) (now (b .entry)))) (cofactorB F65521 (now (f .entry)) (now (g .entry))) (now (b .entry)) ⌝ }
     ensures values { λ _. ⌜ now (answer .exit) ≡ written (lowest (cofactorRefusals p (now (f .entry)) (now (g .entry)) (now (h .entry)) (now (a .entry)) (now (b .entry)))) (fitted (gcdValues F65521 (now (f .entry)) (now (g .entry))) (now (answer .entry))) (now (answer .entry)) ⌝ }
 {
-    note_gcd(cofactors::find_cofactors(f, g, h, a, b), answer)
+    note_gcd(list_cofactors::find_cofactors(f, g, h, a, b), answer)
 }
 
 // The check of an album with an index.
@@ -190,7 +191,7 @@ pub extern "C" fn test_cofactors(
 pub extern "C" fn test_check(album: &[u8], i: usize) -> u8
     ensures number { λ r. ⌜ r ≡ outcomeNumber (lowest (checkRefusals p (now (album .entry)) i)) ⌝ }
 {
-    refusal::outcome_number(layout::check(album, i))
+    refusal::outcome_number(album_layout::check(album, i))
 }
 
 // The bytes of list i, in a slice of exactly their number. The call has no number to return: the number of its bytes, 0 when refused.
@@ -199,7 +200,7 @@ pub extern "C" fn test_body(album: &[u8], i: usize, out: &mut [u8]) -> usize
     ensures answer { λ r. ⌜ r ≡ length (bodyOf p (now (album .entry)) i) ⌝ }
     ensures writes { λ _. ⌜ now (out .exit) ≡ fitted (bodyOf p (now (album .entry)) i) (now (out .entry)) ⌝ }
 {
-    let part = layout::body(album, i);
+    let part = album_layout::body(album, i);
     if out.len() == part.len() {
         copy(part, out);
     }
@@ -218,7 +219,7 @@ pub extern "C" fn test_read_list(
     ensures writes { λ _. ⌜ now (out .exit) ≡ written (lowest (readRefusals p (now (album .entry)) i (now (out .entry)))) (padded maxWords (listAt (now (album .entry)) i)) (now (out .entry)) ⌝ }
     ensures values { λ _. ⌜ now (answer .exit) ≡ written (lowest (readRefusals p (now (album .entry)) i (now (out .entry)))) (fitted (degreeAt (now (album .entry)) i ∷ []) (now (answer .entry))) (now (answer .entry)) ⌝ }
 {
-    note_listed(album::read_list(album, i, out), answer)
+    note_listed(album_reader::read_list(album, i, out), answer)
 }
 
 // The contents of an album as records.
@@ -227,7 +228,7 @@ pub extern "C" fn test_contents(album: &[u8], out: &mut [Entry]) -> u8
     ensures number { λ r. ⌜ r ≡ outcomeNumber (lowest (contentsRefusals p (now (album .entry)) (now (out .entry)))) ⌝ }
     ensures writes { λ _. ⌜ now (out .exit) ≡ filled (lowest (contentsRefusals p (now (album .entry)) (now (out .entry)))) (recordsFrom (now (album .entry)) 0 maxLists) (now (out .entry)) ⌝ }
 {
-    refusal::outcome_number(contents::contents(album, out))
+    refusal::outcome_number(album_contents::contents(album, out))
 }
 
 // The GCD of an album; the answer is w, c and rounds.

@@ -10,8 +10,8 @@ use mathlib.Core.List.{List, [], _∷_, map}
 use Prim.Native.Nat.{ℕ}
 use Rattle.field.specs.Fields.{F65521}
 use Rattle.lists.specs.Bytes.{wordsAt}
-use Rattle.layout.specs.Layout.{startAt, listAt, listsFrom, listsOf}
-use Rattle.albums.specs.Albums.{ended, gcdFrom, albumGcd}
+use Rattle.album_layout.specs.Layout.{startAt, listAt, listsFrom, listsOf}
+use Rattle.album_theory.specs.Albums.{ended, gcdFrom, albumGcd}
 use Rattle.album_gcd.specs.Calls.{albumGcdValues}
 use Rattle.worked.specs.Sums.{computes}
 

@@ -15,12 +15,12 @@ use Rattle.field.specs.Fields as A
 use Rattle.field.specs.Fields.{F65521}
 use Rattle.lists.specs.Tabulate.{tabulate}
 use Rattle.lists.specs.Degrees.{naiveDegree, significantIn, significant, extent, power}
-use Rattle.lists.specs.Lists.{word, binomial, coefficient, scaled, unscaled}
+use Rattle.lists.specs.Lists.{word, binomial, scaledCoefficient, scaled, unscaled}
 use Rattle.lists.specs.Operations.{productAt, raiseAt, derivativeAt}
 use Rattle.lists.specs.Operations as of
-use Rattle.euclid.specs.Quotients.{steps, quotientOf, remainderOf}
-use Rattle.euclid.specs.Gcds.{room, identityDegree, powers, least, commonPower, roundsOf, gcdOf, countOf, cofactorA, cofactorB}
-use Rattle.gcd.specs.Calls.{gcdValues}
+use Rattle.euclid_theory.specs.Division.{steps, quotientOf, remainderOf}
+use Rattle.euclid_theory.specs.Gcd.{room, identityDegree, powers, least, commonPower, euclidOf, gcdOf, roundsOf, cofactorA, cofactorB}
+use Rattle.list_gcd.specs.Calls.{gcdValues}
 
 pub data Operation : Type 0 where
   product : (f g : List ℕ) → Operation
@@ -60,7 +60,7 @@ table =
 
 -- the definitions that the computation opens
 unfoldable pub computes : Bool
-unfolding A.computes total choose tabulate naiveDegree significantIn significant extent power word binomial coefficient scaled unscaled productAt of.product raiseAt of.raise derivativeAt of.derivative steps quotientOf remainderOf room identityDegree powers least commonPower roundsOf gcdOf countOf cofactorA cofactorB gcdValues
+unfolding A.computes total choose tabulate naiveDegree significantIn significant extent power word binomial scaledCoefficient scaled unscaled productAt of.product raiseAt of.raise derivativeAt of.derivative steps quotientOf remainderOf room identityDegree powers least commonPower euclidOf gcdOf roundsOf cofactorA cofactorB gcdValues
 computes = true
 
 pub worked : map (λ row. given (row .operation)) table ≡ map (λ row. row .expected) table

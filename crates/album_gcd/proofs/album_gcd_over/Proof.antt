@@ -4,7 +4,7 @@ use mathlib.Core.Path.{refl}
 use borrow.Author.Needs.{needs}
 use Rattle.field.specs.Fields.{fieldAt}
 use Rattle.refusal.specs.Limits.{maxWords}
-use Rattle.gcd.proofs.Buffers.{getD-zeros}
+use Rattle.list_gcd.proofs.Buffers.{getD-zeros}
 use Rattle.album_gcd.proofs.album_gcd_over.Statement.{statement}
 use Rattle.album_gcd.proofs.album_gcd_over.Tie as tie
 

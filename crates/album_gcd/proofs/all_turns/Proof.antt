@@ -7,12 +7,12 @@ use native.Mathlib.Omega.{arith}
 use lib.ListN.{length, getD}
 use borrow.Author.Needs.{needs}
 use Rattle.field.specs.Fields.{modulus, fieldAt, longest}
-use Rattle.field.specs.FieldsLaws.{longest-full, longest-room}
-use Rattle.layout.specs.Layout.{listAt, listsOf}
-use Rattle.layout.specs.Places.{length-lists, list-at}
-use Rattle.layout.proofs.Passed.{passed-obeys}
-use Rattle.album.specs.Workers.{Held}
-use Rattle.album.proofs.Held.{held-take, held-length, held-inside, held-count, held-again, read-held}
+use Rattle.field.proofs.FieldsLaws.{longest-full, longest-room}
+use Rattle.album_layout.specs.Layout.{listAt, listsOf}
+use Rattle.album_layout.proofs.Places.{length-lists, list-at}
+use Rattle.album_layout.proofs.Passed.{passed-obeys}
+use Rattle.album_reader.specs.Internal.{Held}
+use Rattle.album_reader.proofs.Held.{held-take, held-length, held-inside, held-count, held-again, read-held}
 use Rattle.album_gcd.proofs.Turning.{Folding, folding-start, folding-next, folding-end}
 use Rattle.album_gcd.proofs.all_turns.Statement.{statement}
 use Rattle.album_gcd.proofs.all_turns.Tie as tie

@@ -8,11 +8,11 @@ use lib.ListN.{length, getD, drop}
 use borrow.Author.Needs.{needs}
 use Rattle.field.specs.Fields.{modulus, longest}
 use Rattle.lists.specs.Degrees.{significant}
-use Rattle.layout.specs.Layout.{listAt, listsOf}
-use Rattle.layout.specs.Places.{length-lists, list-at}
-use Rattle.layout.proofs.Passed.{passed-obeys}
-use Rattle.album.specs.Workers.{Held}
-use Rattle.album.proofs.Held.{held-take, held-inside, held-count, read-held}
+use Rattle.album_layout.specs.Layout.{listAt, listsOf}
+use Rattle.album_layout.proofs.Places.{length-lists, list-at}
+use Rattle.album_layout.proofs.Passed.{passed-obeys}
+use Rattle.album_reader.specs.Internal.{Held}
+use Rattle.album_reader.proofs.Held.{held-take, held-inside, held-count, read-held}
 use Rattle.album_gcd.specs.Calls.{allZero}
 use Rattle.album_gcd.proofs.Zeros.{zero-here, zero-on, zero-end}
 use Rattle.album_gcd.proofs.all_zero.Statement.{statement}

@@ -9,13 +9,13 @@ use native.Mathlib.Omega.{arith}
 use lib.ListN.{length, getD, take}
 use borrow.Author.Needs.{needs}
 use Rattle.field.specs.Fields.{modulus, longest}
-use Rattle.field.specs.FieldsLaws.{longest-full}
+use Rattle.field.proofs.FieldsLaws.{longest-full}
 use Rattle.lists.specs.Degrees.{significant, power}
-use Rattle.layout.specs.Layout.{listAt, listsOf}
-use Rattle.layout.specs.Places.{length-lists, list-at}
-use Rattle.layout.proofs.Passed.{passed-obeys, passed-each}
-use Rattle.album.specs.Workers.{Held}
-use Rattle.album.proofs.Held.{held-take, held-inside, held-count, read-held}
+use Rattle.album_layout.specs.Layout.{listAt, listsOf}
+use Rattle.album_layout.proofs.Places.{length-lists, list-at}
+use Rattle.album_layout.proofs.Passed.{passed-obeys, passed-each}
+use Rattle.album_reader.specs.Internal.{Held}
+use Rattle.album_reader.proofs.Held.{held-take, held-inside, held-count, read-held}
 use Rattle.album_gcd.proofs.Zeros.{nonzero}
 use Rattle.album_gcd.proofs.Power.{Lowest, lowest-start, lowest-next, lowest-over, lowest-end}
 use Rattle.album_gcd.proofs.common_power.Statement.{statement}

@@ -7,7 +7,7 @@ use native.Mathlib.Omega.{arith}
 use lib.ListN.{length, getD, length-set}
 use lib.Seq.{ext-getD}
 use borrow.Author.Needs.{needs}
-use Rattle.rounds.proofs.Partway.{Partway, start, next}
+use Rattle.euclid_round.proofs.Partway.{Partway, start, next}
 use Rattle.album_gcd.proofs.copy.Statement.{statement}
 use Rattle.album_gcd.proofs.copy.Tie as tie
 

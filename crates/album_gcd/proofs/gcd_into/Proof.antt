@@ -3,9 +3,9 @@
 use native.Mathlib.Omega.{arith}
 use borrow.Author.Needs.{needs}
 use Rattle.field.specs.Fields.{fieldAt}
-use Rattle.field.specs.FieldsLaws.{longest-in, longest-full}
-use Rattle.layout.specs.Layout.{listsOf}
-use Rattle.layout.proofs.Passed.{passed-each}
+use Rattle.field.proofs.FieldsLaws.{longest-in, longest-full}
+use Rattle.album_layout.specs.Layout.{listsOf}
+use Rattle.album_layout.proofs.Passed.{passed-each}
 use Rattle.album_gcd.proofs.Judging.{judged-done}
 use Rattle.album_gcd.proofs.Zeros.{nonzero}
 use Rattle.album_gcd.proofs.Finish.{answered}

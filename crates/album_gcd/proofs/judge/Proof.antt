@@ -4,7 +4,7 @@ use mathlib.Core.Path.{sym, _∙_}
 use native.Mathlib.Omega.{arith}
 use borrow.Author.Needs.{needs}
 use Rattle.field.specs.Fields.{modulus}
-use Rattle.layout.specs.Workers.{Passed}
+use Rattle.album_layout.specs.Internal.{Passed}
 use Rattle.album_gcd.proofs.Judging.{judged-album, judged-zero, judged-misfit, judged-done}
 use Rattle.album_gcd.proofs.judge.Statement.{statement}
 use Rattle.album_gcd.proofs.judge.Tie as tie

@@ -5,12 +5,12 @@ use native.Mathlib.Omega.{arith}
 use lib.ListN.{take}
 use borrow.Author.Needs.{needs}
 use Rattle.field.specs.Fields.{modulus, fieldAt, longest}
-use Rattle.field.specs.FieldsLaws.{longest-in}
+use Rattle.field.proofs.FieldsLaws.{longest-in}
 use Rattle.lists.specs.Degrees.{significant}
-use Rattle.lists.specs.Refused.{Listed}
-use Rattle.gcd.specs.Calls.{gcdReply}
-use Rattle.album.specs.Workers.{Held}
-use Rattle.album.proofs.Held.{held-length}
+use Rattle.lists.specs.Refused.{IsList}
+use Rattle.list_gcd.specs.Calls.{gcdReply}
+use Rattle.album_reader.specs.Internal.{Held}
+use Rattle.album_reader.proofs.Held.{held-length}
 use Rattle.album_gcd.proofs.Turning.{turn-over, turn-never, turn-short, turn-with, turn-as}
 use Rattle.album_gcd.proofs.turn.Statement.{statement}
 use Rattle.album_gcd.proofs.turn.Tie as tie
@@ -30,7 +30,7 @@ same : (c : tie.After-copy) → take (c .before .before .before .before .before 
 same c = ap (take (c .before .before .before .before .before .before .before .before .args .words)) (c .copy .ensures)
 
 -- no call refuses the list, and it is not zero
-listed : (c : tie.After-copy) → Listed (modulus (c .before .before .before .before .before .before .before .before .args .field)) (longest (c .before .before .before .before .before .before .before .before .args .field)) (c .before .before .before .before .before .before .before .before .args .list .now)
+listed : (c : tie.After-copy) → IsList (modulus (c .before .before .before .before .before .before .before .before .args .field)) (longest (c .before .before .before .before .before .before .before .before .args .field)) (c .before .before .before .before .before .before .before .before .args .list .now)
 listed c = c .before .before .before .before .before .before .before .before .pre .0
 
 some : (c : tie.After-copy) → ¬ (significant (c .before .before .before .before .before .before .before .before .args .list .now) ≡ 0)

@@ -1,7 +1,7 @@
 -- `demand1::layout_body` meets its contract: what the call ensures implies demand 1.
 -- Assumes nothing.
 use borrow.Author.Needs.{needs}
-use Rattle.layout.specs.Calls.{bodyOf}
+use Rattle.album_layout.specs.Calls.{bodyOf}
 use Rattle.demand1.specs.Demand1Holds.{empty-refused}
 use Rattle.demand1.proofs.layout_body.Statement.{statement}
 use Rattle.demand1.proofs.layout_body.Tie as tie

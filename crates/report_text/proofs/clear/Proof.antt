@@ -5,7 +5,7 @@ use Prim.Native.Nat.{_-_, _≤_}
 use native.Mathlib.Omega.{arith}
 use lib.ListN.{length, replicate, length-set}
 use borrow.Author.Needs.{needs}
-use Rattle.report_text.specs.Workers.{Put}
+use Rattle.report_text.specs.Internal.{Put}
 use Rattle.report_text.proofs.Puts.{zeros-start, zeros-next, zeros-end}
 use Rattle.report_text.proofs.clear.Statement.{statement}
 use Rattle.report_text.proofs.clear.Tie as tie

@@ -6,11 +6,11 @@ use native.Mathlib.Omega.{arith}
 use lib.ListN.{length}
 use borrow.Author.Needs.{needs}
 use Rattle.field.specs.Fields.{fieldAt}
-use Rattle.field.specs.FieldsLaws.{longest-room}
+use Rattle.field.proofs.FieldsLaws.{longest-room}
 use Rattle.refusal.specs.Limits.{maxWords}
-use Rattle.albums.specs.Albums.{albumGcd}
-use Rattle.layout.specs.Layout.{listsOf}
-use Rattle.layout.proofs.Passed.{passed-each}
+use Rattle.album_theory.specs.Albums.{albumGcd}
+use Rattle.album_layout.specs.Layout.{listsOf}
+use Rattle.album_layout.proofs.Passed.{passed-each}
 use Rattle.report_text.specs.Report.{gcdLines}
 use Rattle.report_text.proofs.Puts.{put-is}
 use Rattle.report_text.proofs.Fits.{refused-fits}

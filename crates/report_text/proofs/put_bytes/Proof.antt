@@ -6,7 +6,7 @@ use native.Mathlib.Omega.{arith}
 use lib.ListN.{length, take}
 use lib.Seq.{take-all}
 use borrow.Author.Needs.{needs}
-use Rattle.report_text.specs.Workers.{Put}
+use Rattle.report_text.specs.Internal.{Put}
 use Rattle.report_text.proofs.Puts.{put-none, put-is, put-next}
 use Rattle.report_text.proofs.put_bytes.Statement.{statement}
 use Rattle.report_text.proofs.put_bytes.Tie as tie

@@ -8,7 +8,7 @@ use borrow.Author.Needs.{needs}
 use Rattle.lists.specs.Degrees.{naiveDegree}
 use Rattle.report_text.specs.Text.{decimal, line}
 use Rattle.report_text.specs.Report.{⟨gcd⟩}
-use Rattle.report_text.specs.Workers.{Room}
+use Rattle.report_text.specs.Internal.{Room}
 use Rattle.report_text.proofs.Puts.{put-is, put-then, room-is, room-first, room-then}
 use Rattle.report_text.proofs.Lines.{gcd-lines}
 use Rattle.report_text.proofs.put_gcd.Statement.{statement}

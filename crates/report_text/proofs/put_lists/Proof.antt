@@ -8,11 +8,11 @@ use native.Mathlib.Omega.{arith}
 use lib.ListN.{length, drop}
 use borrow.Author.Needs.{needs}
 use Rattle.field.specs.Fields.{modulus, longest}
-use Rattle.layout.specs.Layout.{listAt, listsOf}
-use Rattle.layout.specs.Places.{length-lists, list-at}
-use Rattle.layout.proofs.Passed.{passed-obeys}
-use Rattle.album.specs.Workers.{Held}
-use Rattle.album.proofs.Held.{held-take, held-length, held-inside, held-count, read-held}
+use Rattle.album_layout.specs.Layout.{listAt, listsOf}
+use Rattle.album_layout.proofs.Places.{length-lists, list-at}
+use Rattle.album_layout.proofs.Passed.{passed-obeys}
+use Rattle.album_reader.specs.Internal.{Held}
+use Rattle.album_reader.proofs.Held.{held-take, held-length, held-inside, held-count, read-held}
 use Rattle.report_text.specs.Report.{listLine, listLines}
 use Rattle.report_text.proofs.Puts.{Left, put-none, put-is, room-is, left-start, left-next, left-room, left-end}
 use Rattle.report_text.proofs.Lines.{lines-next, lines-end}

@@ -3,7 +3,7 @@
 use native.Mathlib.Omega.{arith}
 use borrow.Author.Needs.{needs}
 use Rattle.field.specs.Fields.{fieldAt}
-use Rattle.layout.proofs.Passed.{passed-obeys}
+use Rattle.album_layout.proofs.Passed.{passed-obeys}
 use Rattle.report_text.proofs.Whole.{first-room, lists-room, answer-room, put-whole-report}
 use Rattle.report_text.proofs.put_sound.Statement.{statement}
 use Rattle.report_text.proofs.put_sound.Tie as tie

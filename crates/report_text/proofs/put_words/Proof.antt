@@ -7,7 +7,7 @@ use Prim.Native.Nat.{_-_, _≤_}
 use native.Mathlib.Omega.{arith}
 use lib.ListN.{length, drop}
 use borrow.Author.Needs.{needs}
-use Rattle.report_text.specs.Workers.{Room}
+use Rattle.report_text.specs.Internal.{Room}
 use Rattle.report_text.proofs.Puts.{Left, put-is, put-then, room-is, room-first, room-then, left-start, left-next, left-room, left-end}
 use Rattle.report_text.proofs.Lines.{fields, words-line, fields-next, fields-end}
 use Rattle.report_text.proofs.put_words.Statement.{statement}

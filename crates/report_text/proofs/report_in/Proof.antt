@@ -4,7 +4,7 @@ use mathlib.Core.Path.{refl, sym, _∙_}
 use native.Mathlib.Omega.{arith}
 use borrow.Author.Needs.{needs}
 use Rattle.field.specs.Fields.{modulus, fieldAt}
-use Rattle.layout.specs.Workers.{Passed}
+use Rattle.album_layout.specs.Internal.{Passed}
 use Rattle.report_text.proofs.Puts.{put-is}
 use Rattle.report_text.proofs.Fits.{refused-fits}
 use Rattle.report_text.proofs.Whole.{report-refused, report-sound}

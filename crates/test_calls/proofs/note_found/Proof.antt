@@ -2,7 +2,7 @@
 -- Assumes nothing.
 use borrow.Author.Needs.{needs}
 use mathlib.Core.Path.{refl, sym}
-use Rattle.extents.specs.Calls.{extentReply}
+use Rattle.list_extent.specs.Calls.{extentReply}
 use Rattle.test_calls.proofs.Answers.{noted, fitted-none}
 use Rattle.test_calls.proofs.note_found.Statement.{statement}
 use Rattle.test_calls.proofs.note_found.Tie as tie

@@ -2,7 +2,7 @@
 -- Assumes nothing.
 use borrow.Author.Needs.{needs}
 use mathlib.Core.Path.{refl, sym}
-use Rattle.gcd.specs.Calls.{gcdReply}
+use Rattle.list_gcd.specs.Calls.{gcdReply}
 use Rattle.test_calls.proofs.Answers.{noted, fitted-none}
 use Rattle.test_calls.proofs.note_gcd.Statement.{statement}
 use Rattle.test_calls.proofs.note_gcd.Tie as tie

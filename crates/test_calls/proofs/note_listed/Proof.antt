@@ -2,7 +2,7 @@
 -- Assumes nothing.
 use borrow.Author.Needs.{needs}
 use mathlib.Core.Path.{refl, sym}
-use Rattle.album.specs.Calls.{listedReply}
+use Rattle.album_reader.specs.Calls.{listedReply}
 use Rattle.test_calls.proofs.Answers.{noted, fitted-none}
 use Rattle.test_calls.proofs.note_listed.Statement.{statement}
 use Rattle.test_calls.proofs.note_listed.Tie as tie

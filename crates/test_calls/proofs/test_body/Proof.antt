@@ -2,7 +2,7 @@
 -- Assumes nothing.
 use borrow.Author.Needs.{needs}
 use Rattle.field.specs.Fields.{p}
-use Rattle.layout.specs.Calls.{bodyOf}
+use Rattle.album_layout.specs.Calls.{bodyOf}
 use Rattle.test_calls.proofs.Answers.{copied, left-out}
 use Rattle.test_calls.proofs.test_body.Statement.{statement}
 use Rattle.test_calls.proofs.test_body.Tie as tie

@@ -3,7 +3,7 @@
 use borrow.Author.Needs.{needs}
 use Rattle.refusal.specs.Lowest.{lowest}
 use Rattle.field.specs.Fields.{p}
-use Rattle.layout.specs.Calls.{checkRefusals}
+use Rattle.album_layout.specs.Calls.{checkRefusals}
 use Rattle.test_calls.proofs.Answers.{counted}
 use Rattle.test_calls.proofs.test_check.Statement.{statement}
 use Rattle.test_calls.proofs.test_check.Tie as tie

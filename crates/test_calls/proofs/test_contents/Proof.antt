@@ -49,13 +49,13 @@ use Rattle.refusal.proofs.outcome_number.Symbol as number-def
 use Rattle.refusal.proofs.outcome_number.Symbol.{name as #number}
 use Rattle.refusal.proofs.outcome_number.Met as number-thm
 use Rattle.field.specs.Fields.{p}
-use Rattle.contents.specs.Calls.{contentsRefusals, filled, recordsFrom}
-use Rattle.contents.specs.declared.Entry.{Entry}
-use Rattle.contents.proofs.Entry as T
-use Rattle.contents.proofs.contents as contents
-use Rattle.contents.proofs.contents.Symbol as contents-def
-use Rattle.contents.proofs.contents.Symbol.{name as #contents}
-use Rattle.contents.proofs.contents.Met as contents-thm
+use Rattle.album_contents.specs.Calls.{contentsRefusals, filled, recordsFrom}
+use Rattle.album_contents.specs.declared.Entry.{Entry}
+use Rattle.album_contents.proofs.Entry as T
+use Rattle.album_contents.proofs.contents as contents
+use Rattle.album_contents.proofs.contents.Symbol as contents-def
+use Rattle.album_contents.proofs.contents.Symbol.{name as #contents}
+use Rattle.album_contents.proofs.contents.Met as contents-thm
 use Rattle.test_calls.proofs.Answers.{counted}
 use Rattle.test_calls.proofs.test_contents.Key.{name as #test-contents}
 use Rattle.test_calls.proofs.test_contents as test
@@ -188,5 +188,5 @@ test-contents-spec 𝓤 H 𝓜 𝓖 𝓡 =
     entered 𝓤 H (tripleOf 𝓤 H (𝓖 .A) test.signature (test.spec 𝓤 H (𝓖 .A) (𝓜 .mem) (𝓡 .run)))
     (tables 𝓤 H 𝓜 𝓡 code.env .C) (tables 𝓤 H 𝓜 𝓡 code.env .Λ) #test-contents code.function (code.unfolded 𝓤 H 𝓜 𝓡)
     (test-meets 𝓤 H (𝓖 .A) (givenOf 𝓤 H 𝓜 𝓖) (𝓜 .mem) (𝓡 .run) (tablesOf 𝓤 H 𝓜 (tables 𝓤 H 𝓜 𝓡 code.env))
-    (cited 𝓤 H (Contents 𝓤 H (𝓖 .A) (𝓜 .mem) (𝓡 .run)) 𝓜 𝓡 code.env #contents contents-def.routine code.calls-contents·contents (contents-thm.met 𝓤 H 𝓜 𝓖 𝓡))
+    (cited 𝓤 H (Contents 𝓤 H (𝓖 .A) (𝓜 .mem) (𝓡 .run)) 𝓜 𝓡 code.env #contents contents-def.routine code.calls-album-contents·contents (contents-thm.met 𝓤 H 𝓜 𝓖 𝓡))
     (cited 𝓤 H (Number 𝓤 H (𝓖 .A) (𝓜 .mem) (𝓡 .run)) 𝓜 𝓡 code.env #number number-def.routine code.calls-refusal·outcome-number (number-thm.met 𝓤 H 𝓜 𝓖 𝓡)))

@@ -3,7 +3,7 @@
 use borrow.Author.Needs.{needs}
 use Rattle.refusal.specs.Lowest.{lowest}
 use Rattle.field.specs.Fields.{p}
-use Rattle.derivatives.specs.Calls.{derivativeRefusals}
+use Rattle.list_derivative.specs.Calls.{derivativeRefusals}
 use Rattle.test_calls.proofs.Answers.{counted}
 use Rattle.test_calls.proofs.test_derivative.Statement.{statement}
 use Rattle.test_calls.proofs.test_derivative.Tie as tie

@@ -3,7 +3,7 @@
 use borrow.Author.Needs.{needs}
 use Rattle.refusal.specs.Lowest.{lowest}
 use Rattle.field.specs.Fields.{p}
-use Rattle.sums.specs.Calls.{sumRefusals}
+use Rattle.list_sum.specs.Calls.{sumRefusals}
 use Rattle.test_calls.proofs.Answers.{counted}
 use Rattle.test_calls.proofs.test_difference.Statement.{statement}
 use Rattle.test_calls.proofs.test_difference.Tie as tie

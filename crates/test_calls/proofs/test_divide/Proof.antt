@@ -3,7 +3,7 @@
 use borrow.Author.Needs.{needs}
 use Rattle.refusal.specs.Lowest.{lowest}
 use Rattle.field.specs.Fields.{p}
-use Rattle.division.specs.Calls.{divideRefusals}
+use Rattle.list_division.specs.Calls.{divideRefusals}
 use Rattle.test_calls.proofs.Answers.{counted}
 use Rattle.test_calls.proofs.test_divide.Statement.{statement}
 use Rattle.test_calls.proofs.test_divide.Tie as tie

@@ -5,7 +5,7 @@ use mathlib.Core.List.{[], _∷_}
 use Rattle.refusal.specs.Lowest.{lowest}
 use Rattle.field.specs.Fields.{F65521, p}
 use Rattle.lists.specs.Operations.{evaluate}
-use Rattle.evaluation.specs.Calls.{evaluateRefusals}
+use Rattle.list_value.specs.Calls.{evaluateRefusals}
 use Rattle.test_calls.proofs.Answers.{told}
 use Rattle.test_calls.proofs.test_evaluate.Statement.{statement}
 use Rattle.test_calls.proofs.test_evaluate.Tie as tie

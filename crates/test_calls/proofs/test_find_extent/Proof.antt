@@ -3,7 +3,7 @@
 use borrow.Author.Needs.{needs}
 use Rattle.refusal.specs.Lowest.{lowest}
 use Rattle.field.specs.Fields.{p}
-use Rattle.extents.specs.Calls.{extentRefusals, extentValues}
+use Rattle.list_extent.specs.Calls.{extentRefusals, extentValues}
 use Rattle.test_calls.proofs.Answers.{told}
 use Rattle.test_calls.proofs.test_find_extent.Statement.{statement}
 use Rattle.test_calls.proofs.test_find_extent.Tie as tie

@@ -3,7 +3,7 @@
 use borrow.Author.Needs.{needs}
 use Rattle.refusal.specs.Lowest.{lowest}
 use Rattle.field.specs.Fields.{F65521, p}
-use Rattle.layout.specs.Layout.{listsOf}
+use Rattle.album_layout.specs.Layout.{listsOf}
 use Rattle.album_gcd.specs.Calls.{albumGcdRefusals, albumGcdValues}
 use Rattle.test_calls.proofs.Answers.{told}
 use Rattle.test_calls.proofs.test_gcd_of_album.Statement.{statement}

@@ -3,7 +3,7 @@
 use borrow.Author.Needs.{needs}
 use Rattle.refusal.specs.Lowest.{lowest}
 use Rattle.field.specs.Fields.{p}
-use Rattle.extents.specs.Calls.{trimRefusals}
+use Rattle.list_extent.specs.Calls.{trimRefusals}
 use Rattle.test_calls.proofs.Answers.{counted}
 use Rattle.test_calls.proofs.test_trim.Statement.{statement}
 use Rattle.test_calls.proofs.test_trim.Tie as tie

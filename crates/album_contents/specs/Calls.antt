@@ -1,0 +1,33 @@
+-- The contents of an album as records for a host.
+--     recordAt             the record of list k: its offset and its naive degree; zeros after the last list
+--     recordsFrom          n records, from number k on
+--     contentsRefusals     of contents: the slice has exactly as many records as the limit of lists
+--     filled               what the lent slice holds afterwards: the records, or, refused, what it held before
+-- Assumes nothing.
+use mathlib.Core.Bool.{cond, not}
+use mathlib.Core.List.{List, [], _∷_, _++_}
+use Prim.Native.Nat.{ℕ, zero, suc}
+use lib.Dec.{ltb, eqb}
+use lib.ListN.{length}
+use Rattle.refusal.specs.Limits.{maxLists}
+use Rattle.refusal.specs.Lowest.{Condition, _given-when_}
+use Rattle.refusal.specs.declared.Refusal.the-variants.{Misfit}
+use Rattle.refusal.specs.declared.Outcome.{Outcome}
+use Rattle.refusal.specs.declared.Outcome.the-variants.{Done, Refused}
+use Rattle.album_layout.specs.Layout.{count, degreeAt, offsetAt}
+use Rattle.album_layout.specs.Calls.{albumRefusals}
+use Rattle.album_contents.specs.declared.Entry.{Entry}
+
+unfoldable pub recordAt : List ℕ → ℕ → Entry
+recordAt s k = cond (ltb k (count s)) (record { offset = offsetAt s k; degree = degreeAt s k }) (record { offset = 0; degree = 0 })
+
+unfoldable pub recordsFrom : List ℕ → (k n : ℕ) → List Entry
+recordsFrom s k zero = []
+recordsFrom s k (suc n) = recordAt s k ∷ recordsFrom s (suc k) n
+
+unfoldable pub contentsRefusals : ℕ → List ℕ → List Entry → List Condition
+contentsRefusals p s out = albumRefusals p s ++ (Misfit given-when not (eqb (length out) maxLists) ∷ [])
+
+abbrev pub filled : Outcome → (new old : List Entry) → List Entry
+filled Done new old = new
+filled (Refused why) new old = old

@@ -1,0 +1,7 @@
+pub mod Judged
+pub mod Loose
+pub mod Passed
+pub mod Places
+pub mod Reading
+pub mod Whole
+pub mod Written

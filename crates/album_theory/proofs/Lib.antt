@@ -1,0 +1,4 @@
+pub mod Defined
+pub mod Ended
+pub mod Folds
+pub mod Greatest

@@ -1,0 +1,4 @@
+pub mod Albums
+pub mod Greatest
+pub mod Defined
+pub mod Folds

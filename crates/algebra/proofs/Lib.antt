@@ -1,0 +1,17 @@
+pub mod Choose
+pub mod CommonDivisor
+pub mod Degree
+pub mod Derivative
+pub mod Division
+pub mod Euclid
+pub mod Evaluation
+pub mod Homogenise
+pub mod Monic
+pub mod OneMinusT
+pub mod Polynomial
+pub mod Prime
+pub mod PrimeField
+pub mod Rounds
+pub mod Series
+pub mod Substitute
+pub mod Sum

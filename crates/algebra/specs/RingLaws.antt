@@ -1,0 +1,222 @@
+-- Laws: Commutative rings and fields.
+-- Assumes nothing.
+use mathlib.Core.Path.{_≡_, refl, sym, _∙_, ap}
+use Prim.Native.Nat as ℕ·
+use Prim.Native.Nat.{ℕ}
+use native.Mathlib.Nat as N
+use native.Mathlib.Numerals.{add-one}
+use Rattle.algebra.specs.Ring.{CommRing, pow, IsField}
+unfoldable pub use Rattle.algebra.specs.Ring.{pow}
+
+module _ (R : CommRing) where
+  open CommRing R using (Carrier, zero, one, neg, add as _+_, mul as _*_)
+
+  infixl 65 _+_
+  infixl 70 _*_
+  pub add-assoc : (a b c : Carrier) → a + b + c ≡ a + (b + c)
+  add-assoc = R .add-assoc
+
+  pub add-comm : (a b : Carrier) → a + b ≡ b + a
+  add-comm = R .add-comm
+
+  pub add-zero : (a : Carrier) → a + zero ≡ a
+  add-zero = R .add-zero
+
+  pub add-neg : (a : Carrier) → a + neg a ≡ zero
+  add-neg = R .add-neg
+
+  pub mul-assoc : (a b c : Carrier) → a * b * c ≡ a * (b * c)
+  mul-assoc = R .mul-assoc
+
+  pub mul-comm : (a b : Carrier) → a * b ≡ b * a
+  mul-comm = R .mul-comm
+
+  pub mul-one : (a : Carrier) → a * one ≡ a
+  mul-one = R .mul-one
+
+  pub mul-add : (a b c : Carrier) → a * (b + c) ≡ a * b + a * c
+  mul-add = R .mul-add
+
+  pub zero-add : (a : Carrier) → zero + a ≡ a
+  zero-add a = add-comm zero a ∙ add-zero a
+
+  pub add-left-comm : (a b c : Carrier) → a + (b + c) ≡ b + (a + c)
+  add-left-comm a b c = sym (add-assoc a b c) ∙ ap (λ x. x + c) (add-comm a b) ∙ add-assoc b a c
+
+  pub mul-left-comm : (a b c : Carrier) → a * (b * c) ≡ b * (a * c)
+  mul-left-comm a b c = sym (mul-assoc a b c) ∙ ap (λ x. x * c) (mul-comm a b) ∙ mul-assoc b a c
+
+  pub add-mul : (a b c : Carrier) → (a + b) * c ≡ a * c + b * c
+  add-mul a b c = simp (mul-comm, mul-add)
+
+  pub one-mul : (a : Carrier) → one * a ≡ a
+  one-mul a = mul-comm one a ∙ mul-one a
+
+  pub add-left-cancel : (a b c : Carrier) → a + b ≡ a + c → b ≡ c
+  add-left-cancel a b c h = sym (go b) ∙ ap (λ x. neg a + x) h ∙ go c
+    where
+      go : (x : Carrier) → neg a + (a + x) ≡ x
+      go x = sym (add-assoc (neg a) a x) ∙ ap (λ y. y + x) (add-comm (neg a) a ∙ add-neg a) ∙ zero-add x
+
+  pub mul-zero : (a : Carrier) → a * zero ≡ zero
+  mul-zero a =
+      add-left-cancel (a * zero) (a * zero) zero
+      (sym (mul-add a zero zero) ∙ ap (λ x. a * x) (add-zero zero) ∙ sym (add-zero (a * zero)))
+
+  pub zero-mul : (a : Carrier) → zero * a ≡ zero
+  zero-mul a = mul-comm zero a ∙ mul-zero a
+
+  pub neg-unique : (a b : Carrier) → a + b ≡ zero → b ≡ neg a
+  neg-unique a b h = add-left-cancel a b (neg a) (h ∙ sym (add-neg a))
+
+  pub neg-add-self : (a : Carrier) → neg a + a ≡ zero
+  neg-add-self a = add-comm (neg a) a ∙ add-neg a
+
+  pub neg-neg : (a : Carrier) → neg (neg a) ≡ a
+  neg-neg a = sym (neg-unique (neg a) a (neg-add-self a))
+
+  pub neg-zero : neg zero ≡ zero
+  neg-zero = sym (neg-unique zero zero (add-zero zero))
+
+  pub neg-add : (a b : Carrier) → neg (a + b) ≡ neg a + neg b
+  neg-add a b =
+      sym
+      (neg-unique (a + b) (neg a + neg b)
+      (add-assoc a b (neg a + neg b)
+      ∙ ap (λ x. a + x) (add-left-comm b (neg a) (neg b) ∙ ap (λ x. neg a + x) (add-neg b) ∙ add-zero (neg a)) ∙ add-neg a))
+
+  pub mul-neg : (a b : Carrier) → a * neg b ≡ neg (a * b)
+  mul-neg a b = neg-unique (a * b) (a * neg b) (sym (mul-add a b (neg b)) ∙ ap (λ x. a * x) (add-neg b) ∙ mul-zero a)
+
+  pub neg-mul : (a b : Carrier) → neg a * b ≡ neg (a * b)
+  neg-mul a b = mul-comm (neg a) b ∙ mul-neg b a ∙ ap neg (mul-comm b a)
+
+  pub add-neg-cancel : (a b : Carrier) → a + (neg a + b) ≡ b
+  add-neg-cancel a b = sym (add-assoc a (neg a) b) ∙ ap (λ x. x + b) (add-neg a) ∙ zero-add b
+
+  pub neg-add-cancel : (a b : Carrier) → neg a + (a + b) ≡ b
+  neg-add-cancel a b = sym (add-assoc (neg a) a b) ∙ ap (λ x. x + b) (neg-add-self a) ∙ zero-add b
+
+  pub eq-of-sub : (a b : Carrier) → a + neg b ≡ zero → a ≡ b
+  eq-of-sub a b h = sym (neg-neg a) ∙ sym (ap neg (neg-unique a (neg b) h)) ∙ neg-neg b
+
+  pub sub-of-eq : (a b : Carrier) → a ≡ b → a + neg b ≡ zero
+  sub-of-eq a b h = ap (λ x. x + neg b) h ∙ add-neg b
+
+  pub add-right-cancel : (a b c : Carrier) → a + c ≡ b + c → a ≡ b
+  add-right-cancel a b c h = add-left-cancel c a b (add-comm c a ∙ h ∙ add-comm b c)
+
+  pub move : (a b c : Carrier) → a + b ≡ c → a ≡ c + neg b
+  move a b c h = add-right-cancel a (c + neg b) b (h ∙ sym (add-assoc c (neg b) b ∙ ap (λ x. c + x) (neg-add-self b) ∙ add-zero c))
+
+  -- a or -a, one to three terms, then the other: with more behind it (m, n) or at the end (e, f)
+  pub cancel2m : (a b1 c : Carrier) → a + (b1 + (neg a + c)) ≡ b1 + c
+  cancel2m a b1 c = add-left-comm (a) b1 (neg a + c) ∙ ap (λ z. b1 + z) (add-neg-cancel a c)
+
+  pub cancel2e : (a b1 : Carrier) → a + (b1 + neg a) ≡ b1
+  cancel2e a b1 = add-left-comm (a) b1 (neg a) ∙ ap (λ z. b1 + z) (add-neg a) ∙ add-zero b1
+
+  pub cancel3m : (a b1 b2 c : Carrier) → a + (b1 + (b2 + (neg a + c))) ≡ b1 + (b2 + c)
+  cancel3m a b1 b2 c = add-left-comm (a) b1 (b2 + (neg a + c)) ∙ ap (λ z. b1 + z) (cancel2m a b2 c)
+
+  pub cancel3e : (a b1 b2 : Carrier) → a + (b1 + (b2 + neg a)) ≡ b1 + b2
+  cancel3e a b1 b2 = add-left-comm (a) b1 (b2 + neg a) ∙ ap (λ z. b1 + z) (cancel2e a b2)
+
+  pub cancel4m : (a b1 b2 b3 c : Carrier) → a + (b1 + (b2 + (b3 + (neg a + c)))) ≡ b1 + (b2 + (b3 + c))
+  cancel4m a b1 b2 b3 c = add-left-comm (a) b1 (b2 + (b3 + (neg a + c))) ∙ ap (λ z. b1 + z) (cancel3m a b2 b3 c)
+
+  pub cancel4e : (a b1 b2 b3 : Carrier) → a + (b1 + (b2 + (b3 + neg a))) ≡ b1 + (b2 + b3)
+  cancel4e a b1 b2 b3 = add-left-comm (a) b1 (b2 + (b3 + neg a)) ∙ ap (λ z. b1 + z) (cancel3e a b2 b3)
+
+  pub cancel2n : (a b1 c : Carrier) → neg a + (b1 + (a + c)) ≡ b1 + c
+  cancel2n a b1 c = add-left-comm (neg a) b1 (a + c) ∙ ap (λ z. b1 + z) (neg-add-cancel a c)
+
+  pub cancel2f : (a b1 : Carrier) → neg a + (b1 + a) ≡ b1
+  cancel2f a b1 = add-left-comm (neg a) b1 (a) ∙ ap (λ z. b1 + z) (neg-add-self a) ∙ add-zero b1
+
+  pub cancel3n : (a b1 b2 c : Carrier) → neg a + (b1 + (b2 + (a + c))) ≡ b1 + (b2 + c)
+  cancel3n a b1 b2 c = add-left-comm (neg a) b1 (b2 + (a + c)) ∙ ap (λ z. b1 + z) (cancel2n a b2 c)
+
+  pub cancel3f : (a b1 b2 : Carrier) → neg a + (b1 + (b2 + a)) ≡ b1 + b2
+  cancel3f a b1 b2 = add-left-comm (neg a) b1 (b2 + a) ∙ ap (λ z. b1 + z) (cancel2f a b2)
+
+  pub cancel4n : (a b1 b2 b3 c : Carrier) → neg a + (b1 + (b2 + (b3 + (a + c)))) ≡ b1 + (b2 + (b3 + c))
+  cancel4n a b1 b2 b3 c = add-left-comm (neg a) b1 (b2 + (b3 + (a + c))) ∙ ap (λ z. b1 + z) (cancel3n a b2 b3 c)
+
+  pub cancel4f : (a b1 b2 b3 : Carrier) → neg a + (b1 + (b2 + (b3 + a))) ≡ b1 + (b2 + b3)
+  cancel4f a b1 b2 b3 = add-left-comm (neg a) b1 (b2 + (b3 + a)) ∙ ap (λ z. b1 + z) (cancel3f a b2 b3)
+
+  pub ruleset CANCEL = (
+    cancel2m,
+    cancel2e,
+    cancel3m,
+    cancel3e,
+    cancel4m,
+    cancel4e,
+    cancel2n,
+    cancel2f,
+    cancel3n,
+    cancel3f,
+    cancel4n,
+    cancel4f,
+  )
+
+  pub ruleset AC = (add-assoc, add-comm, add-left-comm, mul-assoc, mul-comm, mul-left-comm)
+
+  pub ruleset RING = (
+    AC,
+    mul-add,
+    add-mul,
+    mul-one,
+    one-mul,
+    mul-zero,
+    zero-mul,
+    add-zero,
+    zero-add,
+    neg-neg,
+    neg-zero,
+    neg-add,
+    mul-neg,
+    neg-mul,
+    add-neg,
+    neg-add-self,
+    add-neg-cancel,
+    neg-add-cancel,
+    CANCEL,
+  )
+
+  pub pow-zero : (a : Carrier) → pow R a 0 ≡ one
+  unfolding pow
+  pow-zero a = refl
+
+  pub pow-suc : (a : Carrier) (n : ℕ) → pow R a (ℕ.suc n) ≡ a * pow R a n
+  unfolding pow
+  pow-suc a n = refl
+
+  pub pow-add : (a : Carrier) (n m : ℕ) → pow R a (ℕ·._+_ n m) ≡ pow R a n * pow R a m
+  pow-add a ℕ.zero m = ap (pow R a) (N.zero-add m) ∙ sym (rw pow-zero (one-mul (pow R a m)))
+  pow-add a (ℕ.suc n) m =
+      ap (pow R a) (N.suc-add n m) ∙ pow-suc a (ℕ·._+_ n m) ∙ ap (λ x. a * x) (pow-add a n m)
+      ∙ rw (pow-suc a n) (sym (mul-assoc a (pow R a n) (pow R a m)))
+
+  pub pow-next : (a : Carrier) (n : ℕ) → pow R a n * a ≡ pow R a (ℕ·._+_ n 1)
+  pow-next a n = mul-comm (pow R a n) a ∙ sym (pow-suc a n) ∙ ap (pow R a) (sym (add-one n))
+
+  pub pow-mul : (a : Carrier) (n m : ℕ) → pow R (pow R a n) m ≡ pow R a (ℕ·._*_ n m)
+  pow-mul a n ℕ.zero = pow-zero (pow R a n) ∙ sym (ap (pow R a) (N.mul-zero n) ∙ pow-zero a)
+  pow-mul a n (ℕ.suc m) =
+      pow-suc (pow R a n) m ∙ ap (λ x. pow R a n * x) (pow-mul a n m) ∙ sym (pow-add a n (ℕ·._*_ n m))
+      ∙ ap (pow R a) (N.add-comm n (ℕ·._*_ n m) ∙ sym (N.mul-suc n m))
+
+module _ (Rg : CommRing) (K : IsField Rg) where
+  open CommRing Rg using (Carrier, zero, mul as _*_)
+
+  infixl 70 _*_
+  pub mul-left-cancel : (a b c : Carrier) → ¬ (a ≡ zero) → a * b ≡ a * c → b ≡ c
+  mul-left-cancel a b c n h = sym (go b) ∙ ap (λ x. K .inv a * x) h ∙ go c
+    where
+      go : (x : Carrier) → K .inv a * (a * x) ≡ x
+      go x = sym (mul-assoc Rg (K .inv a) a x) ∙ ap (λ y. y * x) (mul-comm Rg (K .inv a) a ∙ K .mul-inv a n) ∙ one-mul Rg x
+
+  pub zero-of-mul : (a b : Carrier) → ¬ (a ≡ zero) → a * b ≡ zero → b ≡ zero
+  zero-of-mul a b na h = mul-left-cancel a b zero na (h ∙ sym (mul-zero Rg a))

@@ -1,0 +1,356 @@
+// Product, division and GCD of two lists for a C host: lists and results are bytes, two to a word, low byte first. Each call returns the
+// refusal's number, 0 when it completes.
+ghost use mathlib.Core.Path.{_≡_};
+ghost use mathlib.Core.Bool.{false};
+ghost use mathlib.Core.List.{[], _∷_};
+ghost use Prim.Native.Nat.{_+_, _*_, _/_, _%_, _<_};
+ghost use lib.ListN.{length};
+ghost use Rattle.field.specs.Fields.{modulus, fieldAt, longest, p, F65521};
+ghost use Rattle.refusal.specs.Limits.{maxWords};
+ghost use Rattle.refusal.specs.Refusal.{outcomeNumber, written};
+ghost use Rattle.refusal.specs.Lowest.{lowest};
+ghost use Rattle.lists.specs.Operations as of;
+ghost use Rattle.euclid_theory.specs.Division.{quotientOf, remainderOf};
+ghost use Rattle.euclid_theory.specs.Gcd.{gcdOf};
+ghost use Rattle.lists.specs.Padded.{padded};
+ghost use Rattle.list_gcd.specs.Calls.{gcdValues};
+ghost use Rattle.lists.specs.Bytes.{wordCount, wordsOf, bytesOf};
+ghost use Rattle.bernstein.specs.Calls.{productRows, divisionRows, gcdRows, productRowsOver, divisionRowsOver, gcdRowsOver};
+ghost use Rattle.bernstein.specs.Internal.{badList, roomOf, gcdRoom};
+use list_gcd::Gcd;
+use list_gcd::Rounds;
+use lists::NaiveDegree;
+use lists::Power;
+use refusal::Outcome;
+use refusal::Refusal;
+
+// What a call returns that completes.
+const COMPLETED: u8 = 0;
+
+// The bytes of the answer of a GCD: three words.
+const ANSWER_BYTES: usize = 6;
+
+// The product of f and g.
+#[no_mangle]
+pub extern "C" fn bernstein_product(f: &[u8], g: &[u8], out: &mut [u8]) -> u8
+    ensures answer { λ r. ⌜ r ≡ outcomeNumber (lowest (productRows p (now (f .entry)) (now (g .entry)) (now (out .entry)))) ⌝ }
+    ensures writes { λ _. ⌜ now (out .exit) ≡ written (lowest (productRows p (now (f .entry)) (now (g .entry)) (now (out .entry)))) (bytesOf (of.product F65521 (wordsOf (now (f .entry))) (wordsOf (now (g .entry))))) (now (out .entry)) ⌝ }
+{
+    product_over(0, f, g, out)
+}
+
+// g divided by f: the quotient goes to q, the remainder to r.
+#[no_mangle]
+pub extern "C" fn bernstein_division(g: &[u8], f: &[u8], q: &mut [u8], r: &mut [u8]) -> u8
+    ensures answer { λ a. ⌜ a ≡ outcomeNumber (lowest (divisionRows p (now (g .entry)) (now (f .entry)) (now (q .entry)) (now (r .entry)))) ⌝ }
+    ensures quotient { λ _. ⌜ now (q .exit) ≡ written (lowest (divisionRows p (now (g .entry)) (now (f .entry)) (now (q .entry)) (now (r .entry)))) (bytesOf (quotientOf F65521 (wordsOf (now (g .entry))) (wordsOf (now (f .entry))))) (now (q .entry)) ⌝ }
+    ensures remainder { λ _. ⌜ now (r .exit) ≡ written (lowest (divisionRows p (now (g .entry)) (now (f .entry)) (now (q .entry)) (now (r .entry)))) (bytesOf (remainderOf F65521 (wordsOf (now (g .entry))) (wordsOf (now (f .entry))))) (now (r .entry)) ⌝ }
+{
+    divide_over(0, g, f, q, r)
+}
+
+// The GCD of f and g: h, as many words as the longest list has; the answer, three words: w, c and rounds.
+#[no_mangle]
+pub extern "C" fn bernstein_gcd(f: &[u8], g: &[u8], h: &mut [u8], answer: &mut [u8]) -> u8
+    ensures answer { λ r. ⌜ r ≡ outcomeNumber (lowest (gcdRows p (now (f .entry)) (now (g .entry)) (now (h .entry)) (now (answer .entry)))) ⌝ }
+    ensures writes { λ _. ⌜ now (h .exit) ≡ written (lowest (gcdRows p (now (f .entry)) (now (g .entry)) (now (h .entry)) (now (answer .entry)))) (bytesOf (padded maxWords (gcdOf F65521 (wordsOf (now (f .entry))) (wordsOf (now (g .entry)))))) (now (h .entry)) ⌝ }
+    ensures values { λ _. ⌜ now (answer .exit) ≡ written (lowest (gcdRows p (now (f .entry)) (now (g .entry)) (now (h .entry)) (now (answer .entry)))) (bytesOf (gcdValues F65521 (wordsOf (now (f .entry))) (wordsOf (now (g .entry))))) (now (answer .entry)) ⌝ }
+{
+    gcd_over(0, f, g, h, answer)
+}
+
+// The same over a field.
+fn product_over(field: u8, f: &[u8], g: &[u8], out: &mut [u8]) -> u8
+    ensures answer { λ r. ⌜ r ≡ outcomeNumber (lowest (productRowsOver (modulus field) (longest field) (now (f .entry)) (now (g .entry)) (now (out .entry)))) ⌝ }
+    ensures writes { λ _. ⌜ now (out .exit) ≡ written (lowest (productRowsOver (modulus field) (longest field) (now (f .entry)) (now (g .entry)) (now (out .entry)))) (bytesOf (of.product (fieldAt field) (wordsOf (now (f .entry))) (wordsOf (now (g .entry))))) (now (out .entry)) ⌝ }
+{
+    if bad_list(field, f) {
+        return refusal::number_of(Refusal::Length);
+    }
+    if bad_list(field, g) {
+        return refusal::number_of(Refusal::Length);
+    }
+    product_lists(field, f, g, out)
+}
+
+// The same over a field.
+fn divide_over(field: u8, g: &[u8], f: &[u8], q: &mut [u8], r: &mut [u8]) -> u8
+    ensures answer { λ a. ⌜ a ≡ outcomeNumber (lowest (divisionRowsOver (modulus field) (longest field) (now (g .entry)) (now (f .entry)) (now (q .entry)) (now (r .entry)))) ⌝ }
+    ensures quotient { λ _. ⌜ now (q .exit) ≡ written (lowest (divisionRowsOver (modulus field) (longest field) (now (g .entry)) (now (f .entry)) (now (q .entry)) (now (r .entry)))) (bytesOf (quotientOf (fieldAt field) (wordsOf (now (g .entry))) (wordsOf (now (f .entry))))) (now (q .entry)) ⌝ }
+    ensures remainder { λ _. ⌜ now (r .exit) ≡ written (lowest (divisionRowsOver (modulus field) (longest field) (now (g .entry)) (now (f .entry)) (now (q .entry)) (now (r .entry)))) (bytesOf (remainderOf (fieldAt field) (wordsOf (now (g .entry))) (wordsOf (now (f .entry))))) (now (r .entry)) ⌝ }
+{
+    if bad_list(field, g) {
+        return refusal::number_of(Refusal::Length);
+    }
+    if bad_list(field, f) {
+        return refusal::number_of(Refusal::Length);
+    }
+    divide_lists(field, g, f, q, r)
+}
+
+// The same over a field.
+fn gcd_over(field: u8, f: &[u8], g: &[u8], h: &mut [u8], answer: &mut [u8]) -> u8
+    ensures answer { λ r. ⌜ r ≡ outcomeNumber (lowest (gcdRowsOver (modulus field) (longest field) (now (f .entry)) (now (g .entry)) (now (h .entry)) (now (answer .entry)))) ⌝ }
+    ensures writes { λ _. ⌜ now (h .exit) ≡ written (lowest (gcdRowsOver (modulus field) (longest field) (now (f .entry)) (now (g .entry)) (now (h .entry)) (now (answer .entry)))) (bytesOf (padded (longest field) (gcdOf (fieldAt field) (wordsOf (now (f .entry))) (wordsOf (now (g .entry)))))) (now (h .entry)) ⌝ }
+    ensures values { λ _. ⌜ now (answer .exit) ≡ written (lowest (gcdRowsOver (modulus field) (longest field) (now (f .entry)) (now (g .entry)) (now (h .entry)) (now (answer .entry)))) (bytesOf (gcdValues (fieldAt field) (wordsOf (now (f .entry))) (wordsOf (now (g .entry))))) (now (answer .entry)) ⌝ }
+{
+    if bad_list(field, f) {
+        return refusal::number_of(Refusal::Length);
+    }
+    if bad_list(field, g) {
+        return refusal::number_of(Refusal::Length);
+    }
+    gcd_lists(field, f, g, h, answer)
+}
+
+// Whether some bytes are no list: odd, no words, or more words than a list may have.
+fn bad_list(field: u8, list: &[u8]) -> bool
+    ensures { λ r. ⌜ r ≡ badList (longest field) (now (list .entry)) ⌝ }
+{
+    if list.len() % 2 == 1 {
+        return true;
+    }
+    if list.len() / 2 == 0 {
+        return true;
+    }
+    field::longest_of(field) < list.len() / 2
+}
+
+// The number of words of a result slice, or `never`, a number that does not fit, where it is no result: odd, or more words than a list may
+// have.
+fn room(field: u8, result: &[u8], never: usize) -> usize
+    ensures { λ r. ⌜ r ≡ roomOf (longest field) never (now (result .entry)) ⌝ }
+{
+    if result.len() % 2 == 1 {
+        return never;
+    }
+    if field::longest_of(field) < result.len() / 2 {
+        return never;
+    }
+    result.len() / 2
+}
+
+// The words handed to the GCD for h: those of the longest list, or 0 where h or the answer does not fit.
+fn gcd_room(field: u8, h: &[u8], answer: &[u8]) -> usize
+    ensures { λ r. ⌜ r ≡ gcdRoom (longest field) (now (h .entry)) (now (answer .entry)) ⌝ }
+{
+    let n = field::longest_of(field);
+    if h.len() != 2 * n {
+        return 0;
+    }
+    if answer.len() != ANSWER_BYTES {
+        return 0;
+    }
+    n
+}
+
+// A word from its two bytes.
+fn word(low: u8, high: u8) -> u16
+    ensures { λ r. ⌜ r ≡ low + 256 * high ⌝ }
+{
+    low as u16 + 256 * (high as u16)
+}
+
+// The low byte of a word.
+fn low(word: u16) -> u8
+    ensures { λ r. ⌜ r ≡ word % 256 ⌝ }
+{
+    (word % 256) as u8
+}
+
+// The high byte of a word.
+fn high(word: u16) -> u8
+    ensures { λ r. ⌜ r ≡ word / 256 ⌝ }
+{
+    (word / 256) as u8
+}
+
+// The words of some bytes.
+fn read_words(bytes: &[u8], words: &mut [u16])
+    requires { ⌜ length (now words) ≡ wordCount (now bytes) ⌝ }
+    ensures { λ _. ⌜ now (words .exit) ≡ wordsOf (now (bytes .entry)) ⌝ }
+{
+    let mut k = 0;
+    while k < words.len() {
+        words[k] = word(bytes[2 * k], bytes[2 * k + 1]);
+        k += 1;
+    }
+}
+
+// The bytes of some words.
+fn write_words(words: &[u16], bytes: &mut [u8])
+    requires { ⌜ length (now bytes) ≡ 2 * length (now words) ⌝ }
+    ensures { λ _. ⌜ now (bytes .exit) ≡ bytesOf (now (words .entry)) ⌝ }
+{
+    let mut k = 0;
+    while k < words.len() {
+        bytes[2 * k] = low(words[k]);
+        bytes[2 * k + 1] = high(words[k]);
+        k += 1;
+    }
+}
+
+// The product by way of words: the lists in a and b, the result in c.
+fn product_in(
+    field: u8,
+    f: &[u8],
+    g: &[u8],
+    a: &mut [u16],
+    b: &mut [u16],
+    c: &mut [u16],
+    out: &mut [u8],
+) -> u8
+    requires { ⌜ (badList (longest field) (now f) ≡ false) × (badList (longest field) (now g) ≡ false) ⌝ }
+    requires { ⌜ (length (now a) ≡ wordCount (now f)) × (length (now b) ≡ wordCount (now g)) × (length (now c) ≡ roomOf (longest field) 0 (now out)) ⌝ }
+    ensures { λ r. ⌜ r ≡ outcomeNumber (lowest (productRowsOver (modulus field) (longest field) (now (f .entry)) (now (g .entry)) (now (out .entry)))) ⌝ }
+    ensures { λ _. ⌜ now (out .exit) ≡ written (lowest (productRowsOver (modulus field) (longest field) (now (f .entry)) (now (g .entry)) (now (out .entry)))) (bytesOf (of.product (fieldAt field) (wordsOf (now (f .entry))) (wordsOf (now (g .entry))))) (now (out .entry)) ⌝ }
+{
+    read_words(f, a);
+    read_words(g, b);
+    let answer = list_product::product_over(field, a, b, c);
+    match answer {
+        Outcome::Done => {
+            write_words(c, out);
+            COMPLETED
+        }
+        Outcome::Refused(why) => refusal::number_of(why),
+    }
+}
+
+// The product of two lists that pass.
+fn product_lists(field: u8, f: &[u8], g: &[u8], out: &mut [u8]) -> u8
+    requires { ⌜ (badList (longest field) (now f) ≡ false) × (badList (longest field) (now g) ≡ false) ⌝ }
+    ensures { λ r. ⌜ r ≡ outcomeNumber (lowest (productRowsOver (modulus field) (longest field) (now (f .entry)) (now (g .entry)) (now (out .entry)))) ⌝ }
+    ensures { λ _. ⌜ now (out .exit) ≡ written (lowest (productRowsOver (modulus field) (longest field) (now (f .entry)) (now (g .entry)) (now (out .entry)))) (bytesOf (of.product (fieldAt field) (wordsOf (now (f .entry))) (wordsOf (now (g .entry))))) (now (out .entry)) ⌝ }
+{
+    let n = f.len() / 2;
+    let m = g.len() / 2;
+    let k = room(field, out, 0);
+    let mut a = [0u16; refusal::MAX_WORDS];
+    let mut b = [0u16; refusal::MAX_WORDS];
+    let mut c = [0u16; refusal::MAX_WORDS];
+    product_in(field, f, g, &mut a[..n], &mut b[..m], &mut c[..k], out)
+}
+
+// The division by way of words: g and f in a and b, the quotient in c, the remainder in d.
+fn divide_in(
+    field: u8,
+    g: &[u8],
+    f: &[u8],
+    a: &mut [u16],
+    b: &mut [u16],
+    c: &mut [u16],
+    d: &mut [u16],
+    q: &mut [u8],
+    r: &mut [u8],
+) -> u8
+    requires { ⌜ (badList (longest field) (now g) ≡ false) × (badList (longest field) (now f) ≡ false) ⌝ }
+    requires { ⌜ (length (now a) ≡ wordCount (now g)) × (length (now b) ≡ wordCount (now f)) × (length (now c) ≡ roomOf (longest field) 0 (now q)) × (length (now d) ≡ roomOf (longest field) (longest field) (now r)) ⌝ }
+    ensures { λ a. ⌜ a ≡ outcomeNumber (lowest (divisionRowsOver (modulus field) (longest field) (now (g .entry)) (now (f .entry)) (now (q .entry)) (now (r .entry)))) ⌝ }
+    ensures { λ _. ⌜ now (q .exit) ≡ written (lowest (divisionRowsOver (modulus field) (longest field) (now (g .entry)) (now (f .entry)) (now (q .entry)) (now (r .entry)))) (bytesOf (quotientOf (fieldAt field) (wordsOf (now (g .entry))) (wordsOf (now (f .entry))))) (now (q .entry)) ⌝ }
+    ensures { λ _. ⌜ now (r .exit) ≡ written (lowest (divisionRowsOver (modulus field) (longest field) (now (g .entry)) (now (f .entry)) (now (q .entry)) (now (r .entry)))) (bytesOf (remainderOf (fieldAt field) (wordsOf (now (g .entry))) (wordsOf (now (f .entry))))) (now (r .entry)) ⌝ }
+{
+    read_words(g, a);
+    read_words(f, b);
+    let answer = list_division::divide_over(field, a, b, c, d);
+    match answer {
+        Outcome::Done => {
+            write_words(c, q);
+            write_words(d, r);
+            COMPLETED
+        }
+        Outcome::Refused(why) => refusal::number_of(why),
+    }
+}
+
+// g divided by f, two lists that pass.
+fn divide_lists(field: u8, g: &[u8], f: &[u8], q: &mut [u8], r: &mut [u8]) -> u8
+    requires { ⌜ (badList (longest field) (now g) ≡ false) × (badList (longest field) (now f) ≡ false) ⌝ }
+    ensures { λ a. ⌜ a ≡ outcomeNumber (lowest (divisionRowsOver (modulus field) (longest field) (now (g .entry)) (now (f .entry)) (now (q .entry)) (now (r .entry)))) ⌝ }
+    ensures { λ _. ⌜ now (q .exit) ≡ written (lowest (divisionRowsOver (modulus field) (longest field) (now (g .entry)) (now (f .entry)) (now (q .entry)) (now (r .entry)))) (bytesOf (quotientOf (fieldAt field) (wordsOf (now (g .entry))) (wordsOf (now (f .entry))))) (now (q .entry)) ⌝ }
+    ensures { λ _. ⌜ now (r .exit) ≡ written (lowest (divisionRowsOver (modulus field) (longest field) (now (g .entry)) (now (f .entry)) (now (q .entry)) (now (r .entry)))) (bytesOf (remainderOf (fieldAt field) (wordsOf (now (g .entry))) (wordsOf (now (f .entry))))) (now (r .entry)) ⌝ }
+{
+    let n = g.len() / 2;
+    let m = f.len() / 2;
+    let k = room(field, q, 0);
+    let l = room(field, r, field::longest_of(field));
+    let mut a = [0u16; refusal::MAX_WORDS];
+    let mut b = [0u16; refusal::MAX_WORDS];
+    let mut c = [0u16; refusal::MAX_WORDS];
+    let mut d = [0u16; refusal::MAX_WORDS];
+    divide_in(
+        field,
+        g,
+        f,
+        &mut a[..n],
+        &mut b[..m],
+        &mut c[..k],
+        &mut d[..l],
+        q,
+        r,
+    )
+}
+
+// The three numbers of an answer as words.
+fn write_three(w: NaiveDegree, c: Power, rounds: Rounds, bytes: &mut [u8])
+    requires { ⌜ (w .0 < 65536) × (c .0 < 65536) × (rounds .0 < 65536) × (length (now bytes) ≡ 6) ⌝ }
+    ensures { λ _. ⌜ now (bytes .exit) ≡ bytesOf (w .0 ∷ c .0 ∷ rounds .0 ∷ []) ⌝ }
+{
+    let three = [w.0 as u16, c.0 as u16, rounds.0 as u16];
+    write_words(&three, bytes);
+}
+
+// The GCD by way of words: the lists in a and b, h in c.
+fn gcd_in(
+    field: u8,
+    f: &[u8],
+    g: &[u8],
+    a: &mut [u16],
+    b: &mut [u16],
+    c: &mut [u16],
+    h: &mut [u8],
+    answer: &mut [u8],
+) -> u8
+    requires { ⌜ (badList (longest field) (now f) ≡ false) × (badList (longest field) (now g) ≡ false) ⌝ }
+    requires { ⌜ (length (now a) ≡ wordCount (now f)) × (length (now b) ≡ wordCount (now g)) × (length (now c) ≡ gcdRoom (longest field) (now h) (now answer)) ⌝ }
+    ensures { λ r. ⌜ r ≡ outcomeNumber (lowest (gcdRowsOver (modulus field) (longest field) (now (f .entry)) (now (g .entry)) (now (h .entry)) (now (answer .entry)))) ⌝ }
+    ensures { λ _. ⌜ now (h .exit) ≡ written (lowest (gcdRowsOver (modulus field) (longest field) (now (f .entry)) (now (g .entry)) (now (h .entry)) (now (answer .entry)))) (bytesOf (padded (longest field) (gcdOf (fieldAt field) (wordsOf (now (f .entry))) (wordsOf (now (g .entry)))))) (now (h .entry)) ⌝ }
+    ensures { λ _. ⌜ now (answer .exit) ≡ written (lowest (gcdRowsOver (modulus field) (longest field) (now (f .entry)) (now (g .entry)) (now (h .entry)) (now (answer .entry)))) (bytesOf (gcdValues (fieldAt field) (wordsOf (now (f .entry))) (wordsOf (now (g .entry))))) (now (answer .entry)) ⌝ }
+{
+    read_words(f, a);
+    read_words(g, b);
+    let found = list_gcd::gcd_over(field, a, b, c);
+    match found {
+        Gcd::Done(w, power, rounds) => {
+            write_words(c, h);
+            write_three(w, power, rounds, answer);
+            COMPLETED
+        }
+        Gcd::Refused(why) => refusal::number_of(why),
+    }
+}
+
+// The GCD of two lists that pass.
+fn gcd_lists(field: u8, f: &[u8], g: &[u8], h: &mut [u8], answer: &mut [u8]) -> u8
+    requires { ⌜ (badList (longest field) (now f) ≡ false) × (badList (longest field) (now g) ≡ false) ⌝ }
+    ensures { λ r. ⌜ r ≡ outcomeNumber (lowest (gcdRowsOver (modulus field) (longest field) (now (f .entry)) (now (g .entry)) (now (h .entry)) (now (answer .entry)))) ⌝ }
+    ensures { λ _. ⌜ now (h .exit) ≡ written (lowest (gcdRowsOver (modulus field) (longest field) (now (f .entry)) (now (g .entry)) (now (h .entry)) (now (answer .entry)))) (bytesOf (padded (longest field) (gcdOf (fieldAt field) (wordsOf (now (f .entry))) (wordsOf (now (g .entry)))))) (now (h .entry)) ⌝ }
+    ensures { λ _. ⌜ now (answer .exit) ≡ written (lowest (gcdRowsOver (modulus field) (longest field) (now (f .entry)) (now (g .entry)) (now (h .entry)) (now (answer .entry)))) (bytesOf (gcdValues (fieldAt field) (wordsOf (now (f .entry))) (wordsOf (now (g .entry))))) (now (answer .entry)) ⌝ }
+{
+    let n = f.len() / 2;
+    let m = g.len() / 2;
+    let k = gcd_room(field, h, answer);
+    let mut a = [0u16; refusal::MAX_WORDS];
+    let mut b = [0u16; refusal::MAX_WORDS];
+    let mut c = [0u16; refusal::MAX_WORDS];
+    gcd_in(
+        field,
+        f,
+        g,
+        &mut a[..n],
+        &mut b[..m],
+        &mut c[..k],
+        h,
+        answer,
+    )
+}

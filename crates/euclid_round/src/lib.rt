@@ -1,0 +1,113 @@
+// One of Euclid's rounds on words, and the writing of a result. Each function is total: where its input does not fit, nothing is written.
+ghost use mathlib.Core.Path.{_≡_};
+ghost use mathlib.Core.Bool.{cond};
+ghost use mathlib.Core.List.{[], _∷_, _++_};
+ghost use lib.ListN.{drop};
+ghost use Rattle.field.specs.Fields.{modulus, fieldAt};
+ghost use Rattle.euclid_theory.specs.Gcd.{commonPower};
+ghost use Rattle.euclid_round.specs.Round.{roundSteps, roundFits, remaining, quotientWords, multiplied, zeroedFrom, writeFits, writtenWords};
+use lists::Power;
+
+// x becomes the remainder of x by y; the words of the quotient go to q. Their number.
+// The table of inverses saves time; nothing depends on it.
+pub fn round(field: u8, inverses: &[u16], x: &mut [u16], y: &[u16], q: &mut [u16]) -> usize
+    ensures steps { λ r. ⌜ r ≡ cond (roundFits (modulus field) (now (x .entry)) (now (y .entry)) (now (q .entry))) (roundSteps (now (x .entry)) (now (y .entry))) 0 ⌝ }
+    ensures left { λ _. ⌜ now (x .exit) ≡ cond (roundFits (modulus field) (now (x .entry)) (now (y .entry)) (now (q .entry))) (remaining (fieldAt field) (now (x .entry)) (now (y .entry))) (now (x .entry)) ⌝ }
+    ensures quotient { λ _. ⌜ now (q .exit) ≡ cond (roundFits (modulus field) (now (x .entry)) (now (y .entry)) (now (q .entry))) (quotientWords (fieldAt field) (now (x .entry)) (now (y .entry)) ++ drop (roundSteps (now (x .entry)) (now (y .entry))) (now (q .entry))) (now (q .entry)) ⌝ }
+{
+    let nx = lists::significant_words(x);
+    let ny = lists::significant_words(y);
+    if ny == 0 {
+        return 0;
+    }
+    let last = y[ny - 1];
+    if field::modulus_of(field) <= last {
+        return 0;
+    }
+    if nx < ny {
+        return 0;
+    }
+    let k = nx - ny + 1;
+    if q.len() < k {
+        return 0;
+    }
+    let inv = field_inverse::inverse_or_zero(field, inverses, last);
+    word_division::reduce(field, &mut x[..nx], &y[..ny], inv, &mut q[..k]);
+    k
+}
+
+// With the factorials as whole and their inverses as part: the list of `words` words whose scaled form is m times the words of form, and zeros
+// after it.
+pub fn write_list(
+    field: u8,
+    whole: &[u16],
+    part: &[u16],
+    form: &mut [u16],
+    m: u16,
+    words: usize,
+    out: &mut [u16],
+)
+    ensures form { λ _. ⌜ now (form .exit) ≡ cond (writeFits words (now (whole .entry)) (now (part .entry)) (now (form .entry)) (now (out .entry))) (multiplied (modulus field) m (now (form .entry))) (now (form .entry)) ⌝ }
+    ensures writes { λ _. ⌜ now (out .exit) ≡ cond (writeFits words (now (whole .entry)) (now (part .entry)) (now (form .entry)) (now (out .entry))) (writtenWords (modulus field) (now (whole .entry)) (now (part .entry)) words m (now (form .entry)) (now (out .entry))) (now (out .entry)) ⌝ }
+{
+    if form.len() < words {
+        return;
+    }
+    if out.len() < words {
+        return;
+    }
+    if whole.len() < words {
+        return;
+    }
+    if part.len() < words {
+        return;
+    }
+    times_word(field, form, m);
+    word_scaling::weigh(field, form, part, whole, &mut out[..words]);
+    zero_from(out, words);
+}
+
+// The least power among those of f and g that are not zero; 0 where both are.
+pub fn common_power(f: &[u16], g: &[u16]) -> Power
+    ensures { λ r. ⌜ r .0 ≡ commonPower (now (f .entry) ∷ now (g .entry) ∷ []) ⌝ }
+{
+    let nf = lists::significant_words(f);
+    let ng = lists::significant_words(g);
+    if nf == 0 {
+        if ng == 0 {
+            return Power(0);
+        }
+        return lists::power_in(g);
+    }
+    let pf = lists::power_in(f);
+    if ng == 0 {
+        return pf;
+    }
+    let pg = lists::power_in(g);
+    if pf.0 < pg.0 {
+        return pf;
+    }
+    pg
+}
+
+// Each word times m.
+fn times_word(field: u8, x: &mut [u16], m: u16)
+    ensures { λ _. ⌜ now (x .exit) ≡ multiplied (modulus field) m (now (x .entry)) ⌝ }
+{
+    let mut i = 0;
+    while i < x.len() {
+        x[i] = field::mul(field, x[i], m);
+        i += 1;
+    }
+}
+
+// Zeros from word `from` on.
+fn zero_from(out: &mut [u16], from: usize)
+    ensures { λ _. ⌜ now (out .exit) ≡ zeroedFrom from (now (out .entry)) ⌝ }
+{
+    let mut i = from;
+    while i < out.len() {
+        out[i] = 0;
+        i += 1;
+    }
+}

@@ -1,0 +1,5 @@
+pub mod Division
+pub mod Gcd
+pub mod Cofactors
+pub mod Greatest
+pub mod Defined

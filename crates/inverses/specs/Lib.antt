@@ -1,2 +1,0 @@
-pub mod Inverses
-pub mod Workers

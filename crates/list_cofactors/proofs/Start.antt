@@ -1,0 +1,179 @@
+-- The rows that the rounds start from.
+-- Assumes nothing.
+use mathlib.Core.Path.{_≡_, sym, _∙_, ap, subst}
+use mathlib.Core.Bool.{cond}
+use mathlib.Core.List.{List, _++_}
+use Prim.Native.Nat.{ℕ, zero, suc, _+_, _-_, _≤_, _<_}
+use native.Mathlib.Decide.{decLt}
+use native.Mathlib.Omega.{arith}
+use lib.ListN.{getD, length, set, take, drop, length-append, length-drop, length-set, List·getD-eq-default}
+use lib.Seq.{drop-at, take-take, take-add, take-append-add, take-set-le, getD-take, getD-drop, getD-append-add, getD-set-same, getD-set-other, length-take-le}
+use Rattle.algebra.specs.Ring.{CommRing}
+use Rattle.algebra.specs.RingLaws.{RING}
+use Rattle.algebra.proofs.Series.{coeff-0, coeff-1-zero, coeff-1-suc}
+use Rattle.algebra.specs.PrimeField.{PrimeField, positive, residue}
+use Rattle.algebra.proofs.PrimeField.{residue-0, residue-1}
+use Rattle.lists.specs.Lists.{scaled}
+use Rattle.lists.proofs.Extents.{significant-le}
+use Rattle.lists.specs.Words.{Low, ZeroFrom}
+use Rattle.lists.proofs.Words.{zero-later}
+use Rattle.field_tables.specs.Factorials.{Tables}
+use Rattle.word_scaling.specs.Kernels.{weighFits, weighted}
+use Rattle.list_gcd.specs.Internal.{Holds}
+use Rattle.list_gcd.proofs.Buffers.{holds-scaled}
+use Rattle.list_gcd.proofs.Turning.{turning-start}
+use Rattle.euclid_theory.specs.Gcd.{room}
+use Rattle.list_cofactors.specs.Internal.{partX, partS, partT, reach, Started, roundsOn, Carried}
+use Rattle.list_cofactors.proofs.Parts.{length-partX, length-partS}
+
+module _ (F : PrimeField) (n : ℕ) where
+  open CommRing (F .series .ring) using (Carrier as S, zero as 0ˢ, one as 1ˢ, neg as -ˢ_, add as _+ˢ_, mul as _*ˢ_)
+
+  infixl 65 _+ˢ_
+  infixl 70 _*ˢ_
+  infix 80 -ˢ_
+  -- words that stand for 0 and for 1
+  low-zero : (l : List ℕ) → ((k : ℕ) → getD l k 0 ≡ 0) → Low F n l 0ˢ
+  low-zero l h =
+      record {
+        below = λ k. rw (h k) (positive F);
+        at = λ k i. ap (residue F) (h k) ∙ residue-0 F ∙ sym (coeff-0 (F .series) k);
+      }
+
+  low-one : (l : List ℕ) → getD l 0 0 ≡ 1 → ((k : ℕ) → getD l (suc k) 0 ≡ 0) → Low F n l 1ˢ
+  low-one l e h = record { below = small; at = λ k i. at k }
+    where
+      small : (k : ℕ) → getD l k 0 < F .p
+      small zero = rw e (F .prime .big)
+      small (suc k) = rw (h k) (positive F)
+
+      at : (k : ℕ) → residue F (getD l k 0) ≡ F .series .coeff 1ˢ k
+      at zero = ap (residue F) e ∙ residue-1 F ∙ sym (coeff-1-zero (F .series))
+      at (suc k) = ap (residue F) (h k) ∙ residue-0 F ∙ sym (coeff-1-suc (F .series) k)
+
+  -- word k of a part
+  getD-partT : (u : List ℕ) (k : ℕ) → getD (partT n u) k 0 ≡ getD u (n + (n + k)) 0
+  getD-partT u k = getD-drop n (drop n u) k 0 ∙ getD-drop n u (n + k) 0
+
+  getD-partS : (u : List ℕ) (k : ℕ) → k < n → getD (partS n u) k 0 ≡ getD u (n + k) 0
+  getD-partS u k l = getD-take n (drop n u) k 0 l ∙ getD-drop n u k 0
+
+  -- 0 where each word of the row that it takes is 0
+  zero-partS : (u : List ℕ) (k : ℕ) → length u ≡ n + (n + n) → (k < n → getD u (n + k) 0 ≡ 0) → getD (partS n u) k 0 ≡ 0
+  zero-partS u k e h = go (decLt k n)
+    where
+      go : Dec (k < n) → getD (partS n u) k 0 ≡ 0
+      go (yes l) = getD-partS u k l ∙ h l
+      go (no l) = let q = length-partS n u e in List·getD-eq-default (partS n u) 0 (omega arith)
+
+  module _ (some : 0 < n) {u v : List ℕ} {a b : S} (su : Started F n n u a) (sv : Started F n (n + n) v b) where
+    first : n + 0 ≡ n
+    first = omega arith
+
+    -- the words of the cofactors but the 1
+    zero-su : (k : ℕ) → getD (partS n u) (suc k) 0 ≡ 0
+    zero-su k = zero-partS u (suc k) (su .size) (λ l. su .zeros (n + suc k) (omega arith) (λ e. omega arith))
+
+    zero-tu : (k : ℕ) → getD (partT n u) k 0 ≡ 0
+    zero-tu k = getD-partT u k ∙ su .zeros (n + (n + k)) (omega arith) (λ e. omega arith)
+
+    zero-sv : (k : ℕ) → getD (partS n v) k 0 ≡ 0
+    zero-sv k = zero-partS v k (sv .size) (λ l. sv .zeros (n + k) (omega arith) (λ e. omega arith))
+
+    zero-tv : (k : ℕ) → getD (partT n v) (suc k) 0 ≡ 0
+    zero-tv k = getD-partT v (suc k) ∙ sv .zeros (n + (n + suc k)) (omega arith) (λ e. omega arith)
+
+    left-u : Low F n (partS n u) 1ˢ
+    left-u = low-one (partS n u) (getD-partS u 0 some ∙ ap (λ i. getD u i 0) first ∙ su .here) zero-su
+
+    right-v : Low F n (partT n v) 1ˢ
+    right-v = low-one (partT n v) (getD-partT v 0 ∙ ap (λ i. getD v (n + i) 0) first ∙ sv .here) zero-tv
+
+    at-least-1 : 1 ≤ reach F n u v
+    at-least-1 =
+        omega (arith, significant-le (partX n u), significant-le (partX n v), su .holds .buffer .size, sv .holds .buffer .size)
+
+    after-1 : (l : List ℕ) → ((k : ℕ) → getD l (suc k) 0 ≡ 0) → ZeroFrom (reach F n u v) l
+    after-1 l h =
+        zero-later at-least-1 (record { at = λ k b. let e : k ≡ suc (k - 1) = omega arith in ap (λ i. getD l i 0) e ∙ h (k - 1) })
+
+    -- the rows that the loop starts from
+    pub carried-start : Carried F n u v u v 0
+    carried-start =
+        record {
+          size-u = su .size;
+          size-v = sv .size;
+          turning = turning-start F n (partX n u) (partX n v) (su .holds .buffer) (sv .holds .buffer);
+          short-u = record { left = after-1 (partS n u) zero-su; right = record { at = λ k l. zero-tu k } };
+          short-v = record { left = record { at = λ k l. zero-sv k }; right = after-1 (partT n v) zero-tv };
+          left = record { of = 1ˢ; of′ = 0ˢ; low = left-u; low′ = low-zero (partS n v) zero-sv; sum = keep (roundsOn F n u v .byX) (roundsOn F n u v .byY) };
+          right = record { of = 0ˢ; of′ = 1ˢ; low = low-zero (partT n u) zero-tu; low′ = right-v; sum = pass (roundsOn F n u v .byX) (roundsOn F n u v .byY) };
+        }
+      where
+        keep : (x y : S) → x *ˢ 1ˢ +ˢ y *ˢ 0ˢ ≡ x
+        keep x y = simp RING
+
+        pass : (x y : S) → x *ˢ 0ˢ +ˢ y *ˢ 1ˢ ≡ y
+        pass x y = simp RING
+
+  -- the words of a scaled form, written to the front of a row of zeros, and a 1
+  module _ {p : ℕ} (at : F .p ≡ p) (short : n ≤ F .p) (whole part : List ℕ) (t : Tables F n whole part) (one : ℕ) (c z : List ℕ) {out : List ℕ} (few : length c ≤ n) (ez : length z ≡ n + (n + n)) (after : n ≤ one) (room : one < length z)
+      (h : (k : ℕ) → getD z k 0 ≡ 0)
+      (q : out ≡ cond (weighFits c whole part (take (length c) z)) (weighted p whole part (length (take (length c) z)) c) (take (length c) z)) where
+    -- the same in a buffer of n words
+    front-zeros : (k : ℕ) → getD (take n z) k 0 ≡ 0
+    front-zeros k = go (decLt k n)
+      where
+        go : Dec (k < n) → getD (take n z) k 0 ≡ 0
+        go (yes l) = getD-take n z k 0 l ∙ h k
+        go (no l) = let e = length-partX n z ez in List·getD-eq-default (take n z) 0 (omega arith)
+
+    front : Holds F n (out ++ drop (length c) (take n z)) (scaled F c)
+    front =
+        holds-scaled F at n short whole part t c (take n z) few (length-partX n z ez) front-zeros
+        (q ∙ ap (λ l. cond (weighFits c whole part l) (weighted p whole part (length l) c) l) (sym (take-take (length c) n z few)))
+
+    length-out : length out ≡ length c
+    length-out =
+        let e = front .buffer .size in
+        let a = length-append out (drop (length c) (take n z)) in
+        let d = length-drop (length c) (take n z) in
+        let t = length-partX n z ez in
+        omega arith
+
+    length-all : length (out ++ drop (length c) z) ≡ n + (n + n)
+    length-all = length-append out (drop (length c) z) ∙ rw (length-out, length-drop) (omega arith)
+
+    -- the words of the buffer are the part x of the row
+    after-list : drop (length c) (take n z) ≡ take (n - length c) (drop (length c) z)
+    after-list =
+        ap (λ i. drop (length c) (take i z)) cut ∙ ap (drop (length c)) (take-add (length c) (n - length c) z)
+        ∙ drop-at (take (length c) z) _ (length c) (length-take-le (length c) z (omega arith))
+      where
+        cut : n ≡ length c + (n - length c)
+        cut = omega arith
+
+    front-is : partX n (set (out ++ drop (length c) z) one 1) ≡ out ++ drop (length c) (take n z)
+    front-is =
+        take-set-le n (out ++ drop (length c) z) one 1 after ∙ ap (λ i. take i (out ++ drop (length c) z)) cut
+        ∙ take-append-add out (drop (length c) z) (n - length c) ∙ ap (λ l. out ++ l) (sym after-list)
+      where
+        cut : n ≡ length out + (n - length c)
+        cut = omega (arith, length-out)
+
+    behind : (k : ℕ) → n ≤ k → getD (out ++ drop (length c) z) k 0 ≡ 0
+    behind k l =
+        ap (λ i. getD (out ++ drop (length c) z) i 0) split ∙ getD-append-add out (drop (length c) z) (k - length c) 0
+        ∙ getD-drop (length c) z (k - length c) 0 ∙ h _
+      where
+        split : k ≡ length out + (k - length c)
+        split = omega (arith, length-out)
+
+    pub row-started : Started F n one (set (out ++ drop (length c) z) one 1) (scaled F c)
+    row-started =
+        record {
+          size = length-set (out ++ drop (length c) z) one 1 ∙ length-all;
+          holds = subst (λ l. Holds F n l (scaled F c)) (sym front-is) front;
+          here = getD-set-same (out ++ drop (length c) z) one 1 0 (let e = length-all in omega arith);
+          zeros = λ k l e. getD-set-other (out ++ drop (length c) z) one k 1 0 e ∙ behind k l;
+        }

@@ -1,0 +1,450 @@
+// The cofactors of the GCD of two lists.
+ghost use mathlib.Core.Path.{_≡_};
+ghost use mathlib.Core.Bool.{cond};
+ghost use mathlib.Core.List.{_++_};
+ghost use Prim.Native.Nat.{ℕ, suc, max, _+_, _-_, _<_, _≤_};
+ghost use lib.ListN.{length, getD, take, drop};
+ghost use Rattle.algebra.specs.PrimeField.{residue};
+ghost use Rattle.field.specs.Fields.{F65521, p, modulus, fieldAt, longest};
+ghost use Rattle.refusal.specs.Limits.{maxWords};
+ghost use Rattle.refusal.specs.Refusal.{reply, written};
+ghost use Rattle.refusal.specs.Lowest.{lowest};
+ghost use Rattle.lists.specs.Degrees.{naiveDegree, significant};
+ghost use Rattle.lists.specs.Lists.{scaled};
+ghost use Rattle.word_division.specs.Reduction.{lessProduct};
+ghost use Rattle.field_tables.specs.Factorials.{Tables};
+ghost use Rattle.euclid_theory.specs.Gcd.{gcdOf, identityDegree, cofactorA, cofactorB};
+ghost use Rattle.lists.specs.Padded.{padded};
+ghost use Rattle.list_gcd.specs.Calls.{gcdReply, gcdValues, Greatest};
+ghost use Rattle.list_gcd.specs.Internal.{Buffer};
+ghost use Rattle.list_gcd.specs.Internal.{Ready};
+ghost use Rattle.list_cofactors.specs.Calls.{cofactorRows, cofactorRefusals, Cofactors};
+ghost use Rattle.list_cofactors.specs.Internal.{partX, turned, Started, Cut, Carried, Ends};
+ghost use Rattle.list_cofactors.specs.Internal.{wrongSlices, timesList, Found, LastRow, Wrote, Slices, Results};
+use list_gcd::Gcd;
+use list_gcd::Rounds;
+use lists::NaiveDegree;
+use refusal::Outcome;
+use refusal::Refusal;
+
+// The GCD of f and g with its cofactors: a·f + b·g = (1-t)^(m-w)·h.
+pub fn find_cofactors(f: &[u16], g: &[u16], h: &mut [u16], a: &mut [u16], b: &mut [u16]) -> Gcd
+    ensures answer { λ r. ⌜ gcdReply r ≡ reply (lowest (cofactorRefusals p (now (f .entry)) (now (g .entry)) (now (h .entry)) (now (a .entry)) (now (b .entry)))) (gcdValues F65521 (now (f .entry)) (now (g .entry))) ⌝ }
+    ensures gcd { λ _. ⌜ now (h .exit) ≡ written (lowest (cofactorRefusals p (now (f .entry)) (now (g .entry)) (now (h .entry)) (now (a .entry)) (now (b .entry)))) (padded maxWords (gcdOf F65521 (now (f .entry)) (now (g .entry)))) (now (h .entry)) ⌝ }
+    ensures left { λ _. ⌜ now (a .exit) ≡ written (lowest (cofactorRefusals p (now (f .entry)) (now (g .entry)) (now (h .entry)) (now (a .entry)) (now (b .entry)))) (cofactorA F65521 (now (f .entry)) (now (g .entry))) (now (a .entry)) ⌝ }
+    ensures right { λ _. ⌜ now (b .exit) ≡ written (lowest (cofactorRefusals p (now (f .entry)) (now (g .entry)) (now (h .entry)) (now (a .entry)) (now (b .entry)))) (cofactorB F65521 (now (f .entry)) (now (g .entry))) (now (b .entry)) ⌝ }
+    ensures greatest { λ r. ⌜ Greatest F65521 (now (f .entry)) (now (g .entry)) (now (h .exit)) r ⌝ }
+    ensures identity { λ r. ⌜ Cofactors F65521 (now (f .entry)) (now (g .entry)) (now (a .exit)) (now (b .exit)) r ⌝ }
+{
+    cofactors_over(0, f, g, h, a, b)
+}
+
+// The same over a field: h goes to a slice of as many words as the longest list has.
+pub fn cofactors_over(
+    field: u8,
+    f: &[u16],
+    g: &[u16],
+    h: &mut [u16],
+    a: &mut [u16],
+    b: &mut [u16],
+) -> Gcd
+    ensures answer { λ r. ⌜ gcdReply r ≡ reply (lowest (cofactorRows (modulus field) (longest field) (now (f .entry)) (now (g .entry)) (now (h .entry)) (now (a .entry)) (now (b .entry)))) (gcdValues (fieldAt field) (now (f .entry)) (now (g .entry))) ⌝ }
+    ensures gcd { λ _. ⌜ now (h .exit) ≡ written (lowest (cofactorRows (modulus field) (longest field) (now (f .entry)) (now (g .entry)) (now (h .entry)) (now (a .entry)) (now (b .entry)))) (padded (longest field) (gcdOf (fieldAt field) (now (f .entry)) (now (g .entry)))) (now (h .entry)) ⌝ }
+    ensures left { λ _. ⌜ now (a .exit) ≡ written (lowest (cofactorRows (modulus field) (longest field) (now (f .entry)) (now (g .entry)) (now (h .entry)) (now (a .entry)) (now (b .entry)))) (cofactorA (fieldAt field) (now (f .entry)) (now (g .entry))) (now (a .entry)) ⌝ }
+    ensures right { λ _. ⌜ now (b .exit) ≡ written (lowest (cofactorRows (modulus field) (longest field) (now (f .entry)) (now (g .entry)) (now (h .entry)) (now (a .entry)) (now (b .entry)))) (cofactorB (fieldAt field) (now (f .entry)) (now (g .entry))) (now (b .entry)) ⌝ }
+    ensures greatest { λ r. ⌜ Greatest (fieldAt field) (now (f .entry)) (now (g .entry)) (now (h .exit)) r ⌝ }
+    ensures identity { λ r. ⌜ Cofactors (fieldAt field) (now (f .entry)) (now (g .entry)) (now (a .exit)) (now (b .exit)) r ⌝ }
+{
+    let answer = judge_cofactors(field, f, g, h, a, b);
+    match answer {
+        Outcome::Refused(why) => Gcd::Refused(why),
+        Outcome::Done => cofactors_into(field, f, g, h, a, b),
+    }
+}
+
+// The number of words of the cofactor of a list: m less its naive degree, plus 1.
+fn cofactor_words(list: &[u16], other: &[u16]) -> usize
+    ensures { λ r. ⌜ r ≡ suc (identityDegree (now (list .entry)) (now (other .entry)) - naiveDegree (now (list .entry))) ⌝ }
+{
+    if list.len() < 2 {
+        if other.len() < 2 {
+            return 2;
+        }
+        return other.len();
+    }
+    if other.len() < 2 {
+        return 1;
+    }
+    other.len() - 1
+}
+
+// Whether a result slice has not the length of its result.
+fn wrong_slices(field: u8, f: &[u16], g: &[u16], h: &[u16], a: &[u16], b: &[u16]) -> bool
+    ensures { λ r. ⌜ r ≡ wrongSlices (longest field) (now (f .entry)) (now (g .entry)) (now (h .entry)) (now (a .entry)) (now (b .entry)) ⌝ }
+{
+    if h.len() != field::longest_of(field) {
+        return true;
+    }
+    if a.len() != cofactor_words(f, g) {
+        return true;
+    }
+    b.len() != cofactor_words(g, f)
+}
+
+// What the call refuses.
+fn judge_cofactors(field: u8, f: &[u16], g: &[u16], h: &[u16], a: &[u16], b: &[u16]) -> Outcome
+    ensures { λ r. ⌜ r ≡ lowest (cofactorRows (modulus field) (longest field) (now (f .entry)) (now (g .entry)) (now (h .entry)) (now (a .entry)) (now (b .entry))) ⌝ }
+{
+    if let Outcome::Refused(why) = lists::judge_lists(field, f, g) {
+        return Outcome::Refused(why);
+    }
+    if list_gcd::both_zero(f, g) {
+        return Outcome::Refused(Refusal::AllZero);
+    }
+    if wrong_slices(field, f, g, h, a, b) {
+        return Outcome::Refused(Refusal::Misfit);
+    }
+    Outcome::Done
+}
+
+// A row has three parts of n words, n being the number of words of the longest list, as in an augmented matrix: x and its cofactors s and t.
+// With x₀ and y₀ the pair at the start, s·x₀ + t·y₀ = x, where s and t are cut off at n words.
+
+// A row of zeros becomes that of a list: its scaled form, and 1 at the first word of s or of t.
+fn start_row(field: u8, whole: &[u16], part: &[u16], list: &[u16], row: &mut [u16], one: usize)
+    requires { ⌜ Tables (fieldAt field) (longest field) (now whole) (now part) ⌝ }
+    requires { ⌜ (length (now list) ≤ longest field) × (length (now row) ≡ longest field + (longest field + longest field)) ⌝ }
+    requires { ⌜ (longest field ≤ one) × (one < length (now row)) ⌝ }
+    requires { ⌜ ((k : ℕ) → getD (now row) k 0 ≡ 0) ⌝ }
+    ensures { λ _. ⌜ Started (fieldAt field) (longest field) one (now (row .exit)) (scaled (fieldAt field) (now (list .entry))) ⌝ }
+{
+    let words = list.len();
+    word_scaling::weigh(field, list, whole, part, &mut row[..words]);
+    row[one] = 1;
+}
+
+// s less q times the first `read` words of t, for both cofactors of a row.
+fn take_off(field: u8, n: usize, s: &mut [u16], q: &[u16], t: &[u16], read: usize)
+    requires { ⌜ (length (now s) ≡ n + n) × (length (now t) ≡ n + n) × (length (now q) ≤ n) × (read ≤ n) ⌝ }
+    ensures { λ _. ⌜ now (s .exit) ≡ lessProduct (modulus field) (take n (now (s .entry))) (now (q .entry)) (take read (now (t .entry))) ++ lessProduct (modulus field) (drop n (now (s .entry))) (now (q .entry)) (take read (drop n (now (t .entry)))) ⌝ }
+{
+    word_division::sub_product(field, &mut s[..n], q, &t[..read]);
+    word_division::sub_product(field, &mut s[n..], q, &t[n..n + read]);
+}
+
+// How many words of the cofactors a round reads, where the parts x have nu and nv significant words. The words that can differ from 0 are
+// n + 1 less the larger of the two; this is rounded up to a multiple of 8, as a row is added in groups of 8 words, but not above n.
+fn words_read(n: usize, nu: usize, nv: usize) -> usize
+    requires { ⌜ (n ≤ maxWords) × (nu ≤ n) × (nv ≤ n) × (0 < nv) ⌝ }
+    ensures { λ r. ⌜ (suc n - max nu nv ≤ r) × (r ≤ n) ⌝ }
+{
+    lists::smaller(n, (n + 8 - lists::larger(nu, nv)) / 8 * 8)
+}
+
+// One of Euclid's rounds on rows: u less the quotient times v. The significant words of their parts x, nu and nv of them, are all that
+// the round and the search after it look at. The number of those that are left of u.
+fn turn(
+    field: u8,
+    n: usize,
+    inverses: &[u16],
+    u: &mut [u16],
+    nu: usize,
+    v: &[u16],
+    nv: usize,
+    q: &mut [u16],
+) -> usize
+    requires { ⌜ (length (now u) ≡ n + (n + n)) × (length (now v) ≡ n + (n + n)) × (length (now q) ≡ n) ⌝ }
+    requires { ⌜ Buffer (fieldAt field) n (partX n (now u)) ⌝ }
+    requires { ⌜ Buffer (fieldAt field) n (partX n (now v)) ⌝ }
+    requires { ⌜ (nu ≡ significant (partX n (now u))) × (nv ≡ significant (partX n (now v))) × (0 < nv) ⌝ }
+    requires { ⌜ Cut (fieldAt field) n (now u) (now v) ⌝ }
+    requires { ⌜ n ≤ maxWords ⌝ }
+    ensures { λ r. ⌜ r ≡ significant (partX n (now (u .exit))) ⌝ }
+    ensures { λ _. ⌜ now (u .exit) ≡ turned (fieldAt field) n (now (u .entry)) (now (v .entry)) ⌝ }
+{
+    let k = euclid_round::round(field, inverses, &mut u[..nu], &v[..nv], q);
+    let left = lists::significant_words(&u[..nu]);
+    take_off(
+        field,
+        n,
+        &mut u[n..],
+        &q[..k],
+        &v[n..],
+        words_read(n, nu, nv),
+    );
+    left
+}
+
+// Where the rounds ended: how many they were, and whether the last x stands in the first row.
+struct Ended {
+    rounds: usize,
+    first: bool,
+}
+
+// Euclid's rounds on two rows that alternate, until the x of one of them is zero.
+fn all_rounds(
+    field: u8,
+    n: usize,
+    inverses: &[u16],
+    u: &mut [u16],
+    v: &mut [u16],
+    q: &mut [u16],
+) -> Ended
+    requires { ⌜ Carried (fieldAt field) n (now u) (now v) (now u) (now v) 0 ⌝ }
+    requires { ⌜ length (now q) ≡ n ⌝ }
+    requires { ⌜ n ≤ maxWords ⌝ }
+    ensures { λ r. ⌜ Ends (fieldAt field) n (now (u .entry)) (now (v .entry)) (cond (r .first) (now (u .exit)) (now (v .exit))) (r .rounds) ⌝ }
+{
+    let mut rounds = 0;
+    let mut nu = lists::significant_words(&u[..n]);
+    let mut nv = lists::significant_words(&v[..n]);
+    loop {
+        if nv == 0 {
+            return Ended {
+                rounds,
+                first: true,
+            };
+        }
+        nu = turn(field, n, inverses, u, nu, v, nv, q);
+        rounds += 1;
+        if nu == 0 {
+            return Ended {
+                rounds,
+                first: false,
+            };
+        }
+        nv = turn(field, n, inverses, v, nv, u, nu, q);
+        rounds += 1;
+    }
+}
+
+// Euclid's rounds from the scaled forms of g and f, in rows u and v of zeros.
+fn find_last(
+    field: u8,
+    n: usize,
+    whole: &[u16],
+    part: &[u16],
+    inverses: &[u16],
+    f: &[u16],
+    g: &[u16],
+    u: &mut [u16],
+    v: &mut [u16],
+    q: &mut [u16],
+) -> Ended
+    requires { ⌜ n ≡ longest field ⌝ }
+    requires { ⌜ Tables (fieldAt field) n (now whole) (now part) ⌝ }
+    requires { ⌜ Ready (fieldAt field) n (now f) (now g) ⌝ }
+    requires { ⌜ (length (now u) ≡ n + (n + n)) × (length (now v) ≡ n + (n + n)) × (length (now q) ≡ n) ⌝ }
+    requires { ⌜ ((k : ℕ) → getD (now u) k 0 ≡ 0) ⌝ }
+    requires { ⌜ ((k : ℕ) → getD (now v) k 0 ≡ 0) ⌝ }
+    ensures { λ r. ⌜ Found (fieldAt field) n (now (f .entry)) (now (g .entry)) (cond (r .first) (now (u .exit)) (now (v .exit))) (r .rounds) ⌝ }
+{
+    start_row(field, whole, part, g, u, n);
+    start_row(field, whole, part, f, v, n + n);
+    all_rounds(field, n, inverses, u, v, q)
+}
+
+// a from t and b from s, each times m.
+fn write_pair(
+    field: u8,
+    n: usize,
+    whole: &[u16],
+    part: &[u16],
+    forms: &mut [u16],
+    m: u16,
+    a: &mut [u16],
+    b: &mut [u16],
+)
+    requires { ⌜ n ≡ longest field ⌝ }
+    requires { ⌜ Tables (fieldAt field) n (now whole) (now part) ⌝ }
+    requires { ⌜ (length (now forms) ≡ n + n) × (length (now a) ≤ n) × (length (now b) ≤ n) ⌝ }
+    ensures { λ _. ⌜ now (a .exit) ≡ timesList (fieldAt field) (length (now (a .entry))) (residue (fieldAt field) m) (drop n (now (forms .entry))) ⌝ }
+    ensures { λ _. ⌜ now (b .exit) ≡ timesList (fieldAt field) (length (now (b .entry))) (residue (fieldAt field) m) (take n (now (forms .entry))) ⌝ }
+{
+    let na = a.len();
+    let nb = b.len();
+    euclid_round::write_list(field, whole, part, &mut forms[n..], m, na, a);
+    euclid_round::write_list(field, whole, part, &mut forms[..n], m, nb, b);
+}
+
+// h, a and b from the row of the last x, each divided by the last word of x. The naive degree of h.
+fn write_row(
+    field: u8,
+    n: usize,
+    whole: &[u16],
+    part: &[u16],
+    inverses: &[u16],
+    row: &mut [u16],
+    h: &mut [u16],
+    a: &mut [u16],
+    b: &mut [u16],
+) -> NaiveDegree
+    requires { ⌜ n ≡ longest field ⌝ }
+    requires { ⌜ Tables (fieldAt field) n (now whole) (now part) ⌝ }
+    requires { ⌜ LastRow (fieldAt field) n (now row) ⌝ }
+    requires { ⌜ (length (now h) ≡ n) × (length (now a) ≤ n) × (length (now b) ≤ n) ⌝ }
+    ensures { λ r. ⌜ Wrote (fieldAt field) n (now (row .entry)) (length (now (a .entry))) (length (now (b .entry))) (r .0) (now (h .exit)) (now (a .exit)) (now (b .exit)) ⌝ }
+{
+    let words = lists::significant_words(&row[..n]);
+    let inv = field_inverse::inverse_or_zero(field, inverses, row[words - 1]);
+    write_pair(field, n, whole, part, &mut row[n..], inv, a, b);
+    euclid_round::write_list(field, whole, part, &mut row[..n], inv, words, h);
+    NaiveDegree(words - 1)
+}
+
+// The same from the row that holds the last x.
+fn write_last(
+    field: u8,
+    n: usize,
+    whole: &[u16],
+    part: &[u16],
+    inverses: &[u16],
+    first: bool,
+    u: &mut [u16],
+    v: &mut [u16],
+    h: &mut [u16],
+    a: &mut [u16],
+    b: &mut [u16],
+) -> NaiveDegree
+    requires { ⌜ n ≡ longest field ⌝ }
+    requires { ⌜ Tables (fieldAt field) n (now whole) (now part) ⌝ }
+    requires { ⌜ LastRow (fieldAt field) n (cond first (now u) (now v)) ⌝ }
+    requires { ⌜ (length (now h) ≡ n) × (length (now a) ≤ n) × (length (now b) ≤ n) ⌝ }
+    ensures { λ r. ⌜ Wrote (fieldAt field) n (cond first (now (u .entry)) (now (v .entry))) (length (now (a .entry))) (length (now (b .entry))) (r .0) (now (h .exit)) (now (a .exit)) (now (b .exit)) ⌝ }
+{
+    if first {
+        return write_row(field, n, whole, part, inverses, u, h, a, b);
+    }
+    write_row(field, n, whole, part, inverses, v, h, a, b)
+}
+
+// The cofactors by way of rows.
+fn cofactors_in(
+    field: u8,
+    n: usize,
+    whole: &[u16],
+    part: &[u16],
+    inverses: &[u16],
+    f: &[u16],
+    g: &[u16],
+    u: &mut [u16],
+    v: &mut [u16],
+    q: &mut [u16],
+    h: &mut [u16],
+    a: &mut [u16],
+    b: &mut [u16],
+) -> Gcd
+    requires { ⌜ n ≡ longest field ⌝ }
+    requires { ⌜ Tables (fieldAt field) n (now whole) (now part) ⌝ }
+    requires { ⌜ Ready (fieldAt field) n (now f) (now g) ⌝ }
+    requires { ⌜ Slices n (now f) (now g) (now h) (now a) (now b) ⌝ }
+    requires { ⌜ (length (now u) ≡ n + (n + n)) × (length (now v) ≡ n + (n + n)) × (length (now q) ≡ n) ⌝ }
+    requires { ⌜ ((k : ℕ) → getD (now u) k 0 ≡ 0) ⌝ }
+    requires { ⌜ ((k : ℕ) → getD (now v) k 0 ≡ 0) ⌝ }
+    ensures { λ r. ⌜ Results (fieldAt field) n (now (f .entry)) (now (g .entry)) r (now (h .exit)) (now (a .exit)) (now (b .exit)) ⌝ }
+{
+    let ended = find_last(field, n, whole, part, inverses, f, g, u, v, q);
+    let w = write_last(field, n, whole, part, inverses, ended.first, u, v, h, a, b);
+    let c = euclid_round::common_power(f, g);
+    Gcd::Done(w, c, Rounds(ended.rounds))
+}
+
+// The number of words of the longest row.
+const ROW: usize = 3 * refusal::MAX_WORDS;
+
+// The cofactors where nothing is refused, with tables that are lent.
+fn cofactors_with(
+    field: u8,
+    whole: &[u16],
+    part: &[u16],
+    inverses: &[u16],
+    f: &[u16],
+    g: &[u16],
+    h: &mut [u16],
+    a: &mut [u16],
+    b: &mut [u16],
+) -> Gcd
+    requires { ⌜ Tables (fieldAt field) (longest field) (now whole) (now part) ⌝ }
+    requires { ⌜ Ready (fieldAt field) (longest field) (now f) (now g) ⌝ }
+    requires { ⌜ Slices (longest field) (now f) (now g) (now h) (now a) (now b) ⌝ }
+    ensures { λ r. ⌜ Results (fieldAt field) (longest field) (now (f .entry)) (now (g .entry)) r (now (h .exit)) (now (a .exit)) (now (b .exit)) ⌝ }
+{
+    let mut u = [0u16; ROW];
+    let mut v = [0u16; ROW];
+    let mut q = [0u16; refusal::MAX_WORDS];
+    cofactors_between(
+        field,
+        whole,
+        part,
+        inverses,
+        f,
+        g,
+        &mut u,
+        &mut v,
+        &mut q,
+        h,
+        a,
+        b,
+    )
+}
+
+// The same in as much of three arrays of zeros as the longest list takes.
+fn cofactors_between(
+    field: u8,
+    whole: &[u16],
+    part: &[u16],
+    inverses: &[u16],
+    f: &[u16],
+    g: &[u16],
+    u: &mut [u16],
+    v: &mut [u16],
+    q: &mut [u16],
+    h: &mut [u16],
+    a: &mut [u16],
+    b: &mut [u16],
+) -> Gcd
+    requires { ⌜ Tables (fieldAt field) (longest field) (now whole) (now part) ⌝ }
+    requires { ⌜ Ready (fieldAt field) (longest field) (now f) (now g) ⌝ }
+    requires { ⌜ Slices (longest field) (now f) (now g) (now h) (now a) (now b) ⌝ }
+    requires { ⌜ (length (now u) ≡ maxWords + (maxWords + maxWords)) × (length (now v) ≡ maxWords + (maxWords + maxWords)) × (length (now q) ≡ maxWords) ⌝ }
+    requires { ⌜ ((k : ℕ) → getD (now u) k 0 ≡ 0) ⌝ }
+    requires { ⌜ ((k : ℕ) → getD (now v) k 0 ≡ 0) ⌝ }
+    ensures { λ r. ⌜ Results (fieldAt field) (longest field) (now (f .entry)) (now (g .entry)) r (now (h .exit)) (now (a .exit)) (now (b .exit)) ⌝ }
+{
+    let n = field::longest_of(field);
+    let row = 3 * n;
+    cofactors_in(
+        field,
+        n,
+        whole,
+        part,
+        inverses,
+        f,
+        g,
+        &mut u[..row],
+        &mut v[..row],
+        &mut q[..n],
+        h,
+        a,
+        b,
+    )
+}
+
+// The same with our own tables.
+fn cofactors_into(
+    field: u8,
+    f: &[u16],
+    g: &[u16],
+    h: &mut [u16],
+    a: &mut [u16],
+    b: &mut [u16],
+) -> Gcd
+    requires { ⌜ Ready (fieldAt field) (longest field) (now f) (now g) ⌝ }
+    requires { ⌜ Slices (longest field) (now f) (now g) (now h) (now a) (now b) ⌝ }
+    ensures { λ r. ⌜ Results (fieldAt field) (longest field) (now (f .entry)) (now (g .entry)) r (now (h .exit)) (now (a .exit)) (now (b .exit)) ⌝ }
+{
+    let whole = field_tables::factorials(field);
+    let part = field_tables::inverse_factorials(field);
+    let inverses = field_tables::inverses(field);
+    cofactors_with(field, &whole, &part, &inverses, f, g, h, a, b)
+}

@@ -1,0 +1,113 @@
+// The extent of a list, and a list with its top zeros removed.
+ghost use mathlib.Core.Path.{_≡_};
+ghost use mathlib.Core.List.{[]};
+ghost use lib.ListN.{length};
+ghost use Rattle.field.specs.Fields.{F65521, p, modulus, fieldAt, longest};
+ghost use Rattle.refusal.specs.Refusal.{reply, outcomeReply, written};
+ghost use Rattle.refusal.specs.Lowest.{lowest};
+ghost use Rattle.lists.specs.Operations as of;
+ghost use Rattle.field_tables.specs.Factorials.{Tables};
+ghost use Rattle.list_extent.specs.Calls.{extentReply, extentValues, extentRows, extentRefusals, trimRows, trimRefusals};
+ghost use Rattle.list_extent.specs.Internal.{TrimFits};
+use lists::Extent;
+use refusal::Outcome;
+use refusal::Refusal;
+
+// The answer of a search for the extent: a zero list has none.
+pub enum Found {
+    At(Extent),
+    Zero,
+    Refused(Refusal),
+}
+
+// The extent of f.
+pub fn find_extent(f: &[u16]) -> Found
+    ensures answer { λ r. ⌜ extentReply r ≡ reply (lowest (extentRefusals p (now (f .entry)))) (extentValues (now (f .entry))) ⌝ }
+{
+    extent_over(0, f)
+}
+
+// The same over a field.
+pub fn extent_over(field: u8, f: &[u16]) -> Found
+    ensures answer { λ r. ⌜ extentReply r ≡ reply (lowest (extentRows (modulus field) (longest field) (now (f .entry)))) (extentValues (now (f .entry))) ⌝ }
+{
+    if let Outcome::Refused(why) = lists::judge_list(field, f) {
+        return Found::Refused(why);
+    }
+    let n = lists::significant_words(f);
+    if n == 0 {
+        return Found::Zero;
+    }
+    let top = n - 1;
+    Found::At(Extent(top))
+}
+
+// f with its top zeros removed: the same scaled form, of naive degree equal to the extent.
+pub fn trim(f: &[u16], out: &mut [u16]) -> Outcome
+    ensures answer { λ r. ⌜ outcomeReply r ≡ reply (lowest (trimRefusals p (now (f .entry)) (now (out .entry)))) [] ⌝ }
+    ensures writes { λ _. ⌜ now (out .exit) ≡ written (lowest (trimRefusals p (now (f .entry)) (now (out .entry)))) (of.trim F65521 (now (f .entry))) (now (out .entry)) ⌝ }
+{
+    trim_over(0, f, out)
+}
+
+// The same over a field.
+pub fn trim_over(field: u8, f: &[u16], out: &mut [u16]) -> Outcome
+    ensures answer { λ r. ⌜ outcomeReply r ≡ reply (lowest (trimRows (modulus field) (longest field) (now (f .entry)) (now (out .entry)))) [] ⌝ }
+    ensures writes { λ _. ⌜ now (out .exit) ≡ written (lowest (trimRows (modulus field) (longest field) (now (f .entry)) (now (out .entry)))) (of.trim (fieldAt field) (now (f .entry))) (now (out .entry)) ⌝ }
+{
+    let answer = judge_trim(field, f, out);
+    if let Outcome::Done = answer {
+        trim_into(field, f, out);
+    }
+    answer
+}
+
+// What a trim refuses.
+fn judge_trim(field: u8, f: &[u16], out: &[u16]) -> Outcome
+    ensures { λ r. ⌜ r ≡ lowest (trimRows (modulus field) (longest field) (now (f .entry)) (now (out .entry))) ⌝ }
+{
+    if let Outcome::Refused(why) = lists::judge_list(field, f) {
+        return Outcome::Refused(why);
+    }
+    let n = lists::significant_words(f);
+    if n == 0 {
+        return Outcome::Refused(Refusal::AllZero);
+    }
+    if out.len() != n {
+        return Outcome::Refused(Refusal::Misfit);
+    }
+    Outcome::Done
+}
+
+// The scaled form of f in s, and the list of as many of its words as out has.
+fn trim_in(field: u8, whole: &[u16], part: &[u16], f: &[u16], s: &mut [u16], out: &mut [u16])
+    requires { ⌜ Tables (fieldAt field) (longest field) (now whole) (now part) ⌝ }
+    requires { ⌜ TrimFits (longest field) (now f) (now out) ⌝ }
+    requires { ⌜ length (now s) ≡ length (now f) ⌝ }
+    ensures { λ _. ⌜ now (out .exit) ≡ of.trim (fieldAt field) (now (f .entry)) ⌝ }
+{
+    word_scaling::weigh(field, f, whole, part, s);
+    let form = &*s;
+    word_scaling::weigh(field, form, part, whole, out);
+}
+
+// The trim where nothing is refused, with tables that are lent.
+fn trim_with(field: u8, whole: &[u16], part: &[u16], f: &[u16], out: &mut [u16])
+    requires { ⌜ Tables (fieldAt field) (longest field) (now whole) (now part) ⌝ }
+    requires { ⌜ TrimFits (longest field) (now f) (now out) ⌝ }
+    ensures { λ _. ⌜ now (out .exit) ≡ of.trim (fieldAt field) (now (f .entry)) ⌝ }
+{
+    let n = f.len();
+    let mut s = [0u16; refusal::MAX_WORDS];
+    trim_in(field, whole, part, f, &mut s[..n], out);
+}
+
+// The same with our own tables.
+fn trim_into(field: u8, f: &[u16], out: &mut [u16])
+    requires { ⌜ TrimFits (longest field) (now f) (now out) ⌝ }
+    ensures { λ _. ⌜ now (out .exit) ≡ of.trim (fieldAt field) (now (f .entry)) ⌝ }
+{
+    let whole = field_tables::factorials(field);
+    let part = field_tables::inverse_factorials(field);
+    trim_with(field, &whole, &part, f, out);
+}

@@ -1,0 +1,71 @@
+-- Buffers of zeros, and the words of a scaled form in one.
+-- Assumes nothing.
+use mathlib.Core.Path.{_≡_, sym, _∙_, ap}
+use mathlib.Core.Bool.{cond}
+use mathlib.Core.List.{List, _++_}
+use Prim.Native.Nat.{ℕ, _≤_, _<_}
+use native.Mathlib.Decide.{decLt}
+use native.Mathlib.Omega.{arith}
+use lib.ListN.{getD, length, take, drop, replicate, length-append, length-take, length-drop, length-replicate, getD-replicate, List·getD-eq-default}
+use lib.Seq.{getD-drop, getD-take}
+use Rattle.algebra.specs.Ring.{CommRing}
+use Rattle.algebra.proofs.Series.{ext}
+use Rattle.algebra.specs.Degree.{size}
+use Rattle.algebra.specs.PrimeField.{PrimeField, residue}
+use Rattle.lists.specs.Lists.{scaled}
+use Rattle.lists.specs.Words.{seriesOf}
+use Rattle.lists.proofs.Words.{coeff-seriesOf, scaledWords, length-scaledWords, seriesOf-scaledWords, carries-scaled}
+use Rattle.field_tables.specs.Factorials.{Tables}
+use Rattle.word_scaling.specs.Kernels.{weighFits, weighted}
+use Rattle.word_scaling.proofs.Weights.{scale-is}
+use Rattle.list_gcd.specs.Internal.{Holds}
+use Rattle.lists.proofs.Parts.{getD-then-zeros}
+
+-- an array of zeros
+pub getD-zeros : (n k : ℕ) → getD {A = ℕ} (replicate n 0) k 0 ≡ 0
+getD-zeros n k = go (decLt k n)
+  where
+    go : Dec (k < n) → getD {A = ℕ} (replicate n 0) k 0 ≡ 0
+    go (yes l) = getD-replicate n k 0 0 l
+    go (no l) = let e = length-replicate {A = ℕ} n 0 in List·getD-eq-default (replicate n 0) 0 (omega arith)
+
+-- the first n words of a list
+pub length-part : (x : List ℕ) {m : ℕ} (n : ℕ) → length x ≡ m → n ≤ m → length (take n x) ≡ n
+length-part x n e l = simp length-take (omega arith)
+
+pub getD-part : (x : List ℕ) (n : ℕ) → ((k : ℕ) → getD x k 0 ≡ 0) → (k : ℕ) → getD (take n x) k 0 ≡ 0
+getD-part x n h k = go (decLt k n)
+  where
+    go : Dec (k < n) → getD (take n x) k 0 ≡ 0
+    go (yes l) = getD-take n x k 0 l ∙ h k
+    go (no l) = List·getD-eq-default (take n x) 0 {n = k} (simp length-take (omega arith))
+
+module _ (F : PrimeField) where
+  open CommRing (F .series .ring) using (Carrier as S)
+
+  -- the series of two buffers that agree
+  seriesOf-ext : (x y : List ℕ) → ((k : ℕ) → getD x k 0 ≡ getD y k 0) → seriesOf F x ≡ seriesOf F y
+  seriesOf-ext x y h =
+      ext (F .series) _ _ (λ k. coeff-seriesOf F x k ∙ ap (residue F) (h k) ∙ sym (coeff-seriesOf F y k))
+
+  -- the words of a scaled form, written to the front of a buffer of zeros
+  pub holds-scaled : {p : ℕ} → F .p ≡ p → (n : ℕ) → n ≤ F .p → (whole part : List ℕ) → Tables F n whole part → (c z : List ℕ) {out : List ℕ} → length c ≤ n → length z ≡ n → ((k : ℕ) → getD z k 0 ≡ 0)
+      → out ≡ cond (weighFits c whole part (take (length c) z)) (weighted p whole part (length (take (length c) z)) c) (take (length c) z)
+      → Holds F n (out ++ drop (length c) z) (scaled F c)
+  holds-scaled at n short whole part t c z {out} l e h q =
+      record {
+        buffer = record {
+          size = simp (length-append, length-drop, is, length-scaledWords F c) (omega arith);
+          below = λ k. rw (same k) (carries-scaled F c .below k);
+        };
+        series = seriesOf-ext _ (scaledWords F c) same ∙ seriesOf-scaledWords F c;
+      }
+    where
+      front : length (take (length c) z) ≡ length c
+      front = simp length-take (omega arith)
+
+      is : out ≡ scaledWords F c
+      is = scale-is F at n short whole part t c (take (length c) z) front l q
+
+      same : (k : ℕ) → getD (out ++ drop (length c) z) k 0 ≡ getD (scaledWords F c) k 0
+      same k = getD-then-zeros out (drop (length c) z) (λ i. rw getD-drop (h _)) k ∙ ap (λ a. getD a k 0) is

@@ -1,0 +1,47 @@
+-- `list_gcd::find_last` meets its contract: the buffers hold the scaled forms, and the rounds on them are those of the definition.
+-- Assumes nothing.
+use mathlib.Core.Path.{_∙_}
+use native.Mathlib.Omega.{arith}
+use Rattle.field.specs.Fields.{fieldAt}
+use Rattle.list_gcd.proofs.Finish.{ready-count, ready-last}
+use borrow.Author.Needs.{needs}
+use Rattle.list_gcd.proofs.find_last.Statement.{statement}
+use Rattle.list_gcd.proofs.find_last.Tie as tie
+
+scale-into-requires : tie.Need-scale-into-requires
+scale-into-requires c κs = search needs
+
+scale-into-requires-2 : tie.Need-scale-into-requires-2
+scale-into-requires-2 c κs = search needs
+
+all-rounds-requires : tie.Need-all-rounds-requires
+all-rounds-requires c κs = (c .before .before .before .before .before .before .before .before .before .scale-into .ensures .buffer, (c .before .before .before .before .before .scale-into2 .ensures .buffer, omega arith))
+
+same-length : tie.Need-same-length
+same-length c = search needs
+
+same-length-2 : tie.Need-same-length-2
+same-length-2 c = search needs
+
+same-length-3 : tie.Need-same-length-3
+same-length-3 c = search needs
+
+returns : tie.Need-returns
+returns c =
+    let start = c .before .before .before .before .before .before .before .before .before .before .before .before .before .before .before .before .before .before .before .before .before .before .before .before .before .before in
+    let x = c .before .before .before .before .before .before .before .before .before .before .before .before .before .before .before .before .scale-into .ensures in
+    let y = c .before .before .before .before .before .before .before .before .before .before .before .before .scale-into2 .ensures in
+    let ended = c .before .before .before .before .before .before .all-rounds .ensures in
+    (ended .0 ∙ ready-count (fieldAt _) _ _ _ (start .pre .1 .0) x y, ready-last (fieldAt _) _ _ _ (start .pre .1 .0) x y (ended .1))
+
+pub find-last-spec : {M : Type 1} → statement M
+find-last-spec =
+    tie.close
+    (tie.spec
+    scale-into-requires
+    scale-into-requires-2
+    all-rounds-requires
+    same-length
+    same-length-2
+    same-length-3
+    returns)

@@ -1,0 +1,58 @@
+-- `list_gcd::gcd_in` meets its contract: the list and the numbers are those of the definition.
+-- Assumes nothing.
+use mathlib.Core.Path.{_∙_, ap}
+use native.Mathlib.Omega.{arith}
+use Rattle.field.specs.Fields.{fieldAt}
+use Rattle.lists.specs.Padded.{padded}
+use Rattle.list_gcd.proofs.Finish.{gcd-done}
+use borrow.Author.Needs.{needs}
+use Rattle.list_gcd.proofs.gcd_in.Statement.{statement}
+use Rattle.list_gcd.proofs.gcd_in.Tie as tie
+
+find-last-requires : tie.Need-find-last-requires
+find-last-requires c κs =
+    let pre = c .before .before .before .before .before .before .before .before .before .before .before .before .pre in
+    (pre .0, (pre .1 .0, (pre .1 .1 .0, (pre .1 .1 .1 .0, pre .1 .1 .1 .1 .0))))
+
+write-last-requires : tie.Need-write-last-requires
+write-last-requires c κs =
+    let pre = c .before .before .before .before .before .before .before .before .before .before .before .before .before .before .before .before .before .before .before .before .before .before .pre in
+    let last = c .before .before .before .before .before .before .before .before .before .find-last .ensures .1 in
+    let size = last .size in
+    (pre .0, (last .buffer, (omega arith, pre .1 .1 .1 .1 .1)))
+
+common-power-requires : tie.Need-common-power-requires
+common-power-requires c κs = search needs
+
+same-length : tie.Need-same-length
+same-length c = search needs
+
+same-length-2 : tie.Need-same-length-2
+same-length-2 c = search needs
+
+same-length-3 : tie.Need-same-length-3
+same-length-3 c = search needs
+
+same-length-4 : tie.Need-same-length-4
+same-length-4 c = search needs
+
+returns : tie.Need-returns
+returns c =
+    let last = c .before .before .before .before .before .before .before .before .before .before .before .before .before .before .before .before .before .find-last .ensures in
+    let list = c .before .before .before .before .before .before .before .write-last .ensures in
+    let size = last .1 .size in
+    let w = list .0 in
+    (gcd-done (fieldAt _) _ _ _ _ _ (omega arith) (c .common-power .ensures) (last .0), list .1 ∙ ap (padded _) (last .1 .list))
+
+pub gcd-in-spec : {M : Type 1} → statement M
+gcd-in-spec =
+    tie.close
+    (tie.spec
+    find-last-requires
+    write-last-requires
+    common-power-requires
+    same-length
+    same-length-2
+    same-length-3
+    same-length-4
+    returns)

@@ -1,0 +1,65 @@
+-- What the functions behind the GCD need and do.
+--     Ready n f g         two lists of at most n words, each below p, that are not both zero
+--     Buffer n x          n words, each below p
+--     Holds n x s         a buffer whose words are the coefficients of s
+--     euclidOn n x y      what Euclid's rounds answer on the series of x and y
+--     Turning             the rounds have led from the buffers x₀, y₀ to x, y: the last x is the same, and the rounds made and those that
+--                         are left are all the rounds
+--     monicList n s       the list of the scaled form s, of at most n coefficients, made to have last word 1
+--     LastOf n f g x      the buffer x holds the last x of the rounds on f and g
+--     gcdDone f g         the answer of the GCD of f and g: w, c and rounds
+-- Assumes nothing.
+use mathlib.Core.Path.{_≡_}
+use mathlib.Core.List.{List, [], _∷_}
+use Prim.Native.Nat.{ℕ, suc, _+_, _≤_, _<_}
+use lib.ListN.{getD, length}
+use Rattle.algebra.specs.Ring.{CommRing}
+use Rattle.algebra.specs.Degree.{size}
+use Rattle.algebra.specs.Euclid.{Euclid, euclid}
+use Rattle.algebra.specs.Monic.{monic}
+use Rattle.algebra.specs.PrimeField.{PrimeField, scalarField}
+use Rattle.lists.specs.Degrees.{naiveDegree, significant}
+use Rattle.lists.specs.Lists.{Coefficients, unscaled}
+use Rattle.lists.specs.Words.{seriesOf}
+use Rattle.euclid_theory.specs.Gcd.{gcdOf, roundsOf, commonPower}
+use Rattle.list_gcd.specs.declared.Gcd.{Gcd}
+use Rattle.list_gcd.specs.declared.Gcd.the-variants as G
+
+module _ (F : PrimeField) where
+  open CommRing (F .series .ring) using (Carrier as S)
+
+  pub record Ready (n : ℕ) (f g : List ℕ) : Type 0 where
+    pub short-f : length f ≤ n
+    pub short-g : length g ≤ n
+    pub coefficients-f : Coefficients F f
+    pub coefficients-g : Coefficients F g
+    pub some : 0 < significant f + significant g
+
+  pub record Buffer (n : ℕ) (x : List ℕ) : Type 0 where
+    pub size : length x ≡ n
+    pub below : (k : ℕ) → getD x k 0 < F .p
+
+  pub record Holds (n : ℕ) (x : List ℕ) (s : S) : Type 0 where
+    pub buffer : Buffer n x
+    pub series : seriesOf F x ≡ s
+
+  unfoldable pub euclidOn : ℕ → (x y : List ℕ) → Euclid (F .series) (scalarField F)
+  euclidOn n x y = euclid (F .series) (scalarField F) n n (seriesOf F x) (seriesOf F y)
+
+  unfoldable pub monicList : ℕ → S → List ℕ
+  monicList n s = unscaled F (size (F .series) (scalarField F) n s) (monic (F .series) (scalarField F) n s)
+
+  pub record Turning (n : ℕ) (x₀ y₀ x y : List ℕ) (rounds : ℕ) : Type 0 where
+    pub left : Buffer n x
+    pub right : Buffer n y
+    pub last : euclidOn n x y .last ≡ euclidOn n x₀ y₀ .last
+    pub count : rounds + euclidOn n x y .rounds ≡ euclidOn n x₀ y₀ .rounds
+
+  pub record LastOf (n : ℕ) (f g last : List ℕ) : Type 0 where
+    pub buffer : Buffer n last
+    pub size : significant last ≡ suc (naiveDegree (gcdOf F f g))
+    pub list : monicList n (seriesOf F last) ≡ gcdOf F f g
+
+  unfoldable pub gcdDone : (f g : List ℕ) → Gcd
+  gcdDone f g =
+      G.Done (record { 0 = naiveDegree (gcdOf F f g) }) (record { 0 = commonPower (f ∷ g ∷ []) }) (record { 0 = roundsOf F f g })

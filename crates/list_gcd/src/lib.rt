@@ -1,0 +1,329 @@
+// The GCD of two lists.
+ghost use mathlib.Core.Path.{_≡_};
+ghost use mathlib.Core.Bool.{cond};
+ghost use Prim.Native.Nat.{ℕ, _+_, _<_, _≤_};
+ghost use lib.Dec.{eqb};
+ghost use lib.ListN.{length, getD};
+ghost use Rattle.field.specs.Fields.{F65521, p, modulus, fieldAt, longest};
+ghost use Rattle.refusal.specs.Limits.{maxWords};
+ghost use Rattle.refusal.specs.Refusal.{reply, written};
+ghost use Rattle.refusal.specs.Lowest.{lowest};
+ghost use Rattle.lists.specs.Degrees.{significant};
+ghost use Rattle.lists.specs.Lists.{scaled};
+ghost use Rattle.lists.specs.Words.{seriesOf};
+ghost use Rattle.euclid_theory.specs.Gcd.{gcdOf, roundsOf};
+ghost use Rattle.lists.specs.Padded.{padded};
+ghost use Rattle.euclid_round.specs.Round.{roundFits, remaining};
+ghost use Rattle.field_tables.specs.Factorials.{Tables};
+ghost use Rattle.list_gcd.specs.Calls.{gcdReply, gcdValues, gcdRows, gcdRefusals, Greatest};
+ghost use Rattle.list_gcd.specs.Internal.{Buffer, Holds, euclidOn, monicList};
+ghost use Rattle.list_gcd.specs.Internal.{Ready};
+ghost use Rattle.list_gcd.specs.Internal.{LastOf, gcdDone};
+use lists::NaiveDegree;
+use lists::Power;
+use refusal::Outcome;
+use refusal::Refusal;
+
+// The number of Euclid's rounds.
+pub struct Rounds(pub usize);
+
+// The answer of a GCD: the naive degree w of h, the number c of factors 1-t, and the number of rounds.
+pub enum Gcd {
+    Done(NaiveDegree, Power, Rounds),
+    Refused(Refusal),
+}
+
+// The GCD of f and g: h goes to a slice of as many words as the longest list has, zeros after word w.
+pub fn gcd_of(f: &[u16], g: &[u16], h: &mut [u16]) -> Gcd
+    ensures answer { λ r. ⌜ gcdReply r ≡ reply (lowest (gcdRefusals p (now (f .entry)) (now (g .entry)) (now (h .entry)))) (gcdValues F65521 (now (f .entry)) (now (g .entry))) ⌝ }
+    ensures writes { λ _. ⌜ now (h .exit) ≡ written (lowest (gcdRefusals p (now (f .entry)) (now (g .entry)) (now (h .entry)))) (padded maxWords (gcdOf F65521 (now (f .entry)) (now (g .entry)))) (now (h .entry)) ⌝ }
+    ensures greatest { λ r. ⌜ Greatest F65521 (now (f .entry)) (now (g .entry)) (now (h .exit)) r ⌝ }
+{
+    gcd_over(0, f, g, h)
+}
+
+// The same over a field: h goes to a slice of as many words as the longest list has.
+pub fn gcd_over(field: u8, f: &[u16], g: &[u16], h: &mut [u16]) -> Gcd
+    ensures answer { λ r. ⌜ gcdReply r ≡ reply (lowest (gcdRows (modulus field) (longest field) (now (f .entry)) (now (g .entry)) (now (h .entry)))) (gcdValues (fieldAt field) (now (f .entry)) (now (g .entry))) ⌝ }
+    ensures writes { λ _. ⌜ now (h .exit) ≡ written (lowest (gcdRows (modulus field) (longest field) (now (f .entry)) (now (g .entry)) (now (h .entry)))) (padded (longest field) (gcdOf (fieldAt field) (now (f .entry)) (now (g .entry)))) (now (h .entry)) ⌝ }
+    ensures greatest { λ r. ⌜ Greatest (fieldAt field) (now (f .entry)) (now (g .entry)) (now (h .exit)) r ⌝ }
+{
+    let answer = judge_gcd(field, f, g, h);
+    match answer {
+        Outcome::Refused(why) => Gcd::Refused(why),
+        Outcome::Done => gcd_into(field, f, g, h),
+    }
+}
+
+// Whether f and g are both zero.
+pub fn both_zero(f: &[u16], g: &[u16]) -> bool
+    ensures { λ r. ⌜ r ≡ eqb (significant (now (f .entry)) + significant (now (g .entry))) 0 ⌝ }
+{
+    if lists::significant_words(f) != 0 {
+        return false;
+    }
+    lists::significant_words(g) == 0
+}
+
+// What the GCD refuses.
+fn judge_gcd(field: u8, f: &[u16], g: &[u16], h: &[u16]) -> Outcome
+    ensures { λ r. ⌜ r ≡ lowest (gcdRows (modulus field) (longest field) (now (f .entry)) (now (g .entry)) (now (h .entry))) ⌝ }
+{
+    if let Outcome::Refused(why) = lists::judge_lists(field, f, g) {
+        return Outcome::Refused(why);
+    }
+    if both_zero(f, g) {
+        return Outcome::Refused(Refusal::AllZero);
+    }
+    if h.len() != field::longest_of(field) {
+        return Outcome::Refused(Refusal::Misfit);
+    }
+    Outcome::Done
+}
+
+// The words of the scaled form of a list, to a buffer of zeros.
+fn scale_into(field: u8, whole: &[u16], part: &[u16], list: &[u16], buffer: &mut [u16])
+    requires { ⌜ Tables (fieldAt field) (longest field) (now whole) (now part) ⌝ }
+    requires { ⌜ (length (now list) ≤ (longest field)) × (length (now buffer) ≡ (longest field)) ⌝ }
+    requires { ⌜ ((k : ℕ) → getD (now buffer) k 0 ≡ 0) ⌝ }
+    ensures { λ _. ⌜ Holds (fieldAt field) (longest field) (now (buffer .exit)) (scaled (fieldAt field) (now (list .entry))) ⌝ }
+{
+    let n = list.len();
+    word_scaling::weigh(field, list, whole, part, &mut buffer[..n]);
+}
+
+// One of Euclid's rounds on the first nx words of x and ny of y, which are the significant ones: so a search for the end of x or y
+// begins close to it, and not at the top of the zeros. The number of significant words that are left of x.
+fn turn(
+    field: u8,
+    inverses: &[u16],
+    x: &mut [u16],
+    nx: usize,
+    y: &[u16],
+    ny: usize,
+    q: &mut [u16],
+) -> usize
+    requires { ⌜ (nx ≡ significant (now x)) × (ny ≡ significant (now y)) ⌝ }
+    ensures { λ r. ⌜ r ≡ significant (now (x .exit)) ⌝ }
+    ensures { λ _. ⌜ now (x .exit) ≡ cond (roundFits (modulus field) (now (x .entry)) (now (y .entry)) (now (q .entry))) (remaining (fieldAt field) (now (x .entry)) (now (y .entry))) (now (x .entry)) ⌝ }
+{
+    euclid_round::round(field, inverses, &mut x[..nx], &y[..ny], q);
+    lists::significant_words(&x[..nx])
+}
+
+// Where the rounds ended: how many they were, and whether the last x stands in the first buffer.
+struct Ended {
+    rounds: usize,
+    first: bool,
+}
+
+// Euclid's rounds on two buffers that alternate, until one of them is zero.
+fn all_rounds(field: u8, inverses: &[u16], x: &mut [u16], y: &mut [u16], q: &mut [u16]) -> Ended
+    requires { ⌜ Buffer (fieldAt field) (longest field) (now x) ⌝ }
+    requires { ⌜ Buffer (fieldAt field) (longest field) (now y) ⌝ }
+    requires { ⌜ (longest field) ≤ length (now q) ⌝ }
+    ensures { λ r. ⌜ r .rounds ≡ euclidOn (fieldAt field) (longest field) (now (x .entry)) (now (y .entry)) .rounds ⌝ }
+    ensures { λ r. ⌜ Holds (fieldAt field) (longest field) (cond (r .first) (now (x .exit)) (now (y .exit))) (euclidOn (fieldAt field) (longest field) (now (x .entry)) (now (y .entry)) .last) ⌝ }
+{
+    let mut rounds = 0;
+    let mut nx = lists::significant_words(x);
+    let mut ny = lists::significant_words(y);
+    loop {
+        if ny == 0 {
+            return Ended {
+                rounds,
+                first: true,
+            };
+        }
+        nx = turn(field, inverses, x, nx, y, ny, q);
+        rounds += 1;
+        if nx == 0 {
+            return Ended {
+                rounds,
+                first: false,
+            };
+        }
+        ny = turn(field, inverses, y, ny, x, nx, q);
+        rounds += 1;
+    }
+}
+
+// h from the last x: made to end in 1, unscaled, zeros after it. Its naive degree.
+fn write_gcd(
+    field: u8,
+    whole: &[u16],
+    part: &[u16],
+    inverses: &[u16],
+    last: &mut [u16],
+    h: &mut [u16],
+) -> NaiveDegree
+    requires { ⌜ Tables (fieldAt field) (longest field) (now whole) (now part) ⌝ }
+    requires { ⌜ Buffer (fieldAt field) (longest field) (now last) ⌝ }
+    requires { ⌜ (0 < significant (now last)) × (length (now h) ≡ (longest field)) ⌝ }
+    ensures { λ r. ⌜ r .0 + 1 ≡ significant (now (last .entry)) ⌝ }
+    ensures { λ _. ⌜ now (h .exit) ≡ padded (longest field) (monicList (fieldAt field) (longest field) (seriesOf (fieldAt field) (now (last .entry)))) ⌝ }
+{
+    let n = lists::significant_words(last);
+    let inv = field_inverse::inverse_or_zero(field, inverses, last[n - 1]);
+    euclid_round::write_list(field, whole, part, last, inv, n, h);
+    NaiveDegree(n - 1)
+}
+
+// The same from the buffer that holds the last x.
+fn write_last(
+    field: u8,
+    whole: &[u16],
+    part: &[u16],
+    inverses: &[u16],
+    first: bool,
+    x: &mut [u16],
+    y: &mut [u16],
+    h: &mut [u16],
+) -> NaiveDegree
+    requires { ⌜ Tables (fieldAt field) (longest field) (now whole) (now part) ⌝ }
+    requires { ⌜ Buffer (fieldAt field) (longest field) (cond first (now x) (now y)) ⌝ }
+    requires { ⌜ (0 < significant (cond first (now x) (now y))) × (length (now h) ≡ (longest field)) ⌝ }
+    ensures { λ r. ⌜ r .0 + 1 ≡ significant (cond first (now (x .entry)) (now (y .entry))) ⌝ }
+    ensures { λ _. ⌜ now (h .exit) ≡ padded (longest field) (monicList (fieldAt field) (longest field) (seriesOf (fieldAt field) (cond first (now (x .entry)) (now (y .entry))))) ⌝ }
+{
+    if first {
+        return write_gcd(field, whole, part, inverses, x, h);
+    }
+    write_gcd(field, whole, part, inverses, y, h)
+}
+
+// Euclid's rounds on the scaled forms of g and f, in buffers x and y of zeros.
+fn find_last(
+    field: u8,
+    whole: &[u16],
+    part: &[u16],
+    inverses: &[u16],
+    f: &[u16],
+    g: &[u16],
+    x: &mut [u16],
+    y: &mut [u16],
+    q: &mut [u16],
+) -> Ended
+    requires { ⌜ Tables (fieldAt field) (longest field) (now whole) (now part) ⌝ }
+    requires { ⌜ Ready (fieldAt field) (longest field) (now f) (now g) ⌝ }
+    requires { ⌜ (length (now x) ≡ (longest field)) × (length (now y) ≡ (longest field)) × (length (now q) ≡ (longest field)) ⌝ }
+    requires { ⌜ ((k : ℕ) → getD (now x) k 0 ≡ 0) ⌝ }
+    requires { ⌜ ((k : ℕ) → getD (now y) k 0 ≡ 0) ⌝ }
+    ensures { λ r. ⌜ r .rounds ≡ roundsOf (fieldAt field) (now (f .entry)) (now (g .entry)) ⌝ }
+    ensures { λ r. ⌜ LastOf (fieldAt field) (longest field) (now (f .entry)) (now (g .entry)) (cond (r .first) (now (x .exit)) (now (y .exit))) ⌝ }
+{
+    scale_into(field, whole, part, g, x);
+    scale_into(field, whole, part, f, y);
+    all_rounds(field, inverses, x, y, q)
+}
+
+// The GCD by way of buffers.
+fn gcd_in(
+    field: u8,
+    whole: &[u16],
+    part: &[u16],
+    inverses: &[u16],
+    f: &[u16],
+    g: &[u16],
+    x: &mut [u16],
+    y: &mut [u16],
+    q: &mut [u16],
+    h: &mut [u16],
+) -> Gcd
+    requires { ⌜ Tables (fieldAt field) (longest field) (now whole) (now part) ⌝ }
+    requires { ⌜ Ready (fieldAt field) (longest field) (now f) (now g) ⌝ }
+    requires { ⌜ (length (now x) ≡ (longest field)) × (length (now y) ≡ (longest field)) × (length (now q) ≡ (longest field)) ⌝ }
+    requires { ⌜ ((k : ℕ) → getD (now x) k 0 ≡ 0) ⌝ }
+    requires { ⌜ ((k : ℕ) → getD (now y) k 0 ≡ 0) ⌝ }
+    requires { ⌜ length (now h) ≡ longest field ⌝ }
+    ensures { λ r. ⌜ r ≡ gcdDone (fieldAt field) (now (f .entry)) (now (g .entry)) ⌝ }
+    ensures { λ _. ⌜ now (h .exit) ≡ padded (longest field) (gcdOf (fieldAt field) (now (f .entry)) (now (g .entry))) ⌝ }
+{
+    let ended = find_last(field, whole, part, inverses, f, g, x, y, q);
+    let w = write_last(field, whole, part, inverses, ended.first, x, y, h);
+    let c = euclid_round::common_power(f, g);
+    Gcd::Done(w, c, Rounds(ended.rounds))
+}
+
+// The GCD where nothing is refused, with tables that are lent.
+fn gcd_with(
+    field: u8,
+    whole: &[u16],
+    part: &[u16],
+    inverses: &[u16],
+    f: &[u16],
+    g: &[u16],
+    h: &mut [u16],
+) -> Gcd
+    requires { ⌜ Tables (fieldAt field) (longest field) (now whole) (now part) ⌝ }
+    requires { ⌜ Ready (fieldAt field) (longest field) (now f) (now g) ⌝ }
+    requires { ⌜ length (now h) ≡ longest field ⌝ }
+    ensures { λ r. ⌜ r ≡ gcdDone (fieldAt field) (now (f .entry)) (now (g .entry)) ⌝ }
+    ensures { λ _. ⌜ now (h .exit) ≡ padded (longest field) (gcdOf (fieldAt field) (now (f .entry)) (now (g .entry))) ⌝ }
+{
+    let mut x = [0u16; refusal::MAX_WORDS];
+    let mut y = [0u16; refusal::MAX_WORDS];
+    let mut q = [0u16; refusal::MAX_WORDS];
+    gcd_between(
+        field,
+        whole,
+        part,
+        inverses,
+        f,
+        g,
+        &mut x,
+        &mut y,
+        &mut q,
+        h,
+    )
+}
+
+// The same in as much of three arrays of zeros as the longest list takes.
+fn gcd_between(
+    field: u8,
+    whole: &[u16],
+    part: &[u16],
+    inverses: &[u16],
+    f: &[u16],
+    g: &[u16],
+    x: &mut [u16],
+    y: &mut [u16],
+    q: &mut [u16],
+    h: &mut [u16],
+) -> Gcd
+    requires { ⌜ Tables (fieldAt field) (longest field) (now whole) (now part) ⌝ }
+    requires { ⌜ Ready (fieldAt field) (longest field) (now f) (now g) ⌝ }
+    requires { ⌜ (length (now x) ≡ maxWords) × (length (now y) ≡ maxWords) × (length (now q) ≡ maxWords) ⌝ }
+    requires { ⌜ ((k : ℕ) → getD (now x) k 0 ≡ 0) ⌝ }
+    requires { ⌜ ((k : ℕ) → getD (now y) k 0 ≡ 0) ⌝ }
+    requires { ⌜ length (now h) ≡ longest field ⌝ }
+    ensures { λ r. ⌜ r ≡ gcdDone (fieldAt field) (now (f .entry)) (now (g .entry)) ⌝ }
+    ensures { λ _. ⌜ now (h .exit) ≡ padded (longest field) (gcdOf (fieldAt field) (now (f .entry)) (now (g .entry))) ⌝ }
+{
+    let n = field::longest_of(field);
+    gcd_in(
+        field,
+        whole,
+        part,
+        inverses,
+        f,
+        g,
+        &mut x[..n],
+        &mut y[..n],
+        &mut q[..n],
+        h,
+    )
+}
+
+// The same with our own tables.
+fn gcd_into(field: u8, f: &[u16], g: &[u16], h: &mut [u16]) -> Gcd
+    requires { ⌜ Ready (fieldAt field) (longest field) (now f) (now g) ⌝ }
+    requires { ⌜ length (now h) ≡ longest field ⌝ }
+    ensures { λ r. ⌜ r ≡ gcdDone (fieldAt field) (now (f .entry)) (now (g .entry)) ⌝ }
+    ensures { λ _. ⌜ now (h .exit) ≡ padded (longest field) (gcdOf (fieldAt field) (now (f .entry)) (now (g .entry))) ⌝ }
+{
+    let whole = field_tables::factorials(field);
+    let part = field_tables::inverse_factorials(field);
+    let inverses = field_tables::inverses(field);
+    gcd_with(field, &whole, &part, &inverses, f, g, h)
+}

@@ -1,0 +1,9 @@
+-- A list in a longer slice.
+--     padded n c     the words of c, then zeros, up to n words: "zeros after word w"
+-- Assumes nothing.
+use mathlib.Core.List.{List, _++_}
+use Prim.Native.Nat.{ℕ, _-_}
+use lib.ListN.{length, replicate}
+
+unfoldable pub padded : ℕ → List ℕ → List ℕ
+padded n c = c ++ replicate (n - length c) 0

@@ -1,0 +1,69 @@
+// The steps of polynomial division on words: the division, and a product taken off. Each is total: where the slices' lengths do
+// not fit, nothing is written.
+ghost use mathlib.Core.Path.{_≡_};
+ghost use mathlib.Core.Bool.{cond};
+ghost use Prim.Native.Nat.{_+_, _≤_};
+ghost use lib.ListN.{length};
+ghost use Rattle.field.specs.Fields.{modulus};
+ghost use Rattle.word_division.specs.Reduction.{negated, reduced, digits, lessProduct, reduceFits, lessProductFits};
+
+// Division of x by y from the top: the quotient's words go to q, what is left stays in x. `inv` is the inverse of y's last word.
+pub fn reduce(field: u8, x: &mut [u16], y: &[u16], inv: u16, q: &mut [u16])
+    ensures left { λ _. ⌜ now (x .exit) ≡ cond (reduceFits (now (x .entry)) (now (y .entry)) (now (q .entry))) (reduced (modulus field) inv (now (y .entry)) (length (now (q .entry))) (now (x .entry))) (now (x .entry)) ⌝ }
+    ensures quotient { λ _. ⌜ now (q .exit) ≡ cond (reduceFits (now (x .entry)) (now (y .entry)) (now (q .entry))) (digits (modulus field) inv (now (y .entry)) (length (now (q .entry))) (now (x .entry))) (now (q .entry)) ⌝ }
+{
+    if y.len() == 0 {
+        return;
+    }
+    let d = y.len() - 1;
+    if x.len() < d {
+        return;
+    }
+    if x.len() - d != q.len() {
+        return;
+    }
+    reduce_in(field, x, y, inv, q);
+}
+
+// s less q times t, in as many words as s has.
+pub fn sub_product(field: u8, s: &mut [u16], q: &[u16], t: &[u16])
+    ensures { λ _. ⌜ now (s .exit) ≡ cond (lessProductFits (now (s .entry)) (now (q .entry))) (lessProduct (modulus field) (now (s .entry)) (now (q .entry)) (now (t .entry))) (now (s .entry)) ⌝ }
+{
+    if q.len() <= s.len() {
+        sub_product_in(field, s, q, t);
+    }
+}
+
+// The division, where the lengths fit.
+fn reduce_in(field: u8, x: &mut [u16], y: &[u16], inv: u16, q: &mut [u16])
+    requires { ⌜ (1 ≤ length (now y)) × (length (now x) + 1 ≡ length (now y) + length (now q)) ⌝ }
+    ensures left { λ _. ⌜ now (x .exit) ≡ reduced (modulus field) inv (now (y .entry)) (length (now (q .entry))) (now (x .entry)) ⌝ }
+    ensures quotient { λ _. ⌜ now (q .exit) ≡ digits (modulus field) inv (now (y .entry)) (length (now (q .entry))) (now (x .entry)) ⌝ }
+{
+    let d = y.len() - 1;
+    let mut k = q.len();
+    while 0 < k {
+        k -= 1;
+        let c = field::mul(field, x[d + k], inv);
+        q[k] = c;
+        word_row::add_row(field, &mut x[k..], negate(field, c), y);
+    }
+}
+
+// The product taken off, where the lengths fit.
+fn sub_product_in(field: u8, s: &mut [u16], q: &[u16], t: &[u16])
+    requires { ⌜ length (now q) ≤ length (now s) ⌝ }
+    ensures { λ _. ⌜ now (s .exit) ≡ lessProduct (modulus field) (now (s .entry)) (now (q .entry)) (now (t .entry)) ⌝ }
+{
+    let mut k = 0;
+    while k < q.len() {
+        word_row::add_row(field, &mut s[k..], negate(field, q[k]), t);
+        k += 1;
+    }
+}
+
+fn negate(field: u8, a: u16) -> u16
+    ensures { λ r. ⌜ r ≡ negated (modulus field) a ⌝ }
+{
+    field::sub(field, 0, a)
+}

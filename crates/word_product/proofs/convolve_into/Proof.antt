@@ -1,0 +1,40 @@
+-- `word_product::convolve_into` meets its contract: it lends arrays of zeros.
+-- Assumes nothing.
+use mathlib.Core.Path.{refl}
+use Prim.Native.Nat.{_+_, _*_}
+use Rattle.refusal.specs.Limits.{maxWords}
+use borrow.Author.Needs.{needs}
+use Rattle.word_product.proofs.Sums.{zeros-are}
+use Rattle.word_product.proofs.convolve_into.Statement.{statement}
+use Rattle.word_product.proofs.convolve_into.Tie as tie
+
+slice-aggregate-convolve-in : tie.Need-slice-aggregate-convolve-in
+slice-aggregate-convolve-in c = search needs
+
+slice-aggregate-convolve-in-2 : tie.Need-slice-aggregate-convolve-in-2
+slice-aggregate-convolve-in-2 c = search needs
+
+slice-aggregate-convolve-in-3 : tie.Need-slice-aggregate-convolve-in-3
+slice-aggregate-convolve-in-3 c = search needs
+
+convolve-in-requires : tie.Need-convolve-in-requires
+convolve-in-requires c κs =
+    let start = c .before .before .before .before .before .before .before in
+    (start .pre, ((refl, refl, refl), (zeros-are (maxWords + 8), zeros-are (maxWords + 16), zeros-are (2 * maxWords + 8))))
+
+same-length : tie.Need-same-length
+same-length c = search needs
+
+returns : tie.Need-returns
+returns c = search needs
+
+pub convolve-into-spec : {M : Type 1} → statement M
+convolve-into-spec =
+    tie.close
+    (tie.spec
+    slice-aggregate-convolve-in
+    slice-aggregate-convolve-in-2
+    slice-aggregate-convolve-in-3
+    convolve-in-requires
+    same-length
+    returns)

@@ -1,0 +1,89 @@
+// The row step on words: x plus m times y, by Montgomery's products.
+ghost use mathlib.Core.Path.{_≡_};
+ghost use Prim.Native.Nat.{ℕ, _+_, _-_, _*_, _%_, _<_, _≤_};
+ghost use lib.ListN.{length};
+ghost use Rattle.field.specs.Fields.{modulus};
+ghost use Rattle.word_row.specs.Rows.{row, Partway};
+ghost use Rattle.word_row.specs.Montgomery.{Modulus, Factor};
+
+// x plus m times y, as far as both reach: whole groups of 8 words by Montgomery's products, and the rest word by word.
+pub fn add_row(field: u8, x: &mut [u16], m: u16, y: &[u16])
+    ensures { λ _. ⌜ now (x .exit) ≡ row (modulus field) (now (x .entry)) m (now (y .entry)) ⌝ }
+{
+    let n = lists::smaller(x.len(), y.len());
+    let wide = n - n % 8;
+    montgomery_row(
+        x,
+        m,
+        y,
+        wide,
+        field::modulus_of(field),
+        field::word_inverse_of(field),
+        field::square_of(field),
+    );
+    add_rest(field, &mut x[wide..], m, &y[wide..]);
+}
+
+// x plus m times y word by word, for the fewer than 8 words at a row's end.
+fn add_rest(field: u8, x: &mut [u16], m: u16, y: &[u16])
+    ensures { λ _. ⌜ now (x .exit) ≡ row (modulus field) (now (x .entry)) m (now (y .entry)) ⌝ }
+{
+    let n = lists::smaller(x.len(), y.len());
+    let mut i = 0;
+    while i < n {
+        x[i] = field::add_mul(field, x[i], m, y[i]);
+        i += 1;
+    }
+}
+
+// The first n words of x gain m times y modulo p, by Montgomery's products: e is 1/p modulo 2^16, and square is 2^32 modulo p. Every
+// step of the loop stays in 16 bits, so that LLVM does 8 words at a time.
+fn montgomery_row(x: &mut [u16], m: u16, y: &[u16], n: usize, p: u16, e: u16, square: u16)
+    requires { ⌜ Modulus p e square ⌝ }
+    requires { ⌜ (n ≤ length (now x)) × (n ≤ length (now y)) ⌝ }
+    ensures { λ _. ⌜ Partway p (now (x .entry)) m (now (y .entry)) (now (x .exit)) n ⌝ }
+{
+    // m times 2^16. LLVM knows that it has 16 bits, since it is a difference of words; of a remainder by p it would not.
+    let g = add_product(0, m, square, word_montgomery::low_half(square, e), p);
+    let s = word_montgomery::low_half(g, e);
+    let mut j = 0;
+    while j < n {
+        x[j] = add_product(x[j], y[j], g, s, p);
+        j += 1;
+    }
+}
+
+// x plus m times y modulo p, where g is m times 2^16 modulo p, and s is g/p modulo 2^16. Modulo 2^16 y times g is y times s times p, so
+// the difference of their high halves is m times y. Each is compared with a word of its own: two high halves LLVM compares in 32 bits.
+fn add_product(x: u16, y: u16, g: u16, s: u16, p: u16) -> u16
+    requires { ⌜ (32768 ≤ p) × (g < p) ⌝ }
+    ensures { λ r. ⌜ ((e m : ℕ) → Factor p e m g s → r ≡ (x + m * y) % p) ⌝ }
+{
+    let less = word_montgomery::high_half(word_montgomery::low_half(y, s), p);
+    sub_below(
+        sub_below(once_reduced(x, p), less, p),
+        p - word_montgomery::high_half(y, g),
+        p,
+    )
+}
+
+// A word modulo p, where p is at least half of 2^16.
+fn once_reduced(a: u16, p: u16) -> u16
+    requires { ⌜ 32768 ≤ p ⌝ }
+    ensures { λ r. ⌜ r ≡ a % p ⌝ }
+{
+    if a < p { a } else { a - p }
+}
+
+// a less b modulo p.
+fn sub_below(a: u16, b: u16, p: u16) -> u16
+    requires { ⌜ (a < p) × (b ≤ p) ⌝ }
+    ensures { λ r. ⌜ r ≡ (a + (p - b)) % p ⌝ }
+{
+    let d = std::num::wrapping_sub_u16(a, b);
+    if a < b {
+        std::num::wrapping_add_u16(d, p)
+    } else {
+        d
+    }
+}

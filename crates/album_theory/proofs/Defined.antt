@@ -1,4 +1,8 @@
--- Laws: The h and the number of rounds that document 01 defines for an album, list by list, however they are computed.
+-- What `albumGcd` computes is the h and the rounds that document 01 defines.
+-- Theorems:
+--     album-is-the     the h and rounds of an album's GCD are those of the definition, where not all lists are zero
+--     album-only       the definition has no two
+--     album-lone       a lone list that is not zero takes 0 rounds
 -- Assumes nothing.
 use mathlib.Core.Path.{_≡_, refl, sym, _∙_, ap₂, subst}
 use mathlib.Core.List.{List, [], _∷_}

@@ -1,5 +1,9 @@
--- A list that is not zero, its top zeros removed and scaled to end in 1: its meaning is a constant times that of the list without its
--- top zeros.
+-- A list that is not zero, its top zeros removed and scaled to end in 1.
+--     scaled-ended, monic-ended                 its scaled form is that of the list, made monic
+--     length-ended, naive-ended, head-ended     it ends at its extent, in 1
+--     ended-divides                             in u it divides the list
+--     ended-meaning                             its meaning is a constant times that of the list without its top zeros
+--     bezout-ended                              so what divides the list and is not 0 at 1 divides it
 -- Assumes nothing.
 use mathlib.Core.Path.{_≡_, sym, _∙_, ap, ap₂, subst}
 use mathlib.Core.List.{List}

@@ -1,4 +1,10 @@
--- Laws: What ties a loop over the lists to the definition of the GCD of an album: a loop that starts from the zero list [0] at 0 rounds, and
+-- What ties a loop over the lists to the definition of an album's GCD.
+--     turn-zero, turn-nonzero             a turn at a zero list, and at another
+--     fold-none, fold-more, fold-drop     the loop before its first turn, and one turn on
+--     start-zero, start-rounds            from [0], a list that is not zero is ended, in no round
+--     start-listed, turn-listed           each result so far is a list that no call refuses
+-- Theorem:
+--     fold-album     from [0] the loop ends with the GCD of an album whose lists are not all zero
 -- Assumes nothing.
 use mathlib.Core.Path.{_≡_, refl, sym, _∙_, ap, ap₂}
 use mathlib.Core.List.{List, [], _∷_}

@@ -1,4 +1,12 @@
--- Laws: The GCD of an album whose lists are not all zero is the greatest common divisor of their polynomials: with c the common power,
+-- The GCD of an album whose lists are not all zero is the greatest common divisor of their polynomials: with c the common power,
+-- (1-t)^c·h divides each list, and every polynomial that divides them all divides it.
+--     from-zero, from-nonzero       the GCD from a result so far, at a zero list and at another
+--     album-zero, album-nonzero     the same of an album, at its first list
+-- Theorems:
+--     album-divides                              (1-t)^c·h divides each list
+--     album-greatest                             every polynomial that divides them all divides it
+--     album-is-greatest                          both
+--     album-length, album-extent, album-ends     h has naive degree w, which is its extent, and ends in 1
 -- Assumes nothing.
 use mathlib.Core.Path.{_≡_, refl, sym, _∙_, subst}
 use mathlib.Core.Logic.{_⊎_, inl, inr}

@@ -1,4 +1,10 @@
--- Laws: Binomial coefficients.
+-- Binomial coefficients, and that none of them is 0 modulo a prime above n.
+--     choose-zero, choose-0-suc, pascal     the clauses of the definition
+--     choose-above, choose-self             C(n, k) = 0 for k above n, and C(n, n) = 1
+--     choose-symmetric                      C(n, k) = C(n, n-k)
+--     absorb                                C(n, k+1) · (k+1) = C(n, k) · (n-k); absorb+ is the same without a difference
+--     choose-suc-suc, choose-suc            (k+1) · C(n+1, k+1) = (n+1) · C(n, k) = (n+1-k) · C(n+1, k)
+--     choose-nonzero                        modulo a prime above n none of C(n, 0), …, C(n, n) is 0
 -- Assumes nothing.
 use mathlib.Core.Path.{_≡_, refl, sym, _∙_, ap, ap₂}
 use Prim.Native.Nat.{ℕ, zero, suc, _+_, _*_, _-_, _%_, _≤_, _<_}

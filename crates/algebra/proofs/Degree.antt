@@ -1,4 +1,12 @@
--- Laws: The degree of a polynomial, and its number of coefficients.
+-- The degree of a polynomial, and its number of coefficients.
+--     degree-of, degree-unique     every polynomial but 0 has one degree
+--     degree-le                    a polynomial of degree d has no bound below d + 1
+--     degree-mul                   over a field the degrees of a product add
+--     size-yes, size-no            the size by the last coefficient, where it is 0 and where not
+--     size-extent, size-of         a size d + 1 is a degree d, and conversely
+--     size-below, size-least       the size is a bound, and no bound is below it
+--     size-zero                    of size 0: the zero polynomial
+--     size-same                    two bounds give one size
 -- Assumes nothing.
 use mathlib.Core.Path.{_≡_, _∙_, refl, sym, ap, subst}
 use mathlib.Core.Logic.{_⊎_, inl, inr}

@@ -1,4 +1,9 @@
--- Laws: The derivative of a series, and of a homogenisation.
+-- The derivative of a series, and of a homogenisation.
+--     multiple-add, multiple-neg, mul-multiple               the multiples n · a of a sum, a negative and a product
+--     multiple-residue                                       in Z/p, n · a is the residue of n times a
+--     derivative-add, derivative-C-mul, derivative-t-mul     the derivative of a sum, of c · s and of t · s
+-- Theorem:
+--     derivative-hom     the derivative of hom (n+1) s is hom n of the scaled derivative
 -- Assumes nothing.
 use mathlib.Core.Path.{_≡_, _∙_, refl, sym, ap, ap₂}
 use Prim.Native.Nat.{ℕ, zero, suc, _+_, _-_}

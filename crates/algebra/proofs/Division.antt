@@ -1,4 +1,12 @@
--- Laws: Division with remainder, as functions that compute: k steps, each of which clears one coefficient.
+-- Division with remainder.
+--     coeff-monomial-mul, coeff-monomial-mul-low     the coefficients of c · u^k · y
+--     step-below                                     a step clears one coefficient
+-- Theorems:
+--     division                                   x = quotient · y + remainder, for any x and y
+--     remainder-below                            with k steps for x of d + k coefficients, y of degree d, the remainder is below d
+--     mul-below                                  a multiple of y that is shorter than y is 0
+--     division-unique                            quotient and remainder are the only ones
+--     coeff-quotient-top, coeff-quotient-low     the quotient, from its last coefficient down
 -- Assumes nothing.
 use mathlib.Core.Path.{_≡_, _∙_, refl, sym, ap, ap₂, subst}
 use Prim.Native.Nat.{ℕ, zero, suc, _+_, _<_}

@@ -1,4 +1,11 @@
--- Laws: Euclid's algorithm as a function that computes, with its cofactors and its count of rounds.
+-- Euclid's algorithm.
+--     done-last, euclid-end, euclid-round     its clauses
+--     EuclidOk n x y z                        z is an answer on (x, y): the identity, the common divisor and the bounds
+-- Theorems:
+--     euclid-ok                    the algorithm is right
+--     euclid-fuel, euclid-room     more fuel, or more room, changes nothing
+--     round-law                    one round, with no fuel to count
+--     next-acc, done-acc           the cofactors as a loop carries them
 -- Assumes nothing.
 use mathlib.Core.Path.{_≡_, _∙_, refl, sym, ap, ap₂, subst}
 use Prim.Native.Nat.{ℕ, zero, suc, _-_, _≤_, _<_, max, zero-le}

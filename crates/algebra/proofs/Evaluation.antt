@@ -1,4 +1,8 @@
--- Laws: Values of polynomials.
+-- Values of polynomials.
+--     eval-add, eval-mul, …           the value of a sum, a product and the like
+--     eval-more                       coefficients beyond the bound add nothing
+--     valueAt-add, valueAt-mul, …     the same where the bound is not named
+--     value-at-1, valueAt1-unique     every polynomial has one value at 1
 -- Assumes nothing.
 use mathlib.Core.Path.{_≡_, _∙_, refl, sym, ap, ap₂, subst}
 use Prim.Native.Nat.{ℕ, zero, suc, _+_}

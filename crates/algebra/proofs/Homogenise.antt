@@ -1,4 +1,13 @@
--- Laws: Homogenisation: from a polynomial in u to one in t, with u = t / (1-t).
+-- Laws of homogenisation.
+--     C-add, C-mul, C-neg                        constants are added, multiplied and negated as the ring's elements
+--     hom-add, hom-neg, hom-C-mul, hom-t-mul     the homogenisation of a sum, a negative, c · s and u · s
+--     hom-more                                   a degree more is a factor 1-t more
+--     hom-mul                                    the product of homogenisations is that of the product, at the sum of the degrees
+--     hom-snoc                                   by the last coefficient and the rest
+--     hom-inj, hom-eq                            hom n is injective on the polynomials of degree at most n
+--     hom-strip, hom-short                       at a degree above that of s: the factors 1-t
+--     valueAt1-hom                               at t = 1 only coefficient n is left
+--     polynomial-hom                             a homogenisation is a polynomial
 -- Assumes nothing.
 use mathlib.Core.Path.{_≡_, _∙_, refl, sym, ap, ap₂, subst}
 use Prim.Native.Nat.{ℕ, zero, suc, _+_, _-_, _≤_}

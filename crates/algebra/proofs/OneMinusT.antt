@@ -1,4 +1,15 @@
--- Laws: The polynomial 1 - t, its powers, and the number of factors 1 - t of a polynomial.
+-- The polynomial 1 - t, its powers, and the number of factors 1 - t of a polynomial.
+--     over⟨1-t⟩ s     the series s / (1-t); coefficient k is s_0 + … + s_k
+--     Factor s        s = (1-t) · rest for a polynomial rest
+--     Split s         s = (1-t)^k · core with core(1) not 0: k is the exact number of factors 1-t of s, for the meaning of a list
+--                     its power
+-- Theorems:
+--     ⟨1-t⟩^-cancel             a factor (1-t)^n cancels
+--     factor                    the factor theorem at 1: where s(1) = 0, s is 1 - t times a polynomial
+--     split-off                 every polynomial but 0 is (1-t)^k · core with core(1) not 0
+--     split-unique              and k is one
+--     split-le                  where K divides L, L has at least as many factors 1-t as K
+--     divides-without-⟨1-t⟩     a divisor of (1-t)^N · h that is not 0 at 1 divides h
 -- Assumes nothing.
 use mathlib.Core.Path.{_≡_, _∙_, refl, sym, ap, subst}
 use mathlib.Core.Logic.{_⊎_, inl, inr}

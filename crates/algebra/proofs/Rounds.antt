@@ -1,4 +1,7 @@
--- Laws: The rounds of Euclid's algorithm as a relation, which fixes their number.
+-- The rounds of Euclid's algorithm.
+-- Theorems:
+--     rounds-unique     from a pair there is one number of rounds, and one last x
+--     euclid-rounds     they are those that the function euclid counts
 -- Assumes nothing.
 use mathlib.Core.Path.{_≡_, _∙_, refl, sym, ap, subst}
 use Prim.Native.Nat.{ℕ, zero, suc, _-_, _≤_}

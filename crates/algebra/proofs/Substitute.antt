@@ -1,4 +1,6 @@
--- Laws: Powers of 1 + u, and degree elevation.
+-- Powers of 1 + u, and degree elevation.
+--     below-pow     the n-th power of a polynomial of degree at most 1 has degree at most n
+--     elevate       degree elevation: (1+u)^j · s at degree j + n homogenises as s at degree n
 -- Assumes nothing.
 use mathlib.Core.Path.{_≡_, _∙_, sym, ap, ap₂, subst}
 use Prim.Native.Nat.{ℕ, zero, suc, _+_}

@@ -1,4 +1,9 @@
--- Laws: Finite sums, of series and in a ring.
+-- Laws of finite sums, and what series are as sums.
+--     term n s k     s_k · t^k · (1-t)^(n-k)
+-- Theorems:
+--     hom-sum           the homogenisation as a sum, as document 01 writes P(t)
+--     coeff-product     coefficient n of a product is the sum of a_j · b_(n-j)
+--     valueAt-sum       the value of a sum is the sum of the values
 -- Assumes nothing.
 use mathlib.Core.Path.{_≡_, _∙_, refl, sym, ap, ap₂}
 use Prim.Native.Nat.{ℕ, zero, suc, _-_, _<_, suc-le-suc}

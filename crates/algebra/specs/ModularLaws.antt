@@ -1,4 +1,12 @@
--- Laws: The numbers modulo p, a commutative ring; for a prime p, a field.
+-- The laws of Z/p that make it a field for a prime p.
+--     valueMod-lt                                        the number that is an element is below p
+--     valueMod-residueMod, residueMod-valueMod           residue and number undo each other
+--     residueMod-eq, residueMod-injective                two numbers have one residue where they leave the same remainder by p, and
+--                                                        only there
+--     residueMod-add, residueMod-mul, residueMod-neg     the residue of a sum, a product and a negative is that of the residues
+--     euclid-inverts                                     where only 1 divides both numbers, Euclid's steps end with the inverse
+--     mul-inverse-in                                     a times its inverse is 1, for each a but 0
+--     one≢zero                                           1 is not 0
 -- Assumes nothing.
 use mathlib.Core.Path.{_≡_, refl, sym, _∙_, ap, subst}
 use mathlib.Core.Logic.{_⊎_, inl, inr}

@@ -1,4 +1,15 @@
--- Laws: Commutative rings and fields.
+-- The laws of commutative rings that the definitions of further rings need, each over any ring, and the rules for `simp`.
+--     add-assoc, …                          the ring's own laws, as lemmas over the ring, as a ruleset takes them
+--     neg-unique                            what added to a gives 0 is -a
+--     add-left-cancel, add-right-cancel     a term on both sides cancels
+--     eq-of-sub, sub-of-eq                  a = b where a - b = 0, and conversely
+--     move                                  a = c - b where a + b = c
+--     RING                                  the rules that bring both sides of an equation of a ring to one form: `simp RING`
+--     AC                                    associativity and commutativity alone
+--     CANCEL                                a term and its negative that do not stand side by side
+--     pow-add, pow-mul                      the laws of exponents
+--     mul-left-cancel                       in a field a factor that is not 0 cancels
+--     zero-of-mul                           in a field, where a·b = 0 and a is not 0, b is 0
 -- Assumes nothing.
 use mathlib.Core.Path.{_≡_, refl, sym, _∙_, ap}
 use Prim.Native.Nat as ℕ·

@@ -1,4 +1,8 @@
 -- The tables of factorials and of their inverses: one test over each, computed, makes its entries those of the definition.
+--     rightFactorials p l     entry 0 is 1, and each entry times the number of the next is the next
+--     rightInverses p l       the same of inverses, the other way round
+-- Theorems:
+--     factorials-hold, inverses-hold     a table that passes holds the factorials, or their inverses
 -- Assumes nothing.
 use mathlib.Core.Path.{_≡_, sym, ap, ap₂, _∙_, subst}
 use mathlib.Core.Bool.{Bool, true, _&&_}

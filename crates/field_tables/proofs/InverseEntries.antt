@@ -1,4 +1,7 @@
 -- A table of inverses: one test over its entries, computed, makes it the table of the definition.
+--     rightTable p l     entry 0 is 0, k times entry k leaves 1 modulo p, and the table ends before p
+-- Theorem:
+--     table-is     a table that passes is `inverseTable`
 -- Assumes nothing.
 use mathlib.Core.Path.{_≡_, refl, sym, ap, ap₂, _∙_, subst}
 use mathlib.Core.Bool.{Bool, true, false, _&&_}

@@ -1,4 +1,6 @@
 -- Factorials in the field, from one to the next.
+--     factorial-start, factorial-next     0! = 1, and (k+1)! = k! · (k+1)
+--     factorial-nonzero                   k! is not 0 for k below p
 -- Assumes nothing.
 use mathlib.Core.Path.{_≡_, sym, ap, _∙_}
 use Prim.Native.Nat.{ℕ, zero, suc, _<_}

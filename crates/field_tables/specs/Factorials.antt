@@ -1,9 +1,11 @@
--- Tables of factorials modulo p.
---     factorial                            k!
---     factorialIn, inverseFactorialIn      k! and 1/k! as elements of the field
---     Holds F n f table                    the table has at least n entries, and the first n stand for f 0, f 1, …, f (n - 1)
---     Tables F n whole part                whole holds the factorials of 0 to n - 1, and part their inverses
---     choose-factorials                    C(k+m, k) · k! · m! = (k+m)!
+-- Factorials, and tables of them modulo p.
+--     factorial k                k!
+--     factorialIn F k            k! as an element of the field
+--     inverseFactorialIn F k     1/k! as an element of the field
+--     Holds F n f table          the table has at least n entries, and the first n stand for f 0, f 1, …, f (n - 1)
+--     Tables F n whole part      whole holds the factorials of 0 to n - 1, and part their inverses
+-- Theorems:
+--     choose-factorials     C(k+m, k) · k! · m! = (k+m)!
 -- Assumes nothing.
 use mathlib.Core.Path.{_≡_, refl, ap, _∙_}
 use mathlib.Core.List.{List}

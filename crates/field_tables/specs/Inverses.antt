@@ -1,6 +1,10 @@
 -- The table of inverses.
---     inverseTable n F    0, then the inverses of 1, …, n
---     table-length, table-entry, table-rule     it has n + 1 entries, entry k the inverse of k, and k times entry k leaves 1 modulo p
+--     inversesFrom k n F     the inverses of the n numbers k, k + 1, …
+--     inverseTable n F       0, then the inverses of 1, …, n
+-- Theorems:
+--     table-length     it has n + 1 entries
+--     table-entry      entry k is the inverse of k
+--     table-rule       k times entry k leaves 1 modulo p
 -- Assumes nothing.
 use mathlib.Core.Path.{_≡_, refl, ap, _∙_}
 use mathlib.Core.List.{List, [], _∷_}

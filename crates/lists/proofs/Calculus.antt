@@ -1,5 +1,7 @@
--- The derivative of a list means the derivative, and a list is evaluated to the value of its meaning.
---     derivative-meaning, evaluate-meaning      the theorems
+-- The derivative of a list, and its value at a word.
+-- Theorems:
+--     derivative-meaning     the derivative means the derivative of the meaning
+--     evaluate-meaning       the value at x is that of the meaning
 -- Assumes nothing.
 use mathlib.Core.Path.{_≡_, refl, sym, _∙_, ap, ap₂}
 use mathlib.Core.Bool.{cond}

@@ -1,4 +1,7 @@
--- What a call refuses in its lists, as the chain of tests that the code makes, and what a call that refuses nothing knows of them.
+-- What a call refuses in its lists, and what a call that refuses nothing knows of them.
+--     judged                     the lowest number that applies, as the chain of tests that the code makes
+--     one-listed, two-listed     the lists of a call that refuses nothing have 1 to `most` words, each below p
+--     one-passes                 such a list is not refused
 -- Assumes nothing.
 use mathlib.Core.Path.{_≡_, sym, _∙_}
 use mathlib.Core.Bool.{false}

@@ -1,4 +1,11 @@
--- Laws: The product of two lists, and a list raised to a higher naive degree.
+-- The product of two lists, and a list raised to a higher naive degree.
+--     ones n               the list of n + 1 ones, which means 1
+--     product-unscaled     formula (6) is the product of the scaled forms
+--     raise-product        formula (4) is the product with a list of ones
+-- Theorems:
+--     product-meaning     the product means the product
+--     raise-meaning       the raised list means the same
+--     raise-same          a list raised to its own naive degree is itself
 -- Assumes nothing.
 use mathlib.Core.Path.{_≡_, refl, sym, _∙_, ap, ap₂}
 use mathlib.Core.List.{List}

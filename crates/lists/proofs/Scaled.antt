@@ -1,8 +1,15 @@
--- Laws of the scaled form of a list, and of the list that has a given scaled form. At naive degree n the meaning is the scaled form
+-- The scaled form of a list, and the list that has a given scaled form. At naive degree n the meaning is the scaled form
 -- homogenised, so a list is known by its length with its scaled form, or with its meaning.
---     meaning-hom                              the meaning is the scaled form, homogenised
---     scaled-unscaled, unscaled-scaled         the list of a scaled form, and the scaled form of a list, each undo the other
---     scaled-injective, meaning-injective      two lists of one length with one scaled form, or with one meaning, are equal word for word
+--     coefficients, coefficients-listed         when words are coefficients; those of a list that no call refuses are
+--     binomial-nonzero                          no binomial coefficient of a list of at most p words is 0 in the field
+--     coefficient-zero, coefficient-nonzero     a coefficient of the scaled form is 0 where its word is, and only there
+--     coeff-scaled, below-scaled                the coefficients of the scaled form, and its bound
+-- Theorems:
+--     meaning-hom                          the meaning is the scaled form, homogenised
+--     scaled-unscaled, unscaled-scaled     the list of a scaled form, and the scaled form of a list, undo each other
+--     scaled-injective                     two lists of one length with one scaled form are equal
+--     meaning-injective                    two lists of one naive degree with one meaning are equal word for word
+--     meaning-unscaled                     a list of n + 1 words means its scaled form, homogenised at n
 -- Assumes nothing.
 use mathlib.Core.Path.{_≡_, sym, _∙_, ap, ap₂, subst}
 use mathlib.Core.List.{List, [], _∷_}

@@ -1,6 +1,7 @@
--- The sum and the difference of two lists mean the sum and the difference.
---     sum-meaning, difference-meaning      the theorems
--- Both come from one argument: the list of f plus s times g, s being 1 or -1.
+-- The sum and the difference of two lists, by one argument: the list of f plus s times g, s being 1 or -1.
+-- Theorems:
+--     sum-meaning            the sum means the sum
+--     difference-meaning     the difference means the difference
 -- Assumes nothing.
 use mathlib.Core.Path.{_≡_, sym, _∙_, ap, ap₂}
 use mathlib.Core.List.{List}

@@ -1,5 +1,7 @@
 -- The top zeros removed: the same scaled form at the least naive degree, so the meaning loses its factors 1-t.
---     trim-scaled, trim-meaning      the theorems
+-- Theorems:
+--     trim-scaled      the scaled form is the same
+--     trim-meaning     the meaning is (1-t)^power times that of the trimmed list
 -- Assumes nothing.
 use mathlib.Core.Path.{_≡_, sym, _∙_, ap, ap₂}
 use mathlib.Core.List.{List}

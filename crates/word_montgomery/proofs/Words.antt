@@ -1,8 +1,8 @@
 -- Words of 16 bits modulo p.
---     remainder              what is below p and differs by multiples of p is the remainder
---     high-below             the high half of a product with a number below p is below p
---     sub-less, sub-more     a difference modulo p, where it goes below 0 and where it does not
---     below-zero, not-below  the same by differences that wrap
+--     remainder                 what is below p and differs by multiples of p is the remainder
+--     high-below                the high half of a product with a number below p is below p
+--     sub-less, sub-more        a difference modulo p, where it goes below 0 and where it does not
+--     below-zero, not-below     the same by differences that wrap
 -- Assumes nothing.
 use mathlib.Core.Path.{_≡_, sym, _∙_}
 use Prim.Native.Nat.{ℕ, _+_, _-_, _*_, _/_, _%_, _<_, _≤_}

@@ -1,9 +1,10 @@
 -- Montgomery's product of words of 16 bits, modulo an odd p.
---     montgomery p e x y      x · y / 2^16 modulo p, where e is 1/p modulo 2^16: the high half of x · y, less that of the multiple of p
---                             whose low half is the same
---     montgomery-rule         2^16 times it is x · y modulo p
---     montgomery-below        it is below p
---     same                    numbers that differ by multiples of p leave the same remainder
+--     multiplier e x y       the factor of the multiple of p whose low half is that of x · y, where e is 1/p modulo 2^16
+--     montgomery p e x y     x · y / 2^16 modulo p: the high half of x · y, less that of this multiple
+-- Theorems:
+--     montgomery-rule      2^16 times it is x · y modulo p
+--     montgomery-below     it is below p
+--     same                 numbers that differ by multiples of p leave the same remainder
 -- Assumes nothing.
 use mathlib.Core.Path.{_≡_, sym, ap, _∙_}
 use Prim.Native.Nat.{ℕ, _+_, _-_, _*_, _/_, _%_, _<_, _≤_}

@@ -1,4 +1,8 @@
 -- The product in whole numbers, reduced, is the product of the series.
+--     length-remainders, getD-remainders     the first n words, reduced
+-- Theorems:
+--     convolution-is     the words of the product in whole numbers, reduced, are those of the product of the series
+--     convolve-is        what is written where the lengths fit
 -- Assumes nothing.
 use mathlib.Core.Path.{_≡_, sym, ap, ap₂, _∙_}
 use mathlib.Core.Bool.{cond}

@@ -1,4 +1,10 @@
 -- Karatsuba's product in whole numbers: the sums of the rows of the halves make those of the whole.
+--     Products s                           s holds the three products, one after the other
+--     whole-low, whole-mid, whole-high     the words of the whole product by those of the halves
+--     cross-end                            from word 2 h on a0 b1 + a1 b0 is 0
+-- Theorems:
+--     join-is     the three products, joined, are the product of the whole factors
+--     enough      what is taken away is there
 -- Assumes nothing.
 use mathlib.Core.Path.{_≡_, refl, sym, ap, ap₂, subst, _∙_}
 use mathlib.Core.List.{List}

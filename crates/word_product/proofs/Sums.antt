@@ -1,4 +1,8 @@
--- Sums of rows: one row more, rows that add nothing, and how large a sum becomes.
+-- Sums of rows.
+--     sum-none, sum-next     no row, and one more
+--     sum-more, sum-past     rows that add nothing
+--     sum-le                 how large a sum becomes
+--     sum-ext                factors with the same words have the same sums
 -- Assumes nothing.
 use mathlib.Core.Path.{_≡_, refl, ap, ap₂, _∙_}
 use mathlib.Core.List.{List}

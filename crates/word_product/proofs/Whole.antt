@@ -1,4 +1,10 @@
 -- The product in whole numbers, by rows or by Karatsuba's way: what the loops ask, and what they have made in the end.
+--     whole-factors, whole-strip, whole-sum         one product: its factors are small and stand between zeros
+--     half-factors, half-strip                      the same of the three products of halves
+--     halves-enough, halves-small, halves-whole     their sums, and what joins them
+--     blocks-fit                                    the blocks fit the buffers, however the factors are cut
+-- Theorem:
+--     whole-is     what the loops have made in the end is the product
 -- Assumes nothing.
 use mathlib.Core.Path.{_≡_, sym, ap, _∙_}
 use mathlib.Core.Bool.{cond}

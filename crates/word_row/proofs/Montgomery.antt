@@ -1,10 +1,11 @@
 -- Montgomery's products on words: the difference of two high halves is a product modulo p.
---     once                   one subtraction of p reduces a word
---     product-halves         with the constants of m, the high half of y · g less that of (y · s modulo 2^16) · p is m · y
---     added                  the word that a row's turn stores
---     square-factor          the constants of 2^16 itself
---     lifted-factor          those of m, from a product with them
---     factor-below           g is below p
+--     once               one subtraction of p reduces a word
+--     product-halves     with the constants of m, the high half of y · g less that of (y · s modulo 2^16) · p is m · y
+--     added              the word that a row's turn stores
+--     square-factor      the constants of 2^16 itself
+--     lifted-factor      those of m, from a product with them
+--     factor-below       g is below p
+--     modulus-at         the constants of a field
 -- Assumes nothing.
 use mathlib.Core.Path.{_≡_, sym, ap, _∙_}
 use Prim.Native.Nat.{ℕ, _+_, _-_, _*_, _/_, _%_, _<_, _≤_}

@@ -1,4 +1,8 @@
 -- Montgomery's products as products in the field.
+--     Constants p e u w     e is 1/p modulo 2^16, u is 1/2^16 modulo p, and w is 2^64 modulo p
+--     part-of k             1/2^16 modulo p of field k
+--     constants             field k has these constants
+--     product-of-four       the product of four words, by Montgomery's products of each and the one before
 -- Assumes nothing.
 use mathlib.Core.Path.{_≡_, refl, sym, ap, _∙_, subst}
 use Prim.Native.Nat.{ℕ, zero, suc, _*_, _%_}

@@ -1,4 +1,8 @@
--- Binomial coefficients and their inverses by factorials, and the words that the factorials make of a list and of a scaled form.
+-- Binomial coefficients by factorials, and the words that the factorials make of a list and of a scaled form.
+--     factorial-quotient       n! / (k! (n-k)!) = C(n,k)
+--     inverse-quotient         its inverse
+--     unscaled-is              the words of a scaled form, weighed, are the list that has it
+--     scale-is, unscale-is     what is written where the lengths fit
 -- Assumes nothing.
 use mathlib.Core.Path.{_≡_, refl, sym, ap, _∙_}
 use mathlib.Core.Bool.{true, cond}

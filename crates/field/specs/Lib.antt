@@ -1,2 +1,3 @@
-pub mod Field
 pub mod Fields
+pub mod Field
+pub mod Calls

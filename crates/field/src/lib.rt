@@ -1,11 +1,10 @@
 // The fields on words of 16 bits: sum, difference and product, and the constants of each field.
 ghost use mathlib.Core.Path.{_≡_};
-ghost use mathlib.Core.List.{[], _∷_};
 ghost use Prim.Native.Nat.{_+_, _-_, _*_, _%_};
-ghost use Rattle.refusal.specs.Refusal.{reply};
 ghost use Rattle.refusal.specs.Lowest.{lowest};
-ghost use Rattle.field.specs.Field.{wordReply, operandRefusals, sumOf, differenceOf, productOf};
-ghost use Rattle.field.specs.Fields.{p, modulus, longest, wordInverse, square, fourth};
+ghost use Rattle.field.specs.Field.{wordReply, operandRefusals};
+ghost use Rattle.field.specs.Calls.{wordSumAnswer, wordDifferenceAnswer, wordProductAnswer};
+ghost use Rattle.field.specs.Fields.{modulus, longest, wordInverse, square, fourth};
 use refusal::Outcome;
 use refusal::Refusal;
 
@@ -15,27 +14,9 @@ pub enum Word {
     Refused(Refusal),
 }
 
-pub fn sum(a: u16, b: u16) -> Word
-    ensures answer { λ r. ⌜ wordReply r ≡ reply (lowest (operandRefusals p a b)) (sumOf p a b ∷ []) ⌝ }
-{
-    sum_over(0, a, b)
-}
-
-pub fn difference(a: u16, b: u16) -> Word
-    ensures answer { λ r. ⌜ wordReply r ≡ reply (lowest (operandRefusals p a b)) (differenceOf p a b ∷ []) ⌝ }
-{
-    difference_over(0, a, b)
-}
-
-pub fn product(a: u16, b: u16) -> Word
-    ensures answer { λ r. ⌜ wordReply r ≡ reply (lowest (operandRefusals p a b)) (productOf p a b ∷ []) ⌝ }
-{
-    product_over(0, a, b)
-}
-
-// The same over a field.
+// Sum, difference and product of two coefficients.
 pub fn sum_over(field: u8, a: u16, b: u16) -> Word
-    ensures answer { λ r. ⌜ wordReply r ≡ reply (lowest (operandRefusals (modulus field) a b)) (sumOf (modulus field) a b ∷ []) ⌝ }
+    ensures answer { λ r. ⌜ wordReply r ≡ wordSumAnswer field a b ⌝ }
 {
     if let Outcome::Refused(why) = judge_operands(field, a, b) {
         return Word::Refused(why);
@@ -44,7 +25,7 @@ pub fn sum_over(field: u8, a: u16, b: u16) -> Word
 }
 
 pub fn difference_over(field: u8, a: u16, b: u16) -> Word
-    ensures answer { λ r. ⌜ wordReply r ≡ reply (lowest (operandRefusals (modulus field) a b)) (differenceOf (modulus field) a b ∷ []) ⌝ }
+    ensures answer { λ r. ⌜ wordReply r ≡ wordDifferenceAnswer field a b ⌝ }
 {
     if let Outcome::Refused(why) = judge_operands(field, a, b) {
         return Word::Refused(why);
@@ -53,7 +34,7 @@ pub fn difference_over(field: u8, a: u16, b: u16) -> Word
 }
 
 pub fn product_over(field: u8, a: u16, b: u16) -> Word
-    ensures answer { λ r. ⌜ wordReply r ≡ reply (lowest (operandRefusals (modulus field) a b)) (productOf (modulus field) a b ∷ []) ⌝ }
+    ensures answer { λ r. ⌜ wordReply r ≡ wordProductAnswer field a b ⌝ }
 {
     if let Outcome::Refused(why) = judge_operands(field, a, b) {
         return Word::Refused(why);

@@ -1,15 +1,18 @@
 -- What derivative refuses: the rows of document 01's table for the call. f is the list that the call is handed, out what the result slice
 -- holds on entry.
 --     derivativeWords                        the number of words of a derivative: n, and 1 for n = 0
---     derivativeRows, derivativeRefusals     of derivative
+--     derivativeRows     of derivative
+--     derivativeAnswer, derivativeWritten     what a derivative answers, and what its slice holds at the end
 -- Assumes nothing.
 use mathlib.Core.Bool.{not}
 use mathlib.Core.List.{List, [], _∷_, _++_}
 use Prim.Native.Nat.{ℕ, max}
 use lib.Dec.{eqb}
 use lib.ListN.{length}
-use Rattle.refusal.specs.Limits.{maxWords}
-use Rattle.refusal.specs.Lowest.{Condition, _given-when_}
+use Rattle.refusal.specs.Refusal.{Reply, reply, written}
+use Rattle.field.specs.Fields.{modulus, fieldAt, longest}
+use Rattle.lists.specs.Operations.{derivative}
+use Rattle.refusal.specs.Lowest.{Condition, _given-when_, lowest}
 use Rattle.refusal.specs.declared.Refusal.the-variants.{Misfit}
 use Rattle.lists.specs.Degrees.{naiveDegree}
 use Rattle.lists.specs.Refused.{listRefusals}
@@ -23,5 +26,9 @@ derivativeRows p most f out =
     (Misfit given-when not (eqb (length out) (derivativeWords f)) ∷
     [])
 
-unfoldable pub derivativeRefusals : ℕ → (f out : List ℕ) → List Condition
-derivativeRefusals p f out = derivativeRows p maxWords f out
+-- what a derivative answers and writes, over field k
+abbrev pub derivativeAnswer : (k : ℕ) → (f out : List ℕ) → Reply
+derivativeAnswer k f out = reply (lowest (derivativeRows (modulus k) (longest k) f out)) []
+
+abbrev pub derivativeWritten : (k : ℕ) → (f out : List ℕ) → List ℕ
+derivativeWritten k f out = written (lowest (derivativeRows (modulus k) (longest k) f out)) (derivative (fieldAt k) f) out

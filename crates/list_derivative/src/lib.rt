@@ -1,29 +1,21 @@
 // The derivative of a list.
 ghost use mathlib.Core.Path.{_≡_};
-ghost use mathlib.Core.List.{[]};
 ghost use Prim.Native.Nat.{_+_, _≤_, _<_};
 ghost use lib.ListN.{length};
-ghost use Rattle.field.specs.Fields.{F65521, p, modulus, fieldAt, longest};
-ghost use Rattle.refusal.specs.Refusal.{reply, outcomeReply, written};
+ghost use Rattle.refusal.specs.Contract.{given, final};
+ghost use Rattle.field.specs.Fields.{modulus, fieldAt, longest};
+ghost use Rattle.refusal.specs.Refusal.{outcomeReply};
 ghost use Rattle.refusal.specs.Lowest.{lowest};
 ghost use Rattle.lists.specs.Operations as of;
-ghost use Rattle.list_derivative.specs.Calls.{derivativeRows, derivativeRefusals};
+ghost use Rattle.list_derivative.specs.Calls.{derivativeRows, derivativeAnswer, derivativeWritten};
 ghost use Rattle.list_derivative.specs.Internal.{DerivativeFits};
 use refusal::Outcome;
 use refusal::Refusal;
 
-// The derivative of f: of n words, and [0] for n = 0.
-pub fn derivative(f: &[u16], out: &mut [u16]) -> Outcome
-    ensures answer { λ r. ⌜ outcomeReply r ≡ reply (lowest (derivativeRefusals p (now (f .entry)) (now (out .entry)))) [] ⌝ }
-    ensures writes { λ _. ⌜ now (out .exit) ≡ written (lowest (derivativeRefusals p (now (f .entry)) (now (out .entry)))) (of.derivative F65521 (now (f .entry))) (now (out .entry)) ⌝ }
-{
-    derivative_over(0, f, out)
-}
-
 // The same over a field.
 pub fn derivative_over(field: u8, f: &[u16], out: &mut [u16]) -> Outcome
-    ensures answer { λ r. ⌜ outcomeReply r ≡ reply (lowest (derivativeRows (modulus field) (longest field) (now (f .entry)) (now (out .entry)))) [] ⌝ }
-    ensures writes { λ _. ⌜ now (out .exit) ≡ written (lowest (derivativeRows (modulus field) (longest field) (now (f .entry)) (now (out .entry)))) (of.derivative (fieldAt field) (now (f .entry))) (now (out .entry)) ⌝ }
+    ensures answer { λ r. ⌜ outcomeReply r ≡ derivativeAnswer field (given f) (given out) ⌝ }
+    ensures writes { λ _. ⌜ final out ≡ derivativeWritten field (given f) (given out) ⌝ }
 {
     let answer = judge_derivative(field, f, out);
     if let Outcome::Done = answer {
@@ -34,7 +26,7 @@ pub fn derivative_over(field: u8, f: &[u16], out: &mut [u16]) -> Outcome
 
 // What a derivative refuses.
 fn judge_derivative(field: u8, f: &[u16], out: &[u16]) -> Outcome
-    ensures { λ r. ⌜ r ≡ lowest (derivativeRows (modulus field) (longest field) (now (f .entry)) (now (out .entry))) ⌝ }
+    ensures { λ r. ⌜ r ≡ lowest (derivativeRows (modulus field) (longest field) (given f) (given out)) ⌝ }
 {
     if let Outcome::Refused(why) = lists::judge_list(field, f) {
         return Outcome::Refused(why);
@@ -48,7 +40,7 @@ fn judge_derivative(field: u8, f: &[u16], out: &[u16]) -> Outcome
 // n times the difference of each word of f to the next.
 fn differences(field: u8, f: &[u16], out: &mut [u16])
     requires { ⌜ (0 < length (now out)) × (length (now f) ≡ length (now out) + 1) × (length (now f) ≤ longest field) ⌝ }
-    ensures { λ _. ⌜ now (out .exit) ≡ of.derivative (fieldAt field) (now (f .entry)) ⌝ }
+    ensures { λ _. ⌜ final out ≡ of.derivative (fieldAt field) (given f) ⌝ }
 {
     let n = out.len();
     let mut k = 0;
@@ -62,7 +54,7 @@ fn differences(field: u8, f: &[u16], out: &mut [u16])
 
 fn derivative_into(field: u8, f: &[u16], out: &mut [u16])
     requires { ⌜ DerivativeFits (longest field) (now f) (now out) ⌝ }
-    ensures { λ _. ⌜ now (out .exit) ≡ of.derivative (fieldAt field) (now (f .entry)) ⌝ }
+    ensures { λ _. ⌜ final out ≡ of.derivative (fieldAt field) (given f) ⌝ }
 {
     if f.len() == 1 {
         out[0] = 0;

@@ -2,17 +2,20 @@
 -- the result slice holds on entry.
 --     extentReply                    what an extent's answer says: the extent, or no value for a zero list
 --     extentValues                   the extent of a list that is not zero; a zero list has none
---     extentRows, extentRefusals     of extent
---     trimRows, trimRefusals         all zero (9) where the list is zero; the result has the extent plus 1 words
+--     extentRows     of extent
+--     trimRows         all zero (9) where the list is zero; the result has the extent plus 1 words
+--     extentAnswer                   what a search for the extent answers
+--     trimAnswer, trimWritten        what a trim answers, and what its slice holds at the end
 -- Assumes nothing.
 use mathlib.Core.Bool.{cond, not}
 use mathlib.Core.List.{List, [], _∷_, _++_}
 use Prim.Native.Nat.{ℕ}
 use lib.Dec.{eqb}
 use lib.ListN.{length}
-use Rattle.refusal.specs.Limits.{maxWords}
-use Rattle.refusal.specs.Refusal.{Reply, number}
-use Rattle.refusal.specs.Lowest.{Condition, _given-when_}
+use Rattle.refusal.specs.Refusal.{Reply, number, reply, written}
+use Rattle.field.specs.Fields.{modulus, fieldAt, longest}
+use Rattle.lists.specs.Operations.{trim}
+use Rattle.refusal.specs.Lowest.{Condition, _given-when_, lowest}
 use Rattle.refusal.specs.declared.Refusal.the-variants.{AllZero, Misfit}
 use Rattle.lists.specs.Degrees.{significant, extent}
 use Rattle.lists.specs.Refused.{listRefusals}
@@ -30,9 +33,6 @@ extentValues f = cond (eqb (significant f) 0) [] (extent f ∷ [])
 unfoldable pub extentRows : (p most : ℕ) → List ℕ → List Condition
 extentRows p most f = listRefusals p most (f ∷ [])
 
-unfoldable pub extentRefusals : ℕ → List ℕ → List Condition
-extentRefusals p f = extentRows p maxWords f
-
 unfoldable pub trimRows : (p most : ℕ) → (f out : List ℕ) → List Condition
 trimRows p most f out =
     listRefusals p most (f ∷ []) ++
@@ -40,5 +40,13 @@ trimRows p most f out =
     Misfit given-when not (eqb (length out) (significant f)) ∷
     [])
 
-unfoldable pub trimRefusals : ℕ → (f out : List ℕ) → List Condition
-trimRefusals p f out = trimRows p maxWords f out
+-- what a search for the extent answers, over field k
+abbrev pub extentAnswer : (k : ℕ) → List ℕ → Reply
+extentAnswer k f = reply (lowest (extentRows (modulus k) (longest k) f)) (extentValues f)
+
+-- what a trim answers and writes
+abbrev pub trimAnswer : (k : ℕ) → (f out : List ℕ) → Reply
+trimAnswer k f out = reply (lowest (trimRows (modulus k) (longest k) f out)) []
+
+abbrev pub trimWritten : (k : ℕ) → (f out : List ℕ) → List ℕ
+trimWritten k f out = written (lowest (trimRows (modulus k) (longest k) f out)) (trim (fieldAt k) f) out

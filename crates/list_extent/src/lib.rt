@@ -1,13 +1,13 @@
 // The extent of a list, and a list with its top zeros removed.
 ghost use mathlib.Core.Path.{_≡_};
-ghost use mathlib.Core.List.{[]};
 ghost use lib.ListN.{length};
-ghost use Rattle.field.specs.Fields.{F65521, p, modulus, fieldAt, longest};
-ghost use Rattle.refusal.specs.Refusal.{reply, outcomeReply, written};
+ghost use Rattle.refusal.specs.Contract.{given, final};
+ghost use Rattle.field.specs.Fields.{modulus, fieldAt, longest};
+ghost use Rattle.refusal.specs.Refusal.{outcomeReply};
 ghost use Rattle.refusal.specs.Lowest.{lowest};
 ghost use Rattle.lists.specs.Operations as of;
 ghost use Rattle.field_tables.specs.Factorials.{Tables};
-ghost use Rattle.list_extent.specs.Calls.{extentReply, extentValues, extentRows, extentRefusals, trimRows, trimRefusals};
+ghost use Rattle.list_extent.specs.Calls.{extentReply, trimRows, extentAnswer, trimAnswer, trimWritten};
 ghost use Rattle.list_extent.specs.Internal.{TrimFits};
 use lists::Extent;
 use refusal::Outcome;
@@ -20,16 +20,9 @@ pub enum Found {
     Refused(Refusal),
 }
 
-// The extent of f.
-pub fn find_extent(f: &[u16]) -> Found
-    ensures answer { λ r. ⌜ extentReply r ≡ reply (lowest (extentRefusals p (now (f .entry)))) (extentValues (now (f .entry))) ⌝ }
-{
-    extent_over(0, f)
-}
-
 // The same over a field.
 pub fn extent_over(field: u8, f: &[u16]) -> Found
-    ensures answer { λ r. ⌜ extentReply r ≡ reply (lowest (extentRows (modulus field) (longest field) (now (f .entry)))) (extentValues (now (f .entry))) ⌝ }
+    ensures answer { λ r. ⌜ extentReply r ≡ extentAnswer field (given f) ⌝ }
 {
     if let Outcome::Refused(why) = lists::judge_list(field, f) {
         return Found::Refused(why);
@@ -42,18 +35,10 @@ pub fn extent_over(field: u8, f: &[u16]) -> Found
     Found::At(Extent(top))
 }
 
-// f with its top zeros removed: the same scaled form, of naive degree equal to the extent.
-pub fn trim(f: &[u16], out: &mut [u16]) -> Outcome
-    ensures answer { λ r. ⌜ outcomeReply r ≡ reply (lowest (trimRefusals p (now (f .entry)) (now (out .entry)))) [] ⌝ }
-    ensures writes { λ _. ⌜ now (out .exit) ≡ written (lowest (trimRefusals p (now (f .entry)) (now (out .entry)))) (of.trim F65521 (now (f .entry))) (now (out .entry)) ⌝ }
-{
-    trim_over(0, f, out)
-}
-
 // The same over a field.
 pub fn trim_over(field: u8, f: &[u16], out: &mut [u16]) -> Outcome
-    ensures answer { λ r. ⌜ outcomeReply r ≡ reply (lowest (trimRows (modulus field) (longest field) (now (f .entry)) (now (out .entry)))) [] ⌝ }
-    ensures writes { λ _. ⌜ now (out .exit) ≡ written (lowest (trimRows (modulus field) (longest field) (now (f .entry)) (now (out .entry)))) (of.trim (fieldAt field) (now (f .entry))) (now (out .entry)) ⌝ }
+    ensures answer { λ r. ⌜ outcomeReply r ≡ trimAnswer field (given f) (given out) ⌝ }
+    ensures writes { λ _. ⌜ final out ≡ trimWritten field (given f) (given out) ⌝ }
 {
     let answer = judge_trim(field, f, out);
     if let Outcome::Done = answer {
@@ -64,7 +49,7 @@ pub fn trim_over(field: u8, f: &[u16], out: &mut [u16]) -> Outcome
 
 // What a trim refuses.
 fn judge_trim(field: u8, f: &[u16], out: &[u16]) -> Outcome
-    ensures { λ r. ⌜ r ≡ lowest (trimRows (modulus field) (longest field) (now (f .entry)) (now (out .entry))) ⌝ }
+    ensures { λ r. ⌜ r ≡ lowest (trimRows (modulus field) (longest field) (given f) (given out)) ⌝ }
 {
     if let Outcome::Refused(why) = lists::judge_list(field, f) {
         return Outcome::Refused(why);
@@ -84,7 +69,7 @@ fn trim_in(field: u8, whole: &[u16], part: &[u16], f: &[u16], s: &mut [u16], out
     requires { ⌜ Tables (fieldAt field) (longest field) (now whole) (now part) ⌝ }
     requires { ⌜ TrimFits (longest field) (now f) (now out) ⌝ }
     requires { ⌜ length (now s) ≡ length (now f) ⌝ }
-    ensures { λ _. ⌜ now (out .exit) ≡ of.trim (fieldAt field) (now (f .entry)) ⌝ }
+    ensures { λ _. ⌜ final out ≡ of.trim (fieldAt field) (given f) ⌝ }
 {
     word_scaling::weigh(field, f, whole, part, s);
     let form = &*s;
@@ -95,7 +80,7 @@ fn trim_in(field: u8, whole: &[u16], part: &[u16], f: &[u16], s: &mut [u16], out
 fn trim_with(field: u8, whole: &[u16], part: &[u16], f: &[u16], out: &mut [u16])
     requires { ⌜ Tables (fieldAt field) (longest field) (now whole) (now part) ⌝ }
     requires { ⌜ TrimFits (longest field) (now f) (now out) ⌝ }
-    ensures { λ _. ⌜ now (out .exit) ≡ of.trim (fieldAt field) (now (f .entry)) ⌝ }
+    ensures { λ _. ⌜ final out ≡ of.trim (fieldAt field) (given f) ⌝ }
 {
     let n = f.len();
     let mut s = [0u16; refusal::MAX_WORDS];
@@ -105,7 +90,7 @@ fn trim_with(field: u8, whole: &[u16], part: &[u16], f: &[u16], out: &mut [u16])
 // The same with our own tables.
 fn trim_into(field: u8, f: &[u16], out: &mut [u16])
     requires { ⌜ TrimFits (longest field) (now f) (now out) ⌝ }
-    ensures { λ _. ⌜ now (out .exit) ≡ of.trim (fieldAt field) (now (f .entry)) ⌝ }
+    ensures { λ _. ⌜ final out ≡ of.trim (fieldAt field) (given f) ⌝ }
 {
     let whole = field_tables::factorials(field);
     let part = field_tables::inverse_factorials(field);

@@ -1,39 +1,23 @@
 // Product and raise of lists.
 ghost use mathlib.Core.Path.{_≡_};
-ghost use mathlib.Core.List.{[]};
 ghost use lib.ListN.{length};
-ghost use Rattle.field.specs.Fields.{F65521, p, modulus, fieldAt, longest};
-ghost use Rattle.refusal.specs.Refusal.{reply, outcomeReply, written};
+ghost use Rattle.refusal.specs.Contract.{given, final};
+ghost use Rattle.field.specs.Fields.{modulus, fieldAt, longest};
+ghost use Rattle.refusal.specs.Refusal.{outcomeReply};
 ghost use Rattle.refusal.specs.Lowest.{lowest};
 ghost use Rattle.lists.specs.Degrees.{naiveDegree};
 ghost use Rattle.lists.specs.Operations as of;
 ghost use Rattle.field_tables.specs.Factorials.{Tables};
-ghost use Rattle.list_product.specs.Calls.{productRows, productRefusals, raiseRows, raiseRefusals};
+ghost use Rattle.list_product.specs.Calls.{productRows, raiseRows, productAnswer, productWritten, raiseAnswer, raiseWritten};
 ghost use Rattle.list_product.specs.Internal.{ProductFits, RaiseFits};
 use lists::NaiveDegree;
 use refusal::Outcome;
 use refusal::Refusal;
 
-// The product of f and g, of naive degree d + e.
-pub fn product(f: &[u16], g: &[u16], out: &mut [u16]) -> Outcome
-    ensures answer { λ r. ⌜ outcomeReply r ≡ reply (lowest (productRefusals p (now (f .entry)) (now (g .entry)) (now (out .entry)))) [] ⌝ }
-    ensures writes { λ _. ⌜ now (out .exit) ≡ written (lowest (productRefusals p (now (f .entry)) (now (g .entry)) (now (out .entry)))) (of.product F65521 (now (f .entry)) (now (g .entry))) (now (out .entry)) ⌝ }
-{
-    product_over(0, f, g, out)
-}
-
-// f raised to the naive degree `to`.
-pub fn raise(f: &[u16], to: NaiveDegree, out: &mut [u16]) -> Outcome
-    ensures answer { λ r. ⌜ outcomeReply r ≡ reply (lowest (raiseRefusals p (now (f .entry)) (to .0) (now (out .entry)))) [] ⌝ }
-    ensures writes { λ _. ⌜ now (out .exit) ≡ written (lowest (raiseRefusals p (now (f .entry)) (to .0) (now (out .entry)))) (of.raise F65521 (to .0) (now (f .entry))) (now (out .entry)) ⌝ }
-{
-    raise_over(0, f, to, out)
-}
-
 // The product over a field.
 pub fn product_over(field: u8, f: &[u16], g: &[u16], out: &mut [u16]) -> Outcome
-    ensures answer { λ r. ⌜ outcomeReply r ≡ reply (lowest (productRows (modulus field) (longest field) (now (f .entry)) (now (g .entry)) (now (out .entry)))) [] ⌝ }
-    ensures writes { λ _. ⌜ now (out .exit) ≡ written (lowest (productRows (modulus field) (longest field) (now (f .entry)) (now (g .entry)) (now (out .entry)))) (of.product (fieldAt field) (now (f .entry)) (now (g .entry))) (now (out .entry)) ⌝ }
+    ensures answer { λ r. ⌜ outcomeReply r ≡ productAnswer field (given f) (given g) (given out) ⌝ }
+    ensures writes { λ _. ⌜ final out ≡ productWritten field (given f) (given g) (given out) ⌝ }
 {
     let answer = judge_product(field, f, g, out);
     match answer {
@@ -47,8 +31,8 @@ pub fn product_over(field: u8, f: &[u16], g: &[u16], out: &mut [u16]) -> Outcome
 
 // The raise over a field.
 pub fn raise_over(field: u8, f: &[u16], to: NaiveDegree, out: &mut [u16]) -> Outcome
-    ensures answer { λ r. ⌜ outcomeReply r ≡ reply (lowest (raiseRows (modulus field) (longest field) (now (f .entry)) (to .0) (now (out .entry)))) [] ⌝ }
-    ensures writes { λ _. ⌜ now (out .exit) ≡ written (lowest (raiseRows (modulus field) (longest field) (now (f .entry)) (to .0) (now (out .entry)))) (of.raise (fieldAt field) (to .0) (now (f .entry))) (now (out .entry)) ⌝ }
+    ensures answer { λ r. ⌜ outcomeReply r ≡ raiseAnswer field (given f) (to .0) (given out) ⌝ }
+    ensures writes { λ _. ⌜ final out ≡ raiseWritten field (given f) (to .0) (given out) ⌝ }
 {
     let answer = judge_raise(field, f, to, out);
     match answer {
@@ -62,7 +46,7 @@ pub fn raise_over(field: u8, f: &[u16], to: NaiveDegree, out: &mut [u16]) -> Out
 
 // What the product refuses.
 fn judge_product(field: u8, f: &[u16], g: &[u16], out: &[u16]) -> Outcome
-    ensures { λ r. ⌜ r ≡ lowest (productRows (modulus field) (longest field) (now (f .entry)) (now (g .entry)) (now (out .entry))) ⌝ }
+    ensures { λ r. ⌜ r ≡ lowest (productRows (modulus field) (longest field) (given f) (given g) (given out)) ⌝ }
 {
     if let Outcome::Refused(why) = lists::judge_lists(field, f, g) {
         return Outcome::Refused(why);
@@ -78,7 +62,7 @@ fn judge_product(field: u8, f: &[u16], g: &[u16], out: &[u16]) -> Outcome
 
 // What a raise refuses.
 fn judge_raise(field: u8, f: &[u16], to: NaiveDegree, out: &[u16]) -> Outcome
-    ensures { λ r. ⌜ r ≡ lowest (raiseRows (modulus field) (longest field) (now (f .entry)) (to .0) (now (out .entry))) ⌝ }
+    ensures { λ r. ⌜ r ≡ lowest (raiseRows (modulus field) (longest field) (given f) (to .0) (given out)) ⌝ }
 {
     let target = to.0;
     if let Outcome::Refused(why) = lists::judge_list(field, f) {
@@ -111,7 +95,7 @@ fn product_in(
     requires { ⌜ Tables (fieldAt field) (longest field) (now whole) (now part) ⌝ }
     requires { ⌜ ProductFits (longest field) (now f) (now g) (now out) ⌝ }
     requires { ⌜ (length (now a) ≡ length (now f)) × (length (now b) ≡ length (now g)) × (length (now s) ≡ length (now out)) ⌝ }
-    ensures { λ _. ⌜ now (out .exit) ≡ of.product (fieldAt field) (now (f .entry)) (now (g .entry)) ⌝ }
+    ensures { λ _. ⌜ final out ≡ of.product (fieldAt field) (given f) (given g) ⌝ }
 {
     word_scaling::weigh(field, f, whole, part, a);
     word_scaling::weigh(field, g, whole, part, b);
@@ -123,7 +107,7 @@ fn product_in(
 fn product_with(field: u8, whole: &[u16], part: &[u16], f: &[u16], g: &[u16], out: &mut [u16])
     requires { ⌜ Tables (fieldAt field) (longest field) (now whole) (now part) ⌝ }
     requires { ⌜ ProductFits (longest field) (now f) (now g) (now out) ⌝ }
-    ensures { λ _. ⌜ now (out .exit) ≡ of.product (fieldAt field) (now (f .entry)) (now (g .entry)) ⌝ }
+    ensures { λ _. ⌜ final out ≡ of.product (fieldAt field) (given f) (given g) ⌝ }
 {
     let d = f.len();
     let e = g.len();
@@ -147,7 +131,7 @@ fn product_with(field: u8, whole: &[u16], part: &[u16], f: &[u16], g: &[u16], ou
 // The same with our own tables.
 fn product_into(field: u8, f: &[u16], g: &[u16], out: &mut [u16])
     requires { ⌜ ProductFits (longest field) (now f) (now g) (now out) ⌝ }
-    ensures { λ _. ⌜ now (out .exit) ≡ of.product (fieldAt field) (now (f .entry)) (now (g .entry)) ⌝ }
+    ensures { λ _. ⌜ final out ≡ of.product (fieldAt field) (given f) (given g) ⌝ }
 {
     let whole = field_tables::factorials(field);
     let part = field_tables::inverse_factorials(field);
@@ -158,7 +142,7 @@ fn product_into(field: u8, f: &[u16], g: &[u16], out: &mut [u16])
 fn raise_with(field: u8, whole: &[u16], part: &[u16], f: &[u16], out: &mut [u16])
     requires { ⌜ Tables (fieldAt field) (longest field) (now whole) (now part) ⌝ }
     requires { ⌜ RaiseFits (modulus field) (longest field) (now f) (now out) ⌝ }
-    ensures { λ _. ⌜ now (out .exit) ≡ of.raise (fieldAt field) (naiveDegree (now (out .entry))) (now (f .entry)) ⌝ }
+    ensures { λ _. ⌜ final out ≡ of.raise (fieldAt field) (naiveDegree (given out)) (given f) ⌝ }
 {
     let ones = [1u16; refusal::MAX_WORDS];
     let m = out.len() - f.len() + 1;
@@ -168,7 +152,7 @@ fn raise_with(field: u8, whole: &[u16], part: &[u16], f: &[u16], out: &mut [u16]
 // The same with our own tables.
 fn raise_into(field: u8, f: &[u16], out: &mut [u16])
     requires { ⌜ RaiseFits (modulus field) (longest field) (now f) (now out) ⌝ }
-    ensures { λ _. ⌜ now (out .exit) ≡ of.raise (fieldAt field) (naiveDegree (now (out .entry))) (now (f .entry)) ⌝ }
+    ensures { λ _. ⌜ final out ≡ of.raise (fieldAt field) (naiveDegree (given out)) (given f) ⌝ }
 {
     let whole = field_tables::factorials(field);
     let part = field_tables::inverse_factorials(field);

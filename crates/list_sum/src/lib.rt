@@ -1,55 +1,39 @@
 // Sum and difference of lists.
 ghost use mathlib.Core.Path.{_≡_};
 ghost use mathlib.Core.Bool.{cond};
-ghost use mathlib.Core.List.{[]};
 ghost use Prim.Native.Nat.{_+_, _-_, _%_};
 ghost use lib.ListN.{length};
-ghost use Rattle.field.specs.Fields.{F65521, p, modulus, fieldAt, longest};
-ghost use Rattle.refusal.specs.Refusal.{reply, outcomeReply, written};
+ghost use Rattle.refusal.specs.Contract.{given, final};
+ghost use Rattle.field.specs.Fields.{modulus, fieldAt, longest};
+ghost use Rattle.refusal.specs.Refusal.{outcomeReply, written};
 ghost use Rattle.refusal.specs.Lowest.{lowest};
 ghost use Rattle.lists.specs.Operations as of;
-ghost use Rattle.list_sum.specs.Calls.{sumRows, sumRefusals};
+ghost use Rattle.list_sum.specs.Calls.{sumRows, differenceWritten, sumAnswer, sumWritten};
 ghost use Rattle.list_sum.specs.Internal.{SumFits, combinedWords, combined};
 use lists::NaiveDegree;
 use refusal::Outcome;
 use refusal::Refusal;
 
-// The sum of f and g, the shorter list raised first.
-pub fn sum(f: &[u16], g: &[u16], out: &mut [u16]) -> Outcome
-    ensures answer { λ r. ⌜ outcomeReply r ≡ reply (lowest (sumRefusals p (now (f .entry)) (now (g .entry)) (now (out .entry)))) [] ⌝ }
-    ensures writes { λ _. ⌜ now (out .exit) ≡ written (lowest (sumRefusals p (now (f .entry)) (now (g .entry)) (now (out .entry)))) (of.sumOf F65521 (now (f .entry)) (now (g .entry))) (now (out .entry)) ⌝ }
-{
-    sum_over(0, f, g, out)
-}
-
-// f less g, the shorter list raised first.
-pub fn difference(f: &[u16], g: &[u16], out: &mut [u16]) -> Outcome
-    ensures answer { λ r. ⌜ outcomeReply r ≡ reply (lowest (sumRefusals p (now (f .entry)) (now (g .entry)) (now (out .entry)))) [] ⌝ }
-    ensures writes { λ _. ⌜ now (out .exit) ≡ written (lowest (sumRefusals p (now (f .entry)) (now (g .entry)) (now (out .entry)))) (of.differenceOf F65521 (now (f .entry)) (now (g .entry))) (now (out .entry)) ⌝ }
-{
-    difference_over(0, f, g, out)
-}
-
 // The sum over a field.
 pub fn sum_over(field: u8, f: &[u16], g: &[u16], out: &mut [u16]) -> Outcome
-    ensures answer { λ r. ⌜ outcomeReply r ≡ reply (lowest (sumRows (modulus field) (longest field) (now (f .entry)) (now (g .entry)) (now (out .entry)))) [] ⌝ }
-    ensures writes { λ _. ⌜ now (out .exit) ≡ written (lowest (sumRows (modulus field) (longest field) (now (f .entry)) (now (g .entry)) (now (out .entry)))) (of.sumOf (fieldAt field) (now (f .entry)) (now (g .entry))) (now (out .entry)) ⌝ }
+    ensures answer { λ r. ⌜ outcomeReply r ≡ sumAnswer field (given f) (given g) (given out) ⌝ }
+    ensures writes { λ _. ⌜ final out ≡ sumWritten field (given f) (given g) (given out) ⌝ }
 {
     combine(field, f, g, false, out)
 }
 
 // The difference over a field.
 pub fn difference_over(field: u8, f: &[u16], g: &[u16], out: &mut [u16]) -> Outcome
-    ensures answer { λ r. ⌜ outcomeReply r ≡ reply (lowest (sumRows (modulus field) (longest field) (now (f .entry)) (now (g .entry)) (now (out .entry)))) [] ⌝ }
-    ensures writes { λ _. ⌜ now (out .exit) ≡ written (lowest (sumRows (modulus field) (longest field) (now (f .entry)) (now (g .entry)) (now (out .entry)))) (of.differenceOf (fieldAt field) (now (f .entry)) (now (g .entry))) (now (out .entry)) ⌝ }
+    ensures answer { λ r. ⌜ outcomeReply r ≡ sumAnswer field (given f) (given g) (given out) ⌝ }
+    ensures writes { λ _. ⌜ final out ≡ differenceWritten field (given f) (given g) (given out) ⌝ }
 {
     combine(field, f, g, true, out)
 }
 
 // f plus g, or f less g.
 fn combine(field: u8, f: &[u16], g: &[u16], minus: bool, out: &mut [u16]) -> Outcome
-    ensures answer { λ r. ⌜ outcomeReply r ≡ reply (lowest (sumRows (modulus field) (longest field) (now (f .entry)) (now (g .entry)) (now (out .entry)))) [] ⌝ }
-    ensures writes { λ _. ⌜ now (out .exit) ≡ written (lowest (sumRows (modulus field) (longest field) (now (f .entry)) (now (g .entry)) (now (out .entry)))) (combined (fieldAt field) minus (now (f .entry)) (now (g .entry))) (now (out .entry)) ⌝ }
+    ensures answer { λ r. ⌜ outcomeReply r ≡ sumAnswer field (given f) (given g) (given out) ⌝ }
+    ensures writes { λ _. ⌜ final out ≡ written (lowest (sumRows (modulus field) (longest field) (given f) (given g) (given out))) (combined (fieldAt field) minus (given f) (given g)) (given out) ⌝ }
 {
     let answer = judge_sum(field, f, g, out);
     match answer {
@@ -63,7 +47,7 @@ fn combine(field: u8, f: &[u16], g: &[u16], minus: bool, out: &mut [u16]) -> Out
 
 // What a sum and a difference refuse.
 fn judge_sum(field: u8, f: &[u16], g: &[u16], out: &[u16]) -> Outcome
-    ensures { λ r. ⌜ r ≡ lowest (sumRows (modulus field) (longest field) (now (f .entry)) (now (g .entry)) (now (out .entry))) ⌝ }
+    ensures { λ r. ⌜ r ≡ lowest (sumRows (modulus field) (longest field) (given f) (given g) (given out)) ⌝ }
 {
     if let Outcome::Refused(of_lists) = lists::judge_lists(field, f, g) {
         return Outcome::Refused(of_lists);
@@ -88,7 +72,7 @@ fn combine_word(field: u8, a: u16, b: u16, minus: bool) -> u16
 // The same word by word.
 fn combine_words(field: u8, a: &[u16], b: &[u16], minus: bool, out: &mut [u16])
     requires { ⌜ (length (now a) ≡ length (now out)) × (length (now b) ≡ length (now out)) ⌝ }
-    ensures { λ _. ⌜ now (out .exit) ≡ combinedWords (fieldAt field) minus (now (a .entry)) (now (b .entry)) ⌝ }
+    ensures { λ _. ⌜ final out ≡ combinedWords (fieldAt field) minus (given a) (given b) ⌝ }
 {
     let mut k = 0;
     while k < out.len() {
@@ -109,7 +93,7 @@ fn combine_in(
 )
     requires { ⌜ SumFits (modulus field) (longest field) (now f) (now g) (now out) ⌝ }
     requires { ⌜ (length (now a) ≡ length (now out)) × (length (now b) ≡ length (now out)) ⌝ }
-    ensures { λ _. ⌜ now (out .exit) ≡ combined (fieldAt field) minus (now (f .entry)) (now (g .entry)) ⌝ }
+    ensures { λ _. ⌜ final out ≡ combined (fieldAt field) minus (given f) (given g) ⌝ }
 {
     let degree = out.len() - 1;
     list_product::raise_over(field, f, NaiveDegree(degree), a);
@@ -119,7 +103,7 @@ fn combine_in(
 
 fn combine_into(field: u8, f: &[u16], g: &[u16], minus: bool, out: &mut [u16])
     requires { ⌜ SumFits (modulus field) (longest field) (now f) (now g) (now out) ⌝ }
-    ensures { λ _. ⌜ now (out .exit) ≡ combined (fieldAt field) minus (now (f .entry)) (now (g .entry)) ⌝ }
+    ensures { λ _. ⌜ final out ≡ combined (fieldAt field) minus (given f) (given g) ⌝ }
 {
     let n = out.len();
     let mut a = [0u16; refusal::MAX_WORDS];

@@ -1,11 +1,14 @@
 -- What evaluate refuses: the rows of document 01's table for the call. f is the list that the call is handed, x the point.
---     evaluateRows, evaluateRefusals     loose word (5) also for the point
+--     evaluateRows     loose word (5) also for the point
+--     evaluateAnswer     what an evaluation answers: the value
 -- Assumes nothing.
 use mathlib.Core.Bool.{_||_}
 use mathlib.Core.List.{List, [], _∷_}
 use Prim.Native.Nat.{ℕ}
-use Rattle.refusal.specs.Limits.{maxWords}
-use Rattle.refusal.specs.Lowest.{Condition, _given-when_}
+use Rattle.refusal.specs.Refusal.{Reply, reply}
+use Rattle.field.specs.Fields.{modulus, fieldAt, longest}
+use Rattle.lists.specs.Operations.{evaluate}
+use Rattle.refusal.specs.Lowest.{Condition, _given-when_, lowest}
 use Rattle.refusal.specs.declared.Refusal.the-variants.{Length, LooseWord}
 use Rattle.field.specs.Field.{loose}
 use Rattle.lists.specs.Refused.{wrongLength, hasLoose}
@@ -16,5 +19,6 @@ evaluateRows p most f x =
     LooseWord given-when (hasLoose p f || loose p x) ∷
     []
 
-unfoldable pub evaluateRefusals : ℕ → List ℕ → ℕ → List Condition
-evaluateRefusals p f x = evaluateRows p maxWords f x
+-- what an evaluation answers, over field k
+abbrev pub evaluateAnswer : (k : ℕ) → List ℕ → ℕ → Reply
+evaluateAnswer k f x = reply (lowest (evaluateRows (modulus k) (longest k) f x)) (evaluate (fieldAt k) f x ∷ [])

@@ -1,31 +1,23 @@
 // The value of a list at a point.
 ghost use mathlib.Core.Path.{_≡_};
-ghost use mathlib.Core.List.{[], _∷_};
 ghost use Prim.Native.Nat.{_+_, _*_, _/_, _%_, _≤_};
 ghost use lib.ListN.{length};
-ghost use Rattle.field.specs.Fields.{F65521, p, modulus, fieldAt, longest};
-ghost use Rattle.refusal.specs.Refusal.{reply};
+ghost use Rattle.refusal.specs.Contract.{given, final};
+ghost use Rattle.field.specs.Fields.{modulus, fieldAt, longest};
 ghost use Rattle.refusal.specs.Lowest.{lowest};
 ghost use Rattle.field.specs.Field.{wordReply};
 ghost use Rattle.lists.specs.Lists.{word};
 ghost use Rattle.lists.specs.Operations as of;
 ghost use Rattle.field_tables.specs.Factorials.{Tables};
-ghost use Rattle.list_value.specs.Calls.{evaluateRows, evaluateRefusals};
+ghost use Rattle.list_value.specs.Calls.{evaluateRows, evaluateAnswer};
 ghost use Rattle.list_value.specs.Internal.{homogeneousOf, powerOf, powersOf, weightsOf, mostOfProduct, mostOfGroup, productsOf, groups, Terms};
 use field::Word;
 use refusal::Outcome;
 use refusal::Refusal;
 
-// The value of f at x.
-pub fn evaluate(f: &[u16], x: u16) -> Word
-    ensures answer { λ r. ⌜ wordReply r ≡ reply (lowest (evaluateRefusals p (now (f .entry)) x)) (of.evaluate F65521 (now (f .entry)) x ∷ []) ⌝ }
-{
-    evaluate_over(0, f, x)
-}
-
 // The same over a field.
 pub fn evaluate_over(field: u8, f: &[u16], x: u16) -> Word
-    ensures answer { λ r. ⌜ wordReply r ≡ reply (lowest (evaluateRows (modulus field) (longest field) (now (f .entry)) x)) (of.evaluate (fieldAt field) (now (f .entry)) x ∷ []) ⌝ }
+    ensures answer { λ r. ⌜ wordReply r ≡ evaluateAnswer field (given f) x ⌝ }
 {
     if let Outcome::Refused(why) = judge_evaluate(field, f, x) {
         return Word::Refused(why);
@@ -35,7 +27,7 @@ pub fn evaluate_over(field: u8, f: &[u16], x: u16) -> Word
 
 // What an evaluation refuses.
 fn judge_evaluate(field: u8, f: &[u16], x: u16) -> Outcome
-    ensures { λ r. ⌜ r ≡ lowest (evaluateRows (modulus field) (longest field) (now (f .entry)) x) ⌝ }
+    ensures { λ r. ⌜ r ≡ lowest (evaluateRows (modulus field) (longest field) (given f) x) ⌝ }
 {
     if let Outcome::Refused(why) = lists::judge_list(field, f) {
         return Outcome::Refused(why);
@@ -56,8 +48,8 @@ fn two_products(field: u8, a: u16, b: u16, c: u64, d: u16) -> u16
 
 // The powers 1, x, x^2, … in u, and the next one.
 fn fill_powers(field: u8, x: u16, u: &mut [u16]) -> u16
-    ensures words { λ _. ⌜ now (u .exit) ≡ powersOf (fieldAt field) x (length (now (u .entry))) ⌝ }
-    ensures next { λ r. ⌜ r ≡ powerOf (fieldAt field) x (length (now (u .entry))) ⌝ }
+    ensures words { λ _. ⌜ final u ≡ powersOf (fieldAt field) x (length (given u)) ⌝ }
+    ensures next { λ r. ⌜ r ≡ powerOf (fieldAt field) x (length (given u)) ⌝ }
 {
     let mut power: u16 = 1;
     let mut j = 0;
@@ -72,7 +64,7 @@ fn fill_powers(field: u8, x: u16, u: &mut [u16]) -> u16
 // The weights of a group of n words: word j of u is x^j y^(n-1-j), from the powers of x in a and those of y in b.
 fn fill_weights(field: u8, a: &[u16], b: &[u16], u: &mut [u16])
     requires { ⌜ (length (now a) ≡ length (now u)) × (length (now b) ≡ length (now u)) ⌝ }
-    ensures { λ _. ⌜ now (u .exit) ≡ weightsOf (modulus field) (length (now (u .entry))) (now (a .entry)) (now (b .entry)) ⌝ }
+    ensures { λ _. ⌜ final u ≡ weightsOf (modulus field) (length (given u)) (given a) (given b) ⌝ }
 {
     let n = u.len();
     let mut j = 0;
@@ -93,7 +85,7 @@ fn add_product(sum: u64, a: u16, b: u16) -> u64
 // The products of the words of s from k on with those of u, added up, and not reduced.
 fn sum_products(s: &[u16], k: usize, u: &[u16]) -> u64
     requires { ⌜ (k + length (now u) ≤ length (now s)) × (length (now u) ≤ 8) ⌝ }
-    ensures { λ r. ⌜ (r ≡ productsOf (now (s .entry)) k (now (u .entry)) (length (now (u .entry)))) × (r ≤ mostOfGroup) ⌝ }
+    ensures { λ r. ⌜ (r ≡ productsOf (given s) k (given u) (length (given u))) × (r ≤ mostOfGroup) ⌝ }
 {
     let mut sum: u64 = 0;
     let mut j = 0;
@@ -114,7 +106,7 @@ struct Begun {
 // added up. Each group is reduced once.
 fn sum_groups(field: u8, s: &[u16], u: &[u16], x: u16, y: u16) -> Begun
     requires { ⌜ length (now u) ≡ 8 ⌝ }
-    ensures { λ r. ⌜ Terms (fieldAt field) (groups (fieldAt field) 8 (now (s .entry)) (now (u .entry))) x y (length (now (s .entry)) / 8) (r .sum) (r .power) ⌝ }
+    ensures { λ r. ⌜ Terms (fieldAt field) (groups (fieldAt field) 8 (given s) (given u)) x y (length (given s) / 8) (r .sum) (r .power) ⌝ }
 {
     let n = s.len() / 8;
     let mut sum: u16 = 0;
@@ -139,7 +131,7 @@ fn begin_in(
     u: &mut [u16],
 ) -> Begun
     requires { ⌜ (length (now a) ≡ 8) × (length (now b) ≡ 8) × (length (now u) ≡ 8) ⌝ }
-    ensures { λ r. ⌜ Terms (fieldAt field) (word (fieldAt field) (now (s .entry))) x y (8 * (length (now (s .entry)) / 8)) (r .sum) (r .power) ⌝ }
+    ensures { λ r. ⌜ Terms (fieldAt field) (word (fieldAt field) (given s)) x y (8 * (length (given s) / 8)) (r .sum) (r .power) ⌝ }
 {
     let x8 = fill_powers(field, x, a);
     let y8 = fill_powers(field, y, b);
@@ -148,7 +140,7 @@ fn begin_in(
 }
 
 fn begin(field: u8, s: &[u16], x: u16, y: u16) -> Begun
-    ensures { λ r. ⌜ Terms (fieldAt field) (word (fieldAt field) (now (s .entry))) x y (8 * (length (now (s .entry)) / 8)) (r .sum) (r .power) ⌝ }
+    ensures { λ r. ⌜ Terms (fieldAt field) (word (fieldAt field) (given s)) x y (8 * (length (given s) / 8)) (r .sum) (r .power) ⌝ }
 {
     let mut a = [0u16; 8];
     let mut b = [0u16; 8];
@@ -158,7 +150,7 @@ fn begin(field: u8, s: &[u16], x: u16, y: u16) -> Begun
 
 // The sum of s_k x^k y^(n-k) for words s_0 to s_n: whole groups of eight, then the words after them.
 fn homogeneous(field: u8, s: &[u16], x: u16, y: u16) -> u16
-    ensures { λ r. ⌜ r ≡ homogeneousOf (fieldAt field) (now (s .entry)) x y ⌝ }
+    ensures { λ r. ⌜ r ≡ homogeneousOf (fieldAt field) (given s) x y ⌝ }
 {
     let begun = begin(field, s, x, y);
     let mut sum = begun.sum;
@@ -176,7 +168,7 @@ fn homogeneous(field: u8, s: &[u16], x: u16, y: u16) -> u16
 fn value_in(field: u8, whole: &[u16], part: &[u16], f: &[u16], x: u16, s: &mut [u16]) -> u16
     requires { ⌜ Tables (fieldAt field) (longest field) (now whole) (now part) ⌝ }
     requires { ⌜ (length (now s) ≡ length (now f)) × (length (now f) ≤ longest field) ⌝ }
-    ensures { λ r. ⌜ r ≡ of.evaluate (fieldAt field) (now (f .entry)) x ⌝ }
+    ensures { λ r. ⌜ r ≡ of.evaluate (fieldAt field) (given f) x ⌝ }
 {
     word_scaling::weigh(field, f, whole, part, s);
     let y = field::sub(field, 1, x);
@@ -187,7 +179,7 @@ fn value_in(field: u8, whole: &[u16], part: &[u16], f: &[u16], x: u16, s: &mut [
 fn value_with(field: u8, whole: &[u16], part: &[u16], f: &[u16], x: u16) -> u16
     requires { ⌜ Tables (fieldAt field) (longest field) (now whole) (now part) ⌝ }
     requires { ⌜ length (now f) ≤ longest field ⌝ }
-    ensures { λ r. ⌜ r ≡ of.evaluate (fieldAt field) (now (f .entry)) x ⌝ }
+    ensures { λ r. ⌜ r ≡ of.evaluate (fieldAt field) (given f) x ⌝ }
 {
     let n = f.len();
     let mut s = [0u16; refusal::MAX_WORDS];
@@ -197,7 +189,7 @@ fn value_with(field: u8, whole: &[u16], part: &[u16], f: &[u16], x: u16) -> u16
 // The same with our own tables.
 fn value_at(field: u8, f: &[u16], x: u16) -> u16
     requires { ⌜ length (now f) ≤ longest field ⌝ }
-    ensures { λ r. ⌜ r ≡ of.evaluate (fieldAt field) (now (f .entry)) x ⌝ }
+    ensures { λ r. ⌜ r ≡ of.evaluate (fieldAt field) (given f) x ⌝ }
 {
     let whole = field_tables::factorials(field);
     let part = field_tables::inverse_factorials(field);

@@ -1,14 +1,15 @@
--- Laws: Demand 2, call by call, of every call to which no refusal applies: `lowest` of the call's rows is Done. What the calls then answer and
+-- Demand 2 holds: each line by the theorem that shows it.
+--     demand2      over every prime field with more elements than a list has words
+--     of-engine    over the field of 65,521 elements
 -- Assumes nothing.
-use mathlib.Core.Path.{_≡_, refl, sym, _∙_, ap, ap₂}
-use mathlib.Core.Bool.{false}
+use mathlib.Core.Path.{_≡_, refl, sym, _∙_, ap}
 use mathlib.Core.List.{List, [], _∷_}
-use Prim.Native.Nat.{ℕ, zero, suc, _+_, _*_, _≤_, _<_, max}
-use native.Mathlib.Nat.{le-of-lt, zero-add, add-comm}
+use Prim.Native.Nat.{ℕ, zero, suc, _+_, _≤_, _<_, max}
+use native.Mathlib.Nat.{le-of-lt, add-comm}
 use native.Mathlib.Omega.{arith}
 use lib.Dec.{eqb}
-use lib.ListN.{length, getD, take, drop}
-use borrow.Author.Tests.{eq-eqb, eqb-false, lt-ltb, le-ltb}
+use lib.ListN.{length}
+use borrow.Author.Tests.{eq-eqb, eqb-false}
 use Rattle.algebra.specs.Ring.{CommRing}
 use Rattle.algebra.specs.Evaluation.{ValueAt, eval}
 use Rattle.algebra.proofs.Evaluation.{eval-more}
@@ -16,16 +17,14 @@ use Rattle.algebra.specs.PrimeField.{PrimeField, positive, scalars, residue, va
 use Rattle.algebra.proofs.PrimeField.{value-residue}
 use Rattle.field.specs.Fields.{longest, F65521}
 use Rattle.field.proofs.FieldsLaws.{longest-in}
-use Rattle.refusal.specs.Limits.{maxLists, maxWords}
-use Rattle.refusal.specs.Refusal.{written}
+use Rattle.refusal.specs.Limits.{maxWords}
 use Rattle.refusal.specs.Lowest.{lowest}
 use Rattle.refusal.specs.declared.Outcome.the-variants.{Done}
 use Rattle.refusal.proofs.First.{first-then, refuse-done, or-else-done}
 use Rattle.field.proofs.Theorems.{residue-sum, residue-difference, residue-product, sum-lt, difference-lt, product-lt, inverse-is}
-use Rattle.lists.specs.Bytes.{Bytes, bytesOf}
-use Rattle.lists.proofs.Bytes.{length-bytesOf, words-of-bytes, bytes-words}
+use Rattle.lists.proofs.Bytes.{words-of-bytes, bytes-words}
 use Rattle.lists.specs.Degrees.{naiveDegree, significant}
-use Rattle.lists.specs.Refused.{hasLoose, anyOf, listRefusals}
+use Rattle.lists.specs.Refused.{listRefusals}
 use Rattle.lists.specs.Lists.{Coefficients, meaning}
 use Rattle.lists.specs.Operations.{product, raise, largerDegree, sumOf, differenceOf, trim, derivative, evaluate}
 use Rattle.lists.proofs.Scaled.{length-naive, coefficients-listed, scaled-injective, meaning-injective}
@@ -35,27 +34,18 @@ use Rattle.lists.proofs.Extents.{extent-largest, after-significant}
 use Rattle.lists.proofs.Trims.{length-trim, coefficients-trim, trim-scaled}
 use Rattle.lists.proofs.Calculus.{length-derivative, coefficients-derivative, derivative-meaning, evaluate-lt, evaluate-meaning}
 use Rattle.lists.proofs.Judged.{one-listed}
-use Rattle.list_product.specs.Calls.{productRefusals, raiseRefusals}
+use Rattle.list_product.specs.Calls.{productRows, raiseRows}
 use Rattle.list_product.proofs.Judged.{product-fits, raise-fits}
-use Rattle.list_sum.specs.Calls.{sumRefusals}
+use Rattle.list_sum.specs.Calls.{sumRows}
 use Rattle.list_sum.proofs.Judged.{sum-fits}
-use Rattle.list_extent.specs.Calls.{trimRows, trimRefusals}
-use Rattle.list_derivative.specs.Calls.{derivativeWords, derivativeRows, derivativeRefusals}
-use Rattle.album_layout.specs.Layout.{count, degreeAt, startAt, wrongCount, brokenLayout, listsOf}
-use Rattle.album_layout.specs.Calls.{bodyOf}
+use Rattle.list_extent.specs.Calls.{trimRows}
+use Rattle.list_derivative.specs.Calls.{derivativeWords, derivativeRows}
 use Rattle.album_layout.proofs.Written.{album-read, album-obeys, album-is-bytes}
-use Rattle.album_layout.proofs.Reading.{album-is-read}
-use Rattle.album_layout.proofs.Whole.{album-whole, body-whole}
-use Rattle.album_layout.proofs.Places.{length-list, length-lists, list-at, obeys}
-use Rattle.album_contents.specs.Calls.{recordAt, recordsFrom}
+use Rattle.album_layout.proofs.Whole.{album-whole}
 use Rattle.statement.proofs.Demand3.{demand3}
-use Rattle.statement.specs.Demand2.{none, entryOf, TheWord, TheValue, TheList, TheTrim, Contained, Demand2}
-
-records-at : (s : List ℕ) (n k i : ℕ) → i < n → getD (recordsFrom s k n) i none ≡ recordAt s (k + i)
-unfolding recordsFrom
-records-at s zero k i l = absurd (omega arith)
-records-at s (suc n) k zero l = let e : k ≡ k + 0 = omega arith in ap (recordAt s) e
-records-at s (suc n) k (suc i) l = let e : suc k + i ≡ k + suc i = omega arith in records-at s n (suc k) i (omega arith) ∙ ap (recordAt s) e
+use Rattle.statement.specs.Demand2.{Demand2}
+use Rattle.statement.specs.Meant.{TheWord, TheValue, TheList, TheTrim}
+use Rattle.statement.proofs.Contained.{contained}
 
 module _ (F : PrimeField) where
   open CommRing (scalars F) using (Carrier as K)
@@ -84,54 +74,13 @@ module _ (F : PrimeField) where
       let e = evaluate-meaning F f x in
       record { below = l; is = e; only = λ v m h. same-word v _ m l (one-value (residue F x) h e) }
 
-  module _ (s : List ℕ) (bytes : Bytes s) (counted : wrongCount maxLists s ≡ false) (laid : brokenLayout s ≡ false) where
-    record-is : (i : ℕ) → i < count s → entryOf s i ≡ record { offset = startAt s i; degree = degreeAt s i }
-    unfolding recordAt
-    record-is i l =
-        let o = obeys s counted laid in
-        records-at s maxLists 0 i (omega (arith, o .few)) ∙ ap (recordAt s) (zero-add i)
-        ∙ simp (lt-ltb i (count s) l, o .placed i l)
-
-    record-none : (i : ℕ) → count s ≤ i → i < maxLists → entryOf s i ≡ none
-    unfolding recordAt
-    record-none i l m = records-at s maxLists 0 i m ∙ ap (recordAt s) (zero-add i) ∙ simp (le-ltb i (count s) l)
-
-    degree-of : (i : ℕ) → i < count s → degreeAt s i ≡ naiveDegree (getD (listsOf s) i [])
-    unfolding naiveDegree
-    degree-of i l = omega (arith, length-list s i, ap length (list-at s i l))
-
-    part : (i : ℕ) → i < count s → take (2 * (degreeAt s i + 1)) (drop (startAt s i) s) ≡ bytesOf (getD (listsOf s) i [])
-    part i l = body-whole s bytes counted laid i l ∙ ap bytesOf (sym (list-at s i l))
-
-    size : (i : ℕ) → i < count s → length (bytesOf (getD (listsOf s) i [])) ≡ 2 * (degreeAt s i + 1)
-    size i l = length-bytesOf (getD (listsOf s) i []) ∙ ap (λ n. 2 * n) (ap length (list-at s i l) ∙ length-list s i)
-
-    contained : anyOf (hasLoose (F .p)) (listsOf s) ≡ false → Contained F s (listsOf s)
-    unfolding bodyOf
-    contained tight =
-        let passes = album-is-read s counted laid (F .p) tight in
-        record {
-          number = length-lists s;
-          passes = passes;
-          words = λ i l. sym (list-at s i l);
-          degree = degree-of;
-          bytes = λ i l. ap (λ o. written o (take (2 * (degreeAt s i + 1)) (drop (startAt s i) s)) []) (passes i l) ∙ part i l;
-          records =
-              λ i l. (
-                ap (λ e. e .degree) (record-is i l) ∙ degree-of i l,
-                ap₂ (λ n at. take n (drop at s)) (size i l) (ap (λ e. e .offset) (record-is i l)) ∙ part i l,
-              );
-          zeros = record-none;
-        }
-
   module _ (wide : maxWords ≤ F .p) where
     the-list : (n : ℕ) (s : S) (c : List ℕ) → length c ≡ n → Coefficients F c → meaning F c ≡ s → TheList F n s c
     the-list n s c e g m =
         record { coefficients = g; words = e; means = m; only = λ d h l q. meaning-injective F d c h g (l ∙ sym e) (q ∙ sym m) }
 
-    product-is : (f g out : List ℕ) → lowest (productRefusals (F .p) f g out) ≡ Done
+    product-is : (f g out : List ℕ) → lowest (productRows (F .p) maxWords f g out) ≡ Done
         → TheList F (suc (naiveDegree f + naiveDegree g)) (meaning F f *ˢ meaning F g) (product F f g)
-    unfolding productRefusals
     product-is f g out e =
         the-list _ _ _ (length-product F f g) (coefficients-product F f g small) (product-meaning F f g small)
       where
@@ -142,8 +91,8 @@ module _ (F : PrimeField) where
             let b = length-naive g (h .second) in
             omega arith
 
-    raise-is : (f : List ℕ) (n : ℕ) (out : List ℕ) → lowest (raiseRefusals (F .p) f n out) ≡ Done → TheList F (suc n) (meaning F f) (raise F n f)
-    unfolding naiveDegree raiseRefusals
+    raise-is : (f : List ℕ) (n : ℕ) (out : List ℕ) → lowest (raiseRows (F .p) maxWords f n out) ≡ Done → TheList F (suc n) (meaning F f) (raise F n f)
+    unfolding naiveDegree
     raise-is f n out e =
         let h = raise-fits (F .p) maxWords (positive F) f n out (sym e) in
         let room = h .0 .room in
@@ -152,8 +101,8 @@ module _ (F : PrimeField) where
         let target = h .1 in
         the-list _ _ _ (length-raise F n f) (coefficients-raise F n f (omega arith)) (raise-meaning F n f (omega arith) (omega arith))
 
-    larger-small : (f g out : List ℕ) → lowest (sumRefusals (F .p) f g out) ≡ Done → largerDegree F f g < F .p
-    unfolding largerDegree sumRefusals
+    larger-small : (f g out : List ℕ) → lowest (sumRows (F .p) maxWords f g out) ≡ Done → largerDegree F f g < F .p
+    unfolding largerDegree
     larger-small f g out e =
         let h = sum-fits (F .p) maxWords (positive F) f g out (sym e) in
         let a = length-naive f (h .first .some) in
@@ -162,22 +111,22 @@ module _ (F : PrimeField) where
         let d = h .second .short in
         omega arith
 
-    sum-is : (f g out : List ℕ) → lowest (sumRefusals (F .p) f g out) ≡ Done
+    sum-is : (f g out : List ℕ) → lowest (sumRows (F .p) maxWords f g out) ≡ Done
         → TheList F (suc (max (naiveDegree f) (naiveDegree g))) (meaning F f +ˢ meaning F g) (sumOf F f g)
     unfolding largerDegree
     sum-is f g out e =
         let l = larger-small f g out e in
         the-list _ _ _ (length-sum F f g) (coefficients-sum F f g l) (sum-meaning F f g l)
 
-    difference-is : (f g out : List ℕ) → lowest (sumRefusals (F .p) f g out) ≡ Done
+    difference-is : (f g out : List ℕ) → lowest (sumRows (F .p) maxWords f g out) ≡ Done
         → TheList F (suc (max (naiveDegree f) (naiveDegree g))) (meaning F f +ˢ -ˢ meaning F g) (differenceOf F f g)
     unfolding largerDegree
     difference-is f g out e =
         let l = larger-small f g out e in
         the-list _ _ _ (length-difference F f g) (coefficients-difference F f g l) (difference-meaning F f g l)
 
-    trim-is : (f out : List ℕ) → lowest (trimRefusals (F .p) f out) ≡ Done → TheTrim F f (trim F f)
-    unfolding trimRefusals trimRows listRefusals
+    trim-is : (f out : List ℕ) → lowest (trimRows (F .p) maxWords f out) ≡ Done → TheTrim F f (trim F f)
+    unfolding trimRows listRefusals
     trim-is f out e =
         let d = or-else-done _ _ (sym (first-then (listRefusals (F .p) maxWords (f ∷ [])) _ tt) ∙ e) in
         let z = eqb-false (significant f) 0 (refuse-done (eqb (significant f) 0) _ _ (d .1) .0) in
@@ -188,8 +137,8 @@ module _ (F : PrimeField) where
         record { coefficients = g; words = n; same = same; only = λ c i l q. scaled-injective F c (trim F f) i g (l ∙ sym n) (q ∙ sym same) }
 
     -- the list that a derivative is handed
-    derivative-listed : (f out : List ℕ) → lowest (derivativeRefusals (F .p) f out) ≡ Done → Coefficients F f
-    unfolding derivativeRefusals derivativeRows listRefusals
+    derivative-listed : (f out : List ℕ) → lowest (derivativeRows (F .p) maxWords f out) ≡ Done → Coefficients F f
+    unfolding derivativeRows listRefusals
     derivative-listed f out e =
         coefficients-listed F wide
         (one-listed (F .p) maxWords (positive F) f (or-else-done _ _ (sym (first-then (listRefusals (F .p) maxWords (f ∷ [])) _ tt) ∙ e) .0))
@@ -229,7 +178,7 @@ module _ (F : PrimeField) where
         of-value = the-value;
         of-division = demand3 F wide .of-division;
         of-reading =
-            λ s bytes counted laid tight. (album-whole s bytes counted laid, contained s bytes counted laid tight);
+            λ s bytes counted laid tight. (album-whole s bytes counted laid, contained F s bytes counted laid tight);
         of-albums = λ lists w. (album-is-bytes lists w, album-obeys lists w .0, album-obeys lists w .1, album-read lists w);
         of-bytes = λ c h. (bytes-words c h, words-of-bytes c);
       }

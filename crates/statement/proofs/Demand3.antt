@@ -1,4 +1,6 @@
--- Laws: Demand 3 of every call to which no refusal applies: `lowest` of the call's rows is Done. What the calls then answer and write are the
+-- Demand 3 holds: each line by the theorem that shows it.
+--     demand3      over every prime field with more elements than a list has words
+--     of-engine    over the field of 65,521 elements
 -- Assumes nothing.
 use mathlib.Core.Path.{_≡_, sym}
 use mathlib.Core.List.{List, []}
@@ -22,14 +24,11 @@ use Rattle.album_theory.proofs.Greatest.{meaning-none, album-is-greatest}
 use Rattle.album_theory.proofs.Defined.{album-is-the}
 use Rattle.album_layout.specs.Layout.{listsOf}
 use Rattle.album_layout.proofs.Passed.{passed-each}
-use Rattle.list_division.specs.Calls.{divideRefusals}
 use Rattle.list_division.proofs.Judged.{divide-fits}
 use Rattle.list_division.proofs.Answers.{divides-so}
-use Rattle.list_gcd.specs.Calls.{gcdRefusals}
 use Rattle.list_gcd.proofs.Ready.{gcd-ready}
-use Rattle.list_cofactors.specs.Calls.{cofactorRefusals}
 use Rattle.list_cofactors.proofs.Results.{cofactors-ready}
-use Rattle.album_gcd.specs.Calls.{albumGcdRefusals}
+use Rattle.album_gcd.specs.Calls.{albumGcdRows}
 use Rattle.album_gcd.proofs.Judging.{judged-fine}
 use Rattle.album_gcd.proofs.Zeros.{nonzero}
 use Rattle.album_gcd.proofs.Finish.{each as coefficients-each}
@@ -42,8 +41,7 @@ module _ (F : PrimeField) where
     index : ℕ
     some : 0 < significant (getD lists index [])
 
-  album-ready : maxWords ≤ F .p → (s h : List ℕ) → Bytes s → lowest (albumGcdRefusals (F .p) s h) ≡ Done → Ready (listsOf s)
-  unfolding albumGcdRefusals
+  album-ready : maxWords ≤ F .p → (s h : List ℕ) → Bytes s → lowest (albumGcdRows (F .p) maxWords s h) ≡ Done → Ready (listsOf s)
   album-ready wide s h bytes e =
       let j = judged-fine (F .p) maxWords s h e in
       let one = nonzero (listsOf s) (j .1) in
@@ -54,7 +52,6 @@ module _ (F : PrimeField) where
       }
 
   pub demand3 : maxWords ≤ F .p → Demand3 F
-  unfolding gcdRefusals cofactorRefusals divideRefusals
   demand3 wide =
       record {
         of-album =

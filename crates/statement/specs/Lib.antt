@@ -1,2 +1,9 @@
-pub mod Demand3
+pub mod Demand1
+pub mod Meant
+pub mod Contained
 pub mod Demand2
+pub mod Demand2Calls
+pub mod Demand3
+pub mod Demand3Calls
+pub mod Sums
+pub mod Albums

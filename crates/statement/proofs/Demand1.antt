@@ -1,0 +1,68 @@
+-- What the contracts say implies demand 1.
+--     demand1             a call that answers the number of `lowest` and, refused, leaves its slices unchanged meets the demand
+--     replies             the same of a call whose answer is given as a reply
+--     no-slice, and-slice what the contracts say of the slices: none, and one more, which holds a result or, refused, what it held
+--     empty-refused       a part that is a result or, refused, empty
+--     done-reply          what a reply of a call that completes tells: no refusal applied, and its values
+--     of-contents         demand 1 of `album_contents::contents`, whose slice is of structs: the two clauses of its contract imply it, where s is
+--                         the album, and the slice held `old` and holds `after`
+-- Assumes nothing.
+use mathlib.Core.Path.{_≡_, refl, _∙_, ap}
+use mathlib.Core.List.{List, [], _∷_}
+use Prim.Native.Nat.{ℕ}
+use Rattle.refusal.specs.Limits.{maxLists}
+use Rattle.refusal.specs.Refusal.{number, outcomeNumber, Reply, reply, outcomeReply, written}
+use Rattle.refusal.specs.Lowest.{Condition, IsLowest, lowest, lowest-is}
+use Rattle.refusal.specs.declared.Outcome.{Outcome}
+use Rattle.refusal.specs.declared.Outcome.the-variants.{Done, Refused}
+use Rattle.refusal.specs.declared.Refusal.{Refusal}
+use Rattle.refusal.proofs.Answers.{number-range, number-is}
+use native.Mathlib.Omega.{arith}
+use Rattle.field.specs.Fields.{p}
+use Rattle.album_contents.specs.Calls.{contentsRefusals, recordsFrom, filled}
+use Rattle.album_contents.specs.declared.Entry.{Entry}
+use Rattle.statement.specs.Demand1.{Slice, sliceOf, Demand1, EmptyRefused, Left}
+
+never-zero : (why : Refusal) → 0 ≡ number why → ⊥
+never-zero why e = omega (arith, number-range why)
+
+pub done-reply : (found : Outcome) (v values : List ℕ) → reply Done v ≡ reply found values → (found ≡ Done) × (v ≡ values)
+done-reply Done v values e = (refl, ap (λ r. r .values) e)
+done-reply (Refused why) v values e = absurd (never-zero why (ap (λ r. r .number) e))
+
+-- by cases on what `lowest` is
+by-outcome : (rows : List Condition) (o : Outcome) → IsLowest rows o
+    → (answer : ℕ) (slices : List Slice) → answer ≡ outcomeNumber o → Left o slices → Demand1 rows answer slices
+by-outcome rows Done none answer slices e l = record { refused = λ some a. absurd (none some a); completes = λ _. e }
+by-outcome rows (Refused low) is answer slices e l =
+    record { refused = λ some a. (low, is, e, l .unchanged low refl); completes = λ none. absurd (none low (is .0)) }
+
+pub demand1 : (rows : List Condition) (answer : ℕ) (slices : List Slice) → answer ≡ outcomeNumber (lowest rows) → Left (lowest rows) slices
+    → Demand1 rows answer slices
+demand1 rows answer slices e l = by-outcome rows (lowest rows) (lowest-is rows) answer slices e l
+
+pub replies : {rows : List Condition} (values : List ℕ) {r : Reply} {slices : List Slice} → r ≡ reply (lowest rows) values
+    → Left (lowest rows) slices → Demand1 rows (r .number) slices
+replies {rows} values {r} {slices} e l = demand1 rows (r .number) slices (number-is (lowest rows) values e) l
+
+pub no-slice : {o : Outcome} → Left o []
+no-slice = record { unchanged = λ why r. tt }
+
+pub and-slice : {o : Outcome} (new : List ℕ) {old after : List ℕ} {slices : List Slice} → after ≡ written o new old → Left o slices
+    → Left o (sliceOf old after ∷ slices)
+and-slice new {old} e l = record { unchanged = λ why r. (e ∙ ap (λ a. written a new old) r, l .unchanged why r) }
+
+empty-by-outcome : (rows : List Condition) (o : Outcome) → IsLowest rows o
+    → (new part : List ℕ) → part ≡ written o new [] → EmptyRefused rows part
+empty-by-outcome rows Done none new part e = λ why a. absurd (none why a)
+empty-by-outcome rows (Refused low) is new part e = λ why a. e
+
+pub empty-refused : (rows : List Condition) (new part : List ℕ) → part ≡ written (lowest rows) new [] → EmptyRefused rows part
+empty-refused rows new part e = empty-by-outcome rows (lowest rows) (lowest-is rows) new part e
+
+pub of-contents : (s : List ℕ) (old after : List Entry) (answer : Outcome)
+    → outcomeReply answer ≡ reply (lowest (contentsRefusals p s old)) []
+    → after ≡ filled (lowest (contentsRefusals p s old)) (recordsFrom s 0 maxLists) old
+    → Demand1 (contentsRefusals p s old) (outcomeReply answer .number) (sliceOf old after ∷ [])
+of-contents s old after answer e f =
+    replies [] e (record { unchanged = λ why r. (f ∙ ap (λ o. filled o (recordsFrom s 0 maxLists) old) r, tt) })

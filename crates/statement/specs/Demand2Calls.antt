@@ -1,0 +1,122 @@
+-- What demand 2 says of each call, by its inputs, its answer r and what its slice holds at exit. Of a refused call it says nothing.
+--     Answers r values     the call completes and answers these values
+--     ProductSo, RaiseSo, SumSo, DifferenceSo, TrimSo, DerivativeSo     the slice holds the one list that means the product, the same
+--                          polynomial, the sum, the difference, the same scaled form less its top zeros, the formal derivative
+--     ExtentSo             an extent is the largest k with c_k not 0; no value is answered for a list of zeros and for no other
+--     ValueSo              the word is the one that stands for the value
+--     WordSumSo, WordDifferenceSo, WordProductSo     the word is the one that stands for the sum, the difference, the product of two coefficients
+--     InverseSo            the word is the inverse
+--     ReadSo               of an album that holds some lists without a loose word, list i is read: its naive degree is answered, its words
+--                          are written, zeros after them; and a call that completes was handed such an album
+--     BodySo               of such an album the part is the bytes of list i
+--     ContentsSo           of such an album each record names the naive degree of its list and the place of its bytes, zeros after the last
+--     HostProductSo        the bytes at exit are those of a list, and it is the one that means the product of the lists whose bytes were given
+-- Assumes nothing.
+use mathlib.Core.Path.{_≡_}
+use mathlib.Core.List.{List, [], _∷_}
+use Prim.Native.Nat.{ℕ, suc, _+_, _≤_, _<_, max}
+use lib.ListN.{length, getD, take, drop}
+use Rattle.algebra.specs.Ring.{CommRing}
+use Rattle.algebra.specs.Derivative as D
+use Rattle.algebra.specs.PrimeField.{PrimeField, scalars, residue}
+use Rattle.refusal.specs.Limits.{maxLists, maxWords}
+use Rattle.refusal.specs.Refusal.{Reply, reply}
+use Rattle.refusal.specs.declared.Outcome.the-variants.{Done}
+use Rattle.field.specs.Field.{IsInverse}
+use Rattle.lists.specs.Bytes.{wordsOf, bytesOf}
+use Rattle.lists.specs.Degrees.{naiveDegree}
+use Rattle.lists.specs.Lists.{meaning}
+use Rattle.lists.specs.Padded.{padded}
+use Rattle.list_derivative.specs.Calls.{derivativeWords}
+use Rattle.album_layout.specs.Written.{albumOf, Writable}
+use Rattle.album_contents.specs.declared.Entry.{Entry}
+use Rattle.statement.specs.Meant.{TheWord, TheValue, TheList, TheTrim, IsExtent}
+use Rattle.statement.specs.Contained.{none}
+
+abbrev pub Answers : Reply → List ℕ → Type 0
+Answers r values = r ≡ reply Done values
+
+pub record ExtentSo (f : List ℕ) (r : Reply) : Type 0 where
+  pub extent : (e : ℕ) → Answers r (e ∷ []) → IsExtent f e
+  pub zero-list : Answers r [] → (k : ℕ) → getD f k 0 ≡ 0
+
+module _ (F : PrimeField) where
+  open CommRing (scalars F) using (Carrier as K, neg as ⊖_, add as _⊕_, mul as _⊗_)
+  open CommRing (F .series .ring) using (neg as -ˢ_, add as _+ˢ_, mul as _*ˢ_)
+
+  infixl 65 _⊕_
+  infixl 70 _⊗_
+  infix 80 ⊖_
+  infixl 65 _+ˢ_
+  infixl 70 _*ˢ_
+  infix 80 -ˢ_
+  abbrev pub ProductSo : (f g out : List ℕ) → Reply → Type 0
+  ProductSo f g out r = Answers r [] → TheList F (suc (naiveDegree f + naiveDegree g)) (meaning F f *ˢ meaning F g) out
+
+  abbrev pub RaiseSo : (f : List ℕ) → (n : ℕ) → (out : List ℕ) → Reply → Type 0
+  RaiseSo f n out r = Answers r [] → TheList F (suc n) (meaning F f) out
+
+  abbrev pub SumSo : (f g out : List ℕ) → Reply → Type 0
+  SumSo f g out r = Answers r [] → TheList F (suc (max (naiveDegree f) (naiveDegree g))) (meaning F f +ˢ meaning F g) out
+
+  abbrev pub DifferenceSo : (f g out : List ℕ) → Reply → Type 0
+  DifferenceSo f g out r = Answers r [] → TheList F (suc (max (naiveDegree f) (naiveDegree g))) (meaning F f +ˢ -ˢ meaning F g) out
+
+  abbrev pub TrimSo : (f out : List ℕ) → Reply → Type 0
+  TrimSo f out r = Answers r [] → TheTrim F f out
+
+  abbrev pub DerivativeSo : (f out : List ℕ) → Reply → Type 0
+  DerivativeSo f out r = Answers r [] → TheList F (derivativeWords f) (D.derivative (F .series) (meaning F f)) out
+
+  abbrev pub ValueSo : (f : List ℕ) → (x : ℕ) → Reply → Type 0
+  ValueSo f x r = (w : ℕ) → Answers r (w ∷ []) → TheValue F f x w
+
+  -- the word that stands for an element of the field
+  abbrev pub WordSo : K → Reply → Type 0
+  WordSo x r = (w : ℕ) → Answers r (w ∷ []) → TheWord F x w
+
+  abbrev pub WordSumSo : (a b : ℕ) → Reply → Type 0
+  WordSumSo a b r = WordSo (residue F a ⊕ residue F b) r
+
+  abbrev pub WordDifferenceSo : (a b : ℕ) → Reply → Type 0
+  WordDifferenceSo a b r = WordSo (residue F a ⊕ ⊖ residue F b) r
+
+  abbrev pub WordProductSo : (a b : ℕ) → Reply → Type 0
+  WordProductSo a b r = WordSo (residue F a ⊗ residue F b) r
+
+  abbrev pub InverseSo : (a : ℕ) → Reply → Type 0
+  InverseSo a r = (w : ℕ) → Answers r (w ∷ []) → IsInverse (F .p) a w
+
+  -- s is the album of these lists, which have no loose word
+  pub record Holds (s : List ℕ) (lists : List (List ℕ)) : Type 0 where
+    pub writable : Writable lists
+    pub tight : (k j : ℕ) → getD (getD lists k []) j 0 < F .p
+    pub album : albumOf lists ≡ s
+
+  -- list i is handed out
+  pub record Handed (lists : List (List ℕ)) (i : ℕ) (out : List ℕ) (r : Reply) : Type 0 where
+    pub inside : i < length lists
+    pub degree : Answers r (naiveDegree (getD lists i []) ∷ [])
+    pub words : out ≡ padded maxWords (getD lists i [])
+
+  pub record ReadSo (s : List ℕ) (i : ℕ) (old out : List ℕ) (r : Reply) : Type 0 where
+    pub reads : (lists : List (List ℕ)) → Holds s lists → i < length lists → length old ≡ maxWords → Handed lists i out r
+    pub holds : (n : ℕ) → Answers r (n ∷ []) → (lists : List (List ℕ)) × Holds s lists × Handed lists i out r
+
+  abbrev pub BodySo : List ℕ → ℕ → (part : List ℕ) → Type 0
+  BodySo s i part = (lists : List (List ℕ)) → Holds s lists → i < length lists → part ≡ bytesOf (getD lists i [])
+
+  pub record Entries (s : List ℕ) (lists : List (List ℕ)) (entries : List Entry) : Type 0 where
+    pub records : length entries ≡ maxLists
+    pub degree : (i : ℕ) → i < length lists → getD entries i none .degree ≡ naiveDegree (getD lists i [])
+    pub place : (i : ℕ) → i < length lists
+        → take (length (bytesOf (getD lists i []))) (drop (getD entries i none .offset) s) ≡ bytesOf (getD lists i [])
+    pub zeros : (i : ℕ) → length lists ≤ i → i < maxLists → getD entries i none ≡ none
+
+  abbrev pub ContentsSo : List ℕ → (old entries : List Entry) → Reply → Type 0
+  ContentsSo s old entries r = (lists : List (List ℕ)) → Holds s lists → length old ≡ maxLists → Answers r [] × Entries s lists entries
+
+  -- n is the number that a host is answered
+  abbrev pub HostProductSo : (f g out : List ℕ) → ℕ → Type 0
+  HostProductSo f g out n = n ≡ 0 → (bytesOf (wordsOf out) ≡ out)
+      × TheList F (suc (naiveDegree (wordsOf f) + naiveDegree (wordsOf g))) (meaning F (wordsOf f) *ˢ meaning F (wordsOf g)) (wordsOf out)

@@ -20,7 +20,7 @@ use Rattle.algebra.specs.Ring.{CommRing}
 use Rattle.algebra.specs.Polynomial.{Polynomial, Divides}
 use Rattle.algebra.proofs.Polynomial.{divides-0, divides-refl, divides-trans}
 use Rattle.algebra.specs.OneMinusT.{⟨1-t⟩^}
-use Rattle.algebra.proofs.OneMinusT.{Split, split-le, split-off}
+use Rattle.algebra.proofs.Factors.{Split, split-le, split-off}
 use Rattle.algebra.proofs.CommonDivisor.{core-divides, assemble, divisor-nonzero, core-divides-bezout}
 use Rattle.algebra.specs.PrimeField.{PrimeField, scalarField, positive}
 use Rattle.lists.specs.Degrees.{naiveDegree, significant, extent}

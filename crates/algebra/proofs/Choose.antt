@@ -13,6 +13,7 @@ use native.Mathlib.Decide.{ℕ-discrete}
 use native.Mathlib.Omega.{arith}
 use Rattle.algebra.specs.RingLaws as R
 use Rattle.algebra.specs.Ring.{CommRing}
+use Rattle.algebra.proofs.Ring.{zero-of-mul}
 use Rattle.algebra.specs.Prime.{Prime}
 use Rattle.algebra.specs.Zp.{Zp, Zp-field}
 use Rattle.algebra.specs.ResiduesLaws.{pos-of}
@@ -100,7 +101,7 @@ module _ (p : ℕ) (prime : Prime p) where
       Zp-field p prime .one≢zero (sym (residueMod-one p (pos-of p prime)) ∙ ap res (sym (choose-zero n)) ∙ e)
   choose-nonzero n (suc k) h l e =
       small-nonzero (n - k) (omega arith) (omega arith)
-      (R.zero-of-mul (Zp p prime) (Zp-field p prime) (res (choose n k)) (res (n - k)) (choose-nonzero n k h (omega arith)) product)
+      (zero-of-mul (Zp p prime) (Zp-field p prime) (res (choose n k)) (res (n - k)) (choose-nonzero n k h (omega arith)) product)
     where
       product : res (choose n k) ⊗ res (n - k) ≡ 𝟘
       product =

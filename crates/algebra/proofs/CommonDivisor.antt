@@ -17,7 +17,8 @@ use Rattle.algebra.proofs.Series.{coeff-0}
 use Rattle.algebra.specs.Polynomial.{Polynomial, Divides}
 use Rattle.algebra.proofs.Polynomial.{polynomial-add, polynomial-mul, divides-trans, divides-mul}
 use Rattle.algebra.specs.OneMinusT.{⟨1-t⟩^}
-use Rattle.algebra.proofs.OneMinusT.{polynomial-⟨1-t⟩^, divides-⟨1-t⟩^, Split, split-le, split-nonzero, split-off, divides-without-⟨1-t⟩}
+use Rattle.algebra.proofs.OneMinusT.{polynomial-⟨1-t⟩^, divides-⟨1-t⟩^}
+use Rattle.algebra.proofs.Factors.{Split, split-le, split-nonzero, split-off, divides-without-⟨1-t⟩}
 use Rattle.algebra.specs.Homogenise.{hom}
 use Rattle.algebra.proofs.Homogenise.{hom-mul, hom-strip, polynomial-hom}
 use Rattle.algebra.specs.Degree.{Degree}

@@ -14,8 +14,8 @@ use Prim.Native.Nat.{ℕ, zero, suc, _+_, _≤_, _<_, zero-le}
 use native.Mathlib.Nat as N
 use native.Mathlib.Decide.{decLe}
 use native.Mathlib.Omega.{arith}
-use Rattle.algebra.specs.RingLaws as R
 use Rattle.algebra.specs.Ring.{CommRing, IsField}
+use Rattle.algebra.proofs.Ring.{zero-of-mul}
 use Rattle.algebra.specs.Series.{SeriesRing}
 use Rattle.algebra.specs.Polynomial.{Below}
 use Rattle.algebra.proofs.Polynomial.{below-0, zero-of-below, below-mul, drop-top, top-of-product}
@@ -56,7 +56,7 @@ module _ {Rg : CommRing} (X : SeriesRing Rg) (K : IsField Rg) where
         below = subst (λ k. Below X k (a *ˢ b)) (N.add-suc d e) (below-mul X d (suc e) (x .below) (y .below));
         top =
             λ z. y .top
-            (R.zero-of-mul Rg K (X .coeff a d) (X .coeff b e) (x .top) (sym (top-of-product X d e (x .below) (y .below)) ∙ z));
+            (zero-of-mul Rg K (X .coeff a d) (X .coeff b e) (x .top) (sym (top-of-product X d e (x .below) (y .below)) ∙ z));
       }
 
   pub size-0 : (s : S) → size X K 0 s ≡ 0

@@ -15,6 +15,7 @@ use native.Mathlib.Omega.{arith}
 use Rattle.algebra.specs.RingLaws as R
 use Rattle.algebra.specs.Ring.{CommRing, IsField}
 use Rattle.algebra.specs.RingLaws.{RING}
+use Rattle.algebra.proofs.Ring.{zero-of-mul}
 use Rattle.algebra.specs.Series.{SeriesRing, C, t}
 use Rattle.algebra.proofs.Series.{coeff-add, coeff-neg, coeff-C-mul, coeff-t-mul-zero, coeff-t-mul-suc}
 use Rattle.algebra.specs.Polynomial.{Below, Polynomial, monomial}
@@ -135,7 +136,7 @@ module _ {Rg : CommRing} (X : SeriesRing Rg) (K : IsField Rg) where
     where
       top : X .coeff u n ≡ 𝟘
       top =
-          R.zero-of-mul Rg K (X .coeff f m) (X .coeff u n) nonzero
+          zero-of-mul Rg K (X .coeff f m) (X .coeff u n) nonzero
           (R.mul-comm Rg _ _ ∙ sym (top-of-product X n m hu hf) ∙ h .at (n + m) (N.le-add-left m n))
 
   -- quotient and remainder are the only ones

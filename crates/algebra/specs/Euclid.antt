@@ -7,10 +7,11 @@
 --     next q z                the answer on (x, y), from the answer z on (y, x - q · y)
 --     euclid fuel n x y       the answer on (x, y), polynomials of at most n coefficients: a round replaces (x, y) by (y, remainder
 --                             of x by y), until y is 0; fuel bounds the rounds, and size n y is enough
--- Theorems (proofs/Euclid):
+-- Theorems, each in the module of proofs/ that is named:
 --     euclid-ok                    the last x divides both, the cofactors' identity holds, and the cofactors have few coefficients
---     euclid-fuel, euclid-room     more fuel, or more room, changes nothing
---     euclid-rounds                the rounds are those of the relation Rounds (proofs/Rounds)
+--                                  (EuclidCorrect)
+--     euclid-fuel, euclid-room     more fuel, or more room, changes nothing (Euclid)
+--     euclid-rounds                the rounds are those of the relation Rounds (Rounds)
 -- Assumes nothing.
 use Prim.Native.Nat.{ℕ, zero, suc, _-_}
 use Rattle.algebra.specs.Ring.{CommRing, IsField}

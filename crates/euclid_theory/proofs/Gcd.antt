@@ -13,7 +13,8 @@ use Rattle.algebra.proofs.Polynomial.{below-mono}
 use Rattle.algebra.specs.Degree.{Degree, size}
 use Rattle.algebra.proofs.Degree.{size-le, size-zero, size-of, size-of-0}
 use Rattle.algebra.specs.Euclid.{done}
-use Rattle.algebra.proofs.Euclid.{EuclidOk, euclid-end, euclid-ok}
+use Rattle.algebra.proofs.Euclid.{euclid-end}
+use Rattle.algebra.proofs.EuclidCorrect.{EuclidOk, euclid-ok}
 use Rattle.algebra.specs.Rounds.{Rounds}
 use Rattle.algebra.proofs.Rounds.{euclid-rounds}
 use Rattle.algebra.specs.Monic.{monic}

@@ -5,8 +5,8 @@
 use mathlib.Core.Path.{_≡_, sym, ap, _∙_}
 use Prim.Native.Nat.{ℕ, zero, suc, _<_}
 use native.Mathlib.Omega.{arith}
-use Rattle.algebra.specs.RingLaws as R
 use Rattle.algebra.specs.Ring.{CommRing}
+use Rattle.algebra.proofs.Ring.{zero-of-mul}
 use Rattle.algebra.specs.PrimeField.{PrimeField, scalars, scalarField, residue}
 use Rattle.algebra.proofs.PrimeField.{residue-1, residue-mul, residue-nonzero}
 use Rattle.field_tables.specs.Factorials.{factorial, factorial-0, factorial-suc, factorialIn}
@@ -27,4 +27,4 @@ module _ (F : PrimeField) where
   factorial-nonzero zero l e = scalarField F .one≢zero (sym factorial-start ∙ e)
   factorial-nonzero (suc k) l e =
       residue-nonzero F (suc k) l (λ z. omega arith)
-      (R.zero-of-mul (scalars F) (scalarField F) (factorialIn F k) (residue F (suc k)) (factorial-nonzero k (omega arith)) (sym (factorial-next k) ∙ e))
+      (zero-of-mul (scalars F) (scalarField F) (factorialIn F k) (residue F (suc k)) (factorial-nonzero k (omega arith)) (sym (factorial-next k) ∙ e))

@@ -26,7 +26,8 @@ use Rattle.algebra.specs.Choose.{choose}
 use Rattle.algebra.proofs.Choose.{choose-suc-suc, choose-suc}
 use Rattle.algebra.specs.Derivative as D
 use Rattle.algebra.specs.Derivative.{multiple, scaledDerivative}
-use Rattle.algebra.proofs.Derivative.{multiple-residue, coeff-scaledDerivative, derivative-C, derivative-hom}
+use Rattle.algebra.proofs.Derivative.{coeff-scaledDerivative, derivative-C, derivative-hom}
+use Rattle.algebra.proofs.Multiple.{multiple-residue}
 use Rattle.algebra.specs.PrimeField.{PrimeField, scalars, positive, residue, value}
 use Rattle.algebra.proofs.PrimeField.{residue-value, value-lt, residue-mul}
 use Rattle.lists.specs.Tabulate.{tabulate}

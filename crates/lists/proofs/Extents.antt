@@ -19,7 +19,7 @@ use borrow.Author.Tests.{eq-eqb, ne-eqb}
 use Rattle.algebra.specs.Ring.{CommRing}
 use Rattle.algebra.specs.Polynomial.{Below}
 use Rattle.algebra.proofs.Polynomial.{below-mono, zero-of-below}
-use Rattle.algebra.proofs.OneMinusT.{Split}
+use Rattle.algebra.proofs.Factors.{Split}
 use Rattle.algebra.specs.Homogenise.{hom}
 use Rattle.algebra.proofs.Homogenise.{hom-strip, valueAt1-hom}
 use Rattle.algebra.specs.Degree.{Degree, size}

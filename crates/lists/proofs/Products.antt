@@ -15,7 +15,8 @@ use native.Mathlib.Omega.{arith}
 use lib.ListN.{getD, length}
 use Rattle.algebra.specs.RingLaws as R
 use Rattle.algebra.specs.Ring.{CommRing, pow}
-use Rattle.algebra.specs.RingLaws.{pow-zero, pow-suc, AC, RING}
+use Rattle.algebra.specs.RingLaws.{AC, RING}
+use Rattle.algebra.proofs.Ring.{pow-zero, pow-suc}
 use Rattle.algebra.specs.Series.{t}
 use Rattle.algebra.proofs.Series.{ext, coeff-add, coeff-1-zero, coeff-1-suc, C-one, coeff-t-mul-zero, coeff-t-mul-suc}
 use Rattle.algebra.specs.Polynomial.{Below}

@@ -20,6 +20,7 @@ use lib.ListN.{getD, length, List·getD-eq-default}
 use lib.Seq.{ext-getD}
 use Rattle.algebra.specs.RingLaws as R
 use Rattle.algebra.specs.Ring.{CommRing, pow}
+use Rattle.algebra.proofs.Ring.{zero-of-mul}
 use Rattle.algebra.specs.Series.{C, t}
 use Rattle.algebra.proofs.Series.{coeff-mk, ext, C-zero}
 use Rattle.algebra.specs.Polynomial.{Below, Polynomial}
@@ -87,7 +88,7 @@ module _ (F : PrimeField) where
   coefficient-nonzero c k g l h e =
       let s = g .short in
       binomial-nonzero (length c - 1) k (omega arith) (omega arith)
-      (R.zero-of-mul (scalars F) (scalarField F) (residue F (getD c k 0)) (binomial F (length c - 1) k) (residue-nonzero F (getD c k 0) (g .below k) h) e)
+      (zero-of-mul (scalars F) (scalarField F) (residue F (getD c k 0)) (binomial F (length c - 1) k) (residue-nonzero F (getD c k 0) (g .below k) h) e)
 
   -- the last coefficient is the last word
   pub coefficient-last : (c : List ℕ) → scaledCoefficient F c (naiveDegree c) ≡ word F c (naiveDegree c)

@@ -15,6 +15,7 @@ use borrow.Author.Tests.{le-leb}
 use Rattle.algebra.specs.RingLaws as R
 use Rattle.algebra.specs.Ring.{CommRing}
 use Rattle.algebra.specs.RingLaws.{AC, RING}
+use Rattle.algebra.proofs.Ring.{mul-left-cancel}
 use Rattle.algebra.specs.Choose.{choose}
 use Rattle.algebra.specs.PrimeField.{PrimeField, scalars, scalarField, positive, residue, value, inverse}
 use Rattle.algebra.proofs.PrimeField.{residue-1, residue-mul, residue-mul-mod, residue-nonzero, inverse-cancel′}
@@ -56,7 +57,7 @@ module _ (F : PrimeField) where
     pub inverse-quotient : inverseFactorialIn F n ⊗ factorialIn F k ⊗ factorialIn F (n - k) ≡ inverse F (binomial F n k)
     unfolding inverseFactorialIn
     inverse-quotient =
-        R.mul-left-cancel (scalars F) (scalarField F) (binomial F n k) _ _ some
+        mul-left-cancel (scalars F) (scalarField F) (binomial F n k) _ _ some
         (regroup (binomial F n k) (inverse F (factorialIn F n)) (factorialIn F k) (factorialIn F (n - k))
         ∙ ap (λ x. 𝟙 ⊗ x ⊗ inverse F (factorialIn F n)) (binomial-factorials n k l)
         ∙ inverse-cancel′ F 𝟙 (factorialIn F n) (factorial-nonzero F n h)

@@ -27,7 +27,8 @@ use Rattle.algebra.specs.PrimeField.{PrimeField, scalarField}
 use Rattle.lists.specs.Degrees.{naiveDegree, significant, extent, power}
 use Rattle.lists.specs.Lists.{Coefficients, meaning, scaled}
 use Rattle.lists.specs.Operations.{trim}
-use Rattle.lists.proofs.Scaled.{naive-length, below-scaled, meaning-hom, length-unscaled, coefficients-unscaled, scaled-unscaled, last-one}
+use Rattle.lists.proofs.Scaled.{naive-length, below-scaled, meaning-hom, last-one}
+use Rattle.lists.proofs.Unscaled.{length-unscaled, coefficients-unscaled, scaled-unscaled}
 use Rattle.lists.proofs.Extents.{significant-le, significant-extent, significant-is-size}
 use Rattle.lists.proofs.Trims.{naive-trim, trim-scaled, trim-meaning}
 use Rattle.euclid_theory.specs.Defined.{Head, MonicOf}

@@ -24,7 +24,8 @@ use Rattle.algebra.proofs.Monic.{monic-is}
 use Rattle.algebra.specs.PrimeField.{PrimeField, scalarField, positive}
 use Rattle.lists.specs.Degrees.{significantIn, significant}
 use Rattle.lists.specs.Lists.{Coefficients, scaled, unscaled}
-use Rattle.lists.proofs.Scaled.{coefficients-listed, below-scaled, length-unscaled}
+use Rattle.lists.proofs.Scaled.{coefficients-listed, below-scaled}
+use Rattle.lists.proofs.Unscaled.{length-unscaled}
 use Rattle.lists.proofs.Extents.{significant-at}
 use Rattle.lists.specs.Refused.{IsList}
 use Rattle.euclid_theory.specs.Gcd.{room, euclidOf, gcdOf, roundsOf}

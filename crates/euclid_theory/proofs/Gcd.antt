@@ -22,7 +22,8 @@ use Rattle.algebra.proofs.Monic.{monic-top, monic-degree, monic-divides}
 use Rattle.algebra.specs.PrimeField.{PrimeField, scalarField}
 use Rattle.lists.specs.Degrees.{naiveDegree, significant, extent}
 use Rattle.lists.specs.Lists.{Coefficients, scaled}
-use Rattle.lists.proofs.Scaled.{naive-length, below-scaled, length-unscaled, coefficients-unscaled, scaled-unscaled, last-one}
+use Rattle.lists.proofs.Scaled.{naive-length, below-scaled, last-one}
+use Rattle.lists.proofs.Unscaled.{length-unscaled, coefficients-unscaled, scaled-unscaled}
 use Rattle.lists.proofs.Extents.{significant-at}
 use Rattle.euclid_theory.specs.Gcd.{room, euclidOf, gcdOf, roundsOf}
 

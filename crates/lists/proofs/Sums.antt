@@ -24,7 +24,7 @@ use Rattle.lists.specs.Degrees.{naiveDegree}
 use Rattle.lists.specs.Lists.{Coefficients, word, binomial, meaning, scaled}
 use Rattle.lists.specs.Operations.{raise, largerDegree, sumOf, differenceOf}
 use Rattle.lists.proofs.Scaled.{naive-length, coefficients, coeff-scaled-at, meaning-hom-at}
-use Rattle.lists.proofs.Products.{length-raise, naive-raise, raise-meaning}
+use Rattle.lists.proofs.Raises.{length-raise, naive-raise, raise-meaning}
 
 module _ (F : PrimeField) where
   open CommRing (scalars F) using (Carrier as K, zero as 𝟘, one as 𝟙, neg as ⊖_, add as _⊕_, mul as _⊗_)

@@ -16,7 +16,8 @@ use Rattle.algebra.specs.PrimeField.{PrimeField}
 use Rattle.lists.specs.Degrees.{naiveDegree, significant, extent, power}
 use Rattle.lists.specs.Lists.{Coefficients, meaning, scaled}
 use Rattle.lists.specs.Operations.{trim}
-use Rattle.lists.proofs.Scaled.{meaning-hom, length-unscaled, coefficients-unscaled, scaled-unscaled}
+use Rattle.lists.proofs.Scaled.{meaning-hom}
+use Rattle.lists.proofs.Unscaled.{length-unscaled, coefficients-unscaled, scaled-unscaled}
 use Rattle.lists.proofs.Extents.{significant-le, significant-extent, significant-below, significant-degree}
 
 module _ (F : PrimeField) where

@@ -6,11 +6,11 @@
 --     meaning c                 document 01's P(t), the sum of c_k · C(n,k) · t^k · (1-t)^(n-k)
 --     scaled c                  document 01's scaled form S, the sum of c_k · C(n,k) · u^k
 --     unscaled n s              the list of n words whose scaled form is s
--- Theorems (proofs/Scaled):
---     meaning-hom                          the meaning is the scaled form, homogenised at the naive degree
---     scaled-unscaled, unscaled-scaled     the list of a scaled form, and the scaled form of a list, undo each other
---     scaled-injective                     two lists of one length with one scaled form are equal
---     meaning-injective                    two lists of one naive degree with one meaning are equal word for word
+-- Theorems, each in the module of proofs/ that is named:
+--     meaning-hom                          the meaning is the scaled form, homogenised at the naive degree (Scaled)
+--     scaled-unscaled, unscaled-scaled     the list of a scaled form, and the scaled form of a list, undo each other (Unscaled)
+--     scaled-injective                     two lists of one length with one scaled form are equal (Unscaled)
+--     meaning-injective                    two lists of one naive degree with one meaning are equal word for word (Unscaled)
 -- Assumes nothing.
 use mathlib.Core.List.{List}
 use Prim.Native.Nat.{ℕ, _-_, _≤_, _<_}

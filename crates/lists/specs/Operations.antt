@@ -10,7 +10,7 @@
 --     evaluate c x         the value P(x) at a word x
 -- Theorems, each in the module of proofs/ that is named:
 --     product-meaning                     the product means the product (Products)
---     raise-meaning                       the raised list means the same (Products)
+--     raise-meaning                       the raised list means the same (Raises)
 --     sum-meaning, difference-meaning     the sum and the difference mean the sum and the difference (Sums)
 --     trim-meaning                        the meaning is (1-t)^power times that of the trimmed list (Trims)
 --     derivative-meaning                  the derivative means the derivative (Calculus)

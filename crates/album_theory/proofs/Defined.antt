@@ -20,7 +20,7 @@ use Rattle.euclid_theory.specs.Defined.{Head}
 use Rattle.euclid_theory.proofs.Defined.{head-gcd, gcd-is-the, monic-only, gcd-only}
 use Rattle.album_theory.specs.Albums.{Result, ended, joined, gcdFrom, albumGcd}
 use Rattle.album_theory.proofs.Ended.{head-ended, monic-ended}
-use Rattle.album_theory.proofs.Greatest.{from-none, from-zero, from-nonzero, album-zero, album-nonzero}
+use Rattle.album_theory.proofs.Albums.{from-none, from-zero, from-nonzero, album-zero, album-nonzero}
 use Rattle.album_theory.specs.Defined.{Turns, none, turn, TheAlbumGcd, passed, first}
 
 module _ (F : PrimeField) where

@@ -34,7 +34,7 @@ use Rattle.euclid_theory.proofs.Gcd.{room-right, fits-right, rounds-of-zero}
 use Rattle.euclid_theory.proofs.Powers.{significant-nil}
 use Rattle.euclid_theory.proofs.Defined.{head-gcd}
 use Rattle.album_theory.specs.Albums.{Result, ended, joined, gcdFrom, albumGcd}
-use Rattle.album_theory.proofs.Greatest.{from-none, from-zero, from-nonzero, album-zero, album-nonzero}
+use Rattle.album_theory.proofs.Albums.{from-none, from-zero, from-nonzero, album-zero, album-nonzero}
 use Rattle.album_theory.specs.Folds.{zeroStart, turn, foldGcd}
 
 significant-start : significant (0 ∷ []) ≡ 0

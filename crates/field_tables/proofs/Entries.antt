@@ -19,7 +19,7 @@ use Rattle.algebra.specs.RingLaws.{AC}
 use Rattle.algebra.specs.PrimeField.{PrimeField, scalars, residue, inverse}
 use Rattle.algebra.proofs.PrimeField.{residue-1, residue-mul-mod, inverse-cancel′}
 use Rattle.field_tables.specs.Factorials.{factorialIn, inverseFactorialIn, Holds}
-use Rattle.field_tables.proofs.Rising.{factorial-start, factorial-next, factorial-nonzero}
+use Rattle.field_tables.proofs.FactorialLaws.{factorial-start, factorial-next, factorial-nonzero}
 
 -- a rule on each entry and the next; k counts on from entry to entry
 abbrev steps : (ℕ → ℕ → ℕ → Bool) → ℕ → List ℕ → Bool

@@ -13,8 +13,7 @@ use native.Mathlib.Nat.{mod-lt, mod-add-div, mod-add-mod, add-mod-mod, mul-comm,
 use native.Mathlib.Omega.{arith}
 use Rattle.field.specs.Fields.{modulus, wordInverse, square}
 use Rattle.field.proofs.FieldsLaws.{modulus-half, word-inverse, square-is}
-use Rattle.word_montgomery.specs.Montgomery.{same}
-use Rattle.word_montgomery.proofs.Words.{remainder}
+use Rattle.word_montgomery.proofs.Words.{remainder, same}
 use Rattle.word_row.specs.Montgomery.{Modulus, Factor}
 
 pub once : (a p : ℕ) → p ≤ a → a < p + p → a - p ≡ a % p

@@ -13,7 +13,8 @@ use Rattle.algebra.specs.RingLaws.{AC}
 use Rattle.algebra.specs.PrimeField.{PrimeField, scalars, positive, residue}
 use Rattle.algebra.proofs.PrimeField.{residue-1, residue-mul, residue-eq, residue-injective}
 use Rattle.field.specs.Fields.{modulus, wordInverse, fourth}
-use Rattle.word_montgomery.specs.Montgomery.{montgomery, montgomery-rule, montgomery-below}
+use Rattle.word_montgomery.specs.Montgomery.{montgomery}
+use Rattle.word_montgomery.proofs.Montgomery.{montgomery-rule, montgomery-below}
 
 -- e is 1/p modulo 2^16, u is 1/2^16 modulo p, and w is 2^64 modulo p
 pub record Constants (p e u w : ℕ) : Type 0 where

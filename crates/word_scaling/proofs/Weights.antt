@@ -7,7 +7,7 @@
 use mathlib.Core.Path.{_≡_, refl, sym, ap, _∙_}
 use mathlib.Core.Bool.{true, cond}
 use mathlib.Core.List.{List}
-use Prim.Native.Nat.{ℕ, zero, suc, _+_, _-_, _*_, _%_, _≤_, _<_}
+use Prim.Native.Nat.{ℕ, zero, _+_, _-_, _*_, _%_, _≤_, _<_}
 use native.Mathlib.Nat.{mod-lt}
 use native.Mathlib.Omega.{arith}
 use lib.ListN.{length, getD}
@@ -18,15 +18,15 @@ use Rattle.algebra.specs.RingLaws.{AC, RING}
 use Rattle.algebra.proofs.Ring.{mul-left-cancel}
 use Rattle.algebra.specs.Choose.{choose}
 use Rattle.algebra.specs.PrimeField.{PrimeField, scalars, scalarField, positive, residue, value, inverse}
-use Rattle.algebra.proofs.PrimeField.{residue-1, residue-mul, residue-mul-mod, residue-nonzero, inverse-cancel′}
+use Rattle.algebra.proofs.PrimeField.{residue-mul, residue-mul-mod, inverse-cancel′}
 use Rattle.lists.specs.Degrees.{naiveDegree}
 use Rattle.lists.proofs.Tabulate.{length-tabulate, getD-tabulate, tabulate-ext}
 use Rattle.lists.specs.Lists.{word, binomial, scaledCoefficient, unscaled}
 use Rattle.lists.proofs.Scaled.{binomial-nonzero}
 use Rattle.lists.specs.Words.{seriesOf}
 use Rattle.lists.proofs.Words.{coeff-seriesOf, scaledWords, value-is}
-use Rattle.field_tables.specs.Factorials.{factorial, choose-factorials, factorialIn, inverseFactorialIn, Tables}
-use Rattle.field_tables.proofs.Rising.{factorial-nonzero}
+use Rattle.field_tables.specs.Factorials.{factorial, factorialIn, inverseFactorialIn, Tables}
+use Rattle.field_tables.proofs.FactorialLaws.{choose-factorials, factorial-nonzero}
 use Rattle.word_scaling.specs.Kernels.{weightedAt, weighted, weighFits}
 
 module _ (F : PrimeField) where

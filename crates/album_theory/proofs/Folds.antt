@@ -151,14 +151,14 @@ module _ (F : PrimeField) where
     where
       short : length (gcdOf F (result .list) c) ≤ most
       short =
-          let s = size-le (F .series) (scalarField F) (room (result .list) c) (euclidOf F (result .list) c .last) in
-          let a = hr .short in
-          let b = hc .short in
+          let size = size-le (F .series) (scalarField F) (room (result .list) c) (euclidOf F (result .list) c .last) in
+          let first = hr .short in
+          let second = hc .short in
           unfold gcdOf room in rw (length-unscaled F _ _) (omega arith)
 
       go : Dec (significant c ≡ 0) → IsList (F .p) most (turn F result c .list)
       go (yes e) = rw (turn-zero result c e) hr
       go (no e) =
-          let h = head-gcd F (result .list) c (coefficients-listed F l hr) (coefficients-listed F l hc) (omega arith) in
-          let w = h .words in
-          rw (turn-nonzero result c e) (record { some = omega arith; short = short; words = h .coefficients .below })
+          let head = head-gcd F (result .list) c (coefficients-listed F l hr) (coefficients-listed F l hc) (omega arith) in
+          let words = head .words in
+          rw (turn-nonzero result c e) (record { some = omega arith; short = short; words = head .coefficients .below })

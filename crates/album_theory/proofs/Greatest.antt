@@ -198,9 +198,9 @@ module _ (F : PrimeField) where
         -- K has at most c factors 1-t
         small : (q : Split (F .series) K) → q .k ≤ commonPower lists
         small q =
-            let a = commonPower-attained lists i some in
-            let s = power-exact F (at lists (a .index)) (each (a .index)) (a .some) in
-            subst (λ k. q .k ≤ k) (s .1 ∙ sym (a .is)) (split-le (F .series) q (s .0) (d (a .index)))
+            let least = commonPower-attained lists i some in
+            let exact = power-exact F (at lists (least .index)) (each (least .index)) (least .some) in
+            subst (λ k. q .k ≤ k) (exact .1 ∙ sym (least .is)) (split-le (F .series) q (exact .0) (d (least .index)))
 
         go : (K ≡ 0ˢ) ⊎ Split (F .series) K
             → Divides (F .series) K (⟨1-t⟩^ (F .series) (commonPower lists) *ˢ meaning F (albumGcd F lists .list))

@@ -69,9 +69,9 @@ module _ {Rg : CommRing} (X : SeriesRing Rg) (K : IsField Rg) where
   euclid-fuel (suc a) zero n {x} {y} hx hy l m = let e : sz n y ≡ 0 = omega arith in euclid-end (suc a) n x y e ∙ sym (euclid-end 0 n x y e)
   euclid-fuel (suc a) (suc b) n {x} {y} hx hy l m =
       go
-      (λ d e. let h = remainder-small n d hx hy e in
-      let lr = size-least X K n d h in
-      euclid-fuel a b n hy (below-mono X (let l1 = size-le X K n y in omega arith) h) (omega arith) (omega arith))
+      (λ d e. let small = remainder-small n d hx hy e in
+      let shorter = size-least X K n d small in
+      euclid-fuel a b n hy (below-mono X (let room = size-le X K n y in omega arith) small) (omega arith) (omega arith))
       (sz n y) refl
     where
       go : ((d : ℕ) → sz n y ≡ suc d → euclid X K a n y (remainderBy X K n d x y) ≡ euclid X K b n y (remainderBy X K n d x y)) → (j : ℕ)
@@ -84,9 +84,9 @@ module _ {Rg : CommRing} (X : SeriesRing Rg) (K : IsField Rg) where
   euclid-room zero n m hx hy gx gy = refl
   euclid-room (suc a) n m {x} {y} hx hy gx gy =
       go
-      (λ d e. let h = remainder-small n d hx hy e in
-      euclid-room a n m hy (below-mono X (let l = size-le X K n y in omega arith) h) gy
-      (below-mono X (let l = size-le X K m y in let q = size-same X K n m hy gy in omega arith) h))
+      (λ d e. let small = remainder-small n d hx hy e in
+      euclid-room a n m hy (below-mono X (let room = size-le X K n y in omega arith) small) gy
+      (below-mono X (let room = size-le X K m y in let same = size-same X K n m hy gy in omega arith) small))
       (sz n y) refl
     where
       go : ((d : ℕ) → sz n y ≡ suc d → euclid X K a n y (remainderBy X K n d x y) ≡ euclid X K a m y (remainderBy X K n d x y)) → (j : ℕ)
@@ -101,10 +101,9 @@ module _ {Rg : CommRing} (X : SeriesRing Rg) (K : IsField Rg) where
   pub round-law : (n d : ℕ) {x y : S} → Below X n x → Below X n y → sz n y ≡ suc d
       → euclid X K n n x y ≡ next X K (quotientBy X K n d x y) (euclid X K n n y (remainderBy X K n d x y))
   round-law n d {x} {y} hx hy e =
-      let h = remainder-small n d hx hy e in
-      let l = size-le X K n y in
-      let lr = size-least X K n d h in
-      euclid-fuel n (suc n) n hx hy l (omega arith) ∙ euclid-round n n d x y e
+      let room = size-le X K n y in
+      let shorter = size-least X K n d (remainder-small n d hx hy e) in
+      euclid-fuel n (suc n) n hx hy room (omega arith) ∙ euclid-round n n d x y e
 
   -- cofactors from above: a loop that carries (s0, s1) and replaces it by (s1, s0 - q · s1) in each round
   -- ends with byX from (1, 0), and with byY from (0, 1)

@@ -78,7 +78,7 @@ module _ {Rg : CommRing} (X : SeriesRing Rg) (K : IsField Rg) where
         left = divides-x;
         right = ok .left;
         below = ok .below;
-        few = let l = ok .few in omega (arith, rd);
+        few = let rounds = ok .few in omega (arith, size-remainder);
         small = λ l. small′ (sz n r) refl;
         byX-below = λ l. byX′ (sz n r) refl;
         byY-below = λ l. byY′ (sz n r) refl (sz n x - d) refl;
@@ -105,36 +105,36 @@ module _ {Rg : CommRing} (X : SeriesRing Rg) (K : IsField Rg) where
                 ∙ factor-out q (z .last) (ok .left .cofactor) (ok .right .cofactor);
           }
 
-      xy : Degree X d y
-      xy = size-extent X K n d hy e
+      degree-y : Degree X d y
+      degree-y = size-extent X K n d hy e
 
-      hr : Below X d r
-      hr = remainder-below X K k d xy (below-mono X (omega arith) (size-below X K n hx))
+      remainder-short : Below X d r
+      remainder-short = remainder-below X K k d degree-y (below-mono X (omega arith) (size-below X K n hx))
 
-      rd : sz n r ≤ d
-      rd = size-least X K n d hr
+      size-remainder : sz n r ≤ d
+      size-remainder = size-least X K n d remainder-short
 
       small′ : (j : ℕ) → sz n r ≡ j → sz n (z .last) ≤ sz n y
       small′ zero f = N.le-of-eq (ap (λ w. sz n (w .last)) (fin f))
-      small′ (suc j) f = let l = ok .small (omega arith) in omega (arith, rd)
+      small′ (suc j) f = let smaller = ok .small (omega arith) in omega (arith, size-remainder)
 
       byX′ : (j : ℕ) → sz n r ≡ j → Below X (sz n y - sz n (z .last)) (z .byY)
       byX′ zero f = subst (λ w. Below X (sz n y - sz n (z .last)) (w .byY)) (sym (fin f)) (below-0 X _)
-      byX′ (suc j) f = let l = ok .small (omega arith) in below-mono X (omega (arith, rd)) (ok .byY-below (omega arith))
+      byX′ (suc j) f = let smaller = ok .small (omega arith) in below-mono X (omega (arith, size-remainder)) (ok .byY-below (omega arith))
 
       last1 : (a b : S) → a ≡ 1ˢ → b ≡ 0ˢ → Below X 1 (a +ˢ -ˢ (b *ˢ q))
       last1 a b u v = subst (λ w. Below X 1 w) (sym (ap₂ (λ a b. a +ˢ -ˢ (b *ˢ q)) u v ∙ simp RING)) (below-1 X)
 
       byY′ : (j : ℕ) → sz n r ≡ j → (i : ℕ) → sz n x - d ≡ i → Below X (max 1 (sz n x - sz n (z .last))) (z .byX +ˢ -ˢ (z .byY *ˢ q))
       byY′ zero f i g = below-mono X (omega arith) (last1 (z .byX) (z .byY) (ap (λ w. w .byX) (fin f)) (ap (λ w. w .byY) (fin f)))
-      byY′ (suc j) f zero g = let l : sz n r ≡ sz n x = ap (sz n) (ap (λ i. remainder X K i d x y) g ∙ remainder-zero X K d x y) in
+      byY′ (suc j) f zero g = let same : sz n r ≡ sz n x = ap (sz n) (ap (λ i. remainder X K i d x y) g ∙ remainder-zero X K d x y) in
           below-add X (below-mono X (omega arith) (ok .byX-below (omega arith)))
           (below-neg X (below-mul-0 (z .byY) (ap (λ i. quotient X K i d x y) g ∙ quotient-zero X K d x y)))
-      byY′ (suc j) f (suc i) g = let l = ok .small (omega arith) in
-          below-add X (below-mono X (omega (arith, rd)) (ok .byX-below (omega arith)))
+      byY′ (suc j) f (suc i) g = let smaller = ok .small (omega arith) in
+          below-add X (below-mono X (omega (arith, size-remainder)) (ok .byX-below (omega arith)))
           (below-neg X
-          (below-mono X (omega (arith, rd))
-          (below-mul X (d - sz n (z .last)) k (below-mono X (omega (arith, rd)) (ok .byY-below (omega arith)))
+          (below-mono X (omega (arith, size-remainder))
+          (below-mul X (d - sz n (z .last)) k (below-mono X (omega (arith, size-remainder)) (ok .byY-below (omega arith)))
           (quotient-below X K k d x y))))
 
   -- the algorithm is right
@@ -142,9 +142,9 @@ module _ {Rg : CommRing} (X : SeriesRing Rg) (K : IsField Rg) where
   euclid-ok zero n {x} {y} hx hy l = let e : sz n y ≡ 0 = omega arith in rw (euclid-end X K 0 n x y e) (done-ok n hx hy e)
   euclid-ok (suc fuel) n {x} {y} hx hy l =
       go
-      (λ d e. let h = remainder-small X K n d hx hy e in
-      euclid-ok fuel n hy (below-mono X (let l1 = size-le X K n y in omega arith) h)
-      (let l2 = size-least X K n d h in omega arith))
+      (λ d e. let small = remainder-small X K n d hx hy e in
+      euclid-ok fuel n hy (below-mono X (let room = size-le X K n y in omega arith) small)
+      (let shorter = size-least X K n d small in omega arith))
       (sz n y) refl
     where
       go : ((d : ℕ) → (e : sz n y ≡ suc d) → EuclidOk n y (remainderBy X K n d x y) (euclid X K fuel n y (remainderBy X K n d x y)))

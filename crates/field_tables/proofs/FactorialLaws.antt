@@ -28,11 +28,11 @@ factorial-suc k = refl
 pub choose-factorials : (k m : ℕ) → choose (k + m) k * factorial k * factorial m ≡ factorial (k + m)
 choose-factorials zero m = rw (zero-add m, choose-zero m, factorial-0) (omega arith)
 choose-factorials (suc k) m =
-    let e : suc k + m ≡ k + suc m = omega arith in
-    let d : k + suc m - k ≡ suc m = omega arith in
-    let a : choose (k + suc m) (suc k) * suc k ≡ choose (k + suc m) k * suc m = absorb (k + suc m) k ∙ ap (λ x. choose (k + suc m) k * x) d in
-    rw (e, factorial-suc k)
-    (omega (arith, ap (λ x. x * (factorial k * factorial m)) a, rw (factorial-suc m) at (choose-factorials k (suc m))))
+    let sum : suc k + m ≡ k + suc m = omega arith in
+    let left : k + suc m - k ≡ suc m = omega arith in
+    let absorbed : choose (k + suc m) (suc k) * suc k ≡ choose (k + suc m) k * suc m = absorb (k + suc m) k ∙ ap (λ x. choose (k + suc m) k * x) left in
+    rw (sum, factorial-suc k)
+    (omega (arith, ap (λ x. x * (factorial k * factorial m)) absorbed, rw (factorial-suc m) at (choose-factorials k (suc m))))
 
 module _ (F : PrimeField) where
   open CommRing (scalars F) using (zero as 𝟘, one as 𝟙, mul as _⊗_)

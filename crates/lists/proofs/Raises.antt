@@ -166,8 +166,8 @@ module _ (F : PrimeField) where
   -- a list raised to its own naive degree
   pub raise-same : (f : List ℕ) → Coefficients F f → 0 < length f → raise F (naiveDegree f) f ≡ f
   raise-same f g l =
-      let e = length-naive f l in
-      let s = g .short in
-      let h : naiveDegree f < F .p = omega arith in
-      meaning-injective F (raise F (naiveDegree f) f) f (coefficients-raise (naiveDegree f) f h) g (length-raise (naiveDegree f) f ∙ sym e)
-      (raise-meaning (naiveDegree f) f (omega arith) h)
+      let words = length-naive f l in
+      let short = g .short in
+      let fits : naiveDegree f < F .p = omega arith in
+      meaning-injective F (raise F (naiveDegree f) f) f (coefficients-raise (naiveDegree f) f fits) g (length-raise (naiveDegree f) f ∙ sym words)
+      (raise-meaning (naiveDegree f) f (omega arith) fits)

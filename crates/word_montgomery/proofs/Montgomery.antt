@@ -33,9 +33,9 @@ montgomery-rule p e x y inverse =
     let l = n % 65536 in
     let q = l * e % 65536 in
     let m = n / 65536 + (p - q * p / 65536) in
-    let d = difference p e (p * e / 65536) n (n / 65536) l q (l * e / 65536) (q * p / 65536) (q * p % 65536)
+    let equation = difference p e (p * e / 65536) n (n / 65536) l q (l * e / 65536) (q * p / 65536) (q * p % 65536)
     (omega (arith, inverse)) (omega arith) (omega arith) (omega arith) (omega arith) (omega arith) (multiple-below p q (omega arith)) in
-    same p (m % p * 65536) n (m / p * 65536 + q) 65536 (omega (arith, d, mod-add-div m p))
+    same p (m % p * 65536) n (m / p * 65536 + q) 65536 (omega (arith, equation, mod-add-div m p))
 
 pub montgomery-below : (p e x y : ℕ) → 0 < p → montgomery p e x y < p
 unfolding montgomery

@@ -43,10 +43,10 @@ product-halves {p} {e} {m} {g} {s} y h t f lt eh et =
     let k = p * e / 65536 in
     let a = m * 65536 / p in
     let l = y * s % 65536 in
-    let d = differ p e k m g a s (g * e / 65536) y l (y * s / 65536) h t (y * g % 65536) (l * p % 65536)
+    let equation = differ p e k m g a s (g * e / 65536) y l (y * s / 65536) h t (y * g % 65536) (l * p % 65536)
     (omega (arith, f .inverse)) (omega (arith, f .lifted, mod-add-div (m * 65536) p)) (omega (arith, f .side)) (omega arith)
     (omega (arith, eh)) (omega (arith, et)) (omega arith) (omega arith) in
-    same p (h + (p - t)) (m * y) (e * (m * y + t)) (1 + (e * h + k * (a * y + l))) (omega (arith, d))
+    same p (h + (p - t)) (m * y) (e * (m * y + t)) (1 + (e * h + k * (a * y + l))) (omega (arith, equation))
 
 pub added : {p e m g s : ℕ} (x y h t a r : ℕ) → Factor p e m g s → h < p → t < p → h ≡ y * g / 65536 → t ≡ y * s % 65536 * p / 65536
     → a ≡ (x % p + (p - t)) % p → r ≡ (a + (p - (p - h))) % p → r ≡ (x + m * y) % p

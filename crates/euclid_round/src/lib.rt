@@ -3,6 +3,7 @@ ghost use mathlib.Core.Path.{_≡_};
 ghost use mathlib.Core.Bool.{cond};
 ghost use mathlib.Core.List.{[], _∷_, _++_};
 ghost use lib.ListN.{drop};
+ghost use Rattle.refusal.specs.Contract.{given, final};
 ghost use Rattle.field.specs.Fields.{modulus, fieldAt};
 ghost use Rattle.euclid_theory.specs.Gcd.{commonPower};
 ghost use Rattle.euclid_round.specs.Round.{roundSteps, roundFits, remaining, quotientWords, multiplied, zeroedFrom, writeFits, writtenWords};
@@ -11,9 +12,9 @@ use lists::Power;
 // x becomes the remainder of x by y; the words of the quotient go to q. Their number.
 // The table of inverses saves time; nothing depends on it.
 pub fn round(field: u8, inverses: &[u16], x: &mut [u16], y: &[u16], q: &mut [u16]) -> usize
-    ensures steps { λ r. ⌜ r ≡ cond (roundFits (modulus field) (now (x .entry)) (now (y .entry)) (now (q .entry))) (roundSteps (now (x .entry)) (now (y .entry))) 0 ⌝ }
-    ensures left { λ _. ⌜ now (x .exit) ≡ cond (roundFits (modulus field) (now (x .entry)) (now (y .entry)) (now (q .entry))) (remaining (fieldAt field) (now (x .entry)) (now (y .entry))) (now (x .entry)) ⌝ }
-    ensures quotient { λ _. ⌜ now (q .exit) ≡ cond (roundFits (modulus field) (now (x .entry)) (now (y .entry)) (now (q .entry))) (quotientWords (fieldAt field) (now (x .entry)) (now (y .entry)) ++ drop (roundSteps (now (x .entry)) (now (y .entry))) (now (q .entry))) (now (q .entry)) ⌝ }
+    ensures steps { λ r. ⌜ r ≡ cond (roundFits (modulus field) (given x) (given y) (given q)) (roundSteps (given x) (given y)) 0 ⌝ }
+    ensures left { λ _. ⌜ final x ≡ cond (roundFits (modulus field) (given x) (given y) (given q)) (remaining (fieldAt field) (given x) (given y)) (given x) ⌝ }
+    ensures quotient { λ _. ⌜ final q ≡ cond (roundFits (modulus field) (given x) (given y) (given q)) (quotientWords (fieldAt field) (given x) (given y) ++ drop (roundSteps (given x) (given y)) (given q)) (given q) ⌝ }
 {
     let nx = lists::significant_words(x);
     let ny = lists::significant_words(y);
@@ -47,8 +48,8 @@ pub fn write_list(
     words: usize,
     out: &mut [u16],
 )
-    ensures form { λ _. ⌜ now (form .exit) ≡ cond (writeFits words (now (whole .entry)) (now (part .entry)) (now (form .entry)) (now (out .entry))) (multiplied (modulus field) m (now (form .entry))) (now (form .entry)) ⌝ }
-    ensures writes { λ _. ⌜ now (out .exit) ≡ cond (writeFits words (now (whole .entry)) (now (part .entry)) (now (form .entry)) (now (out .entry))) (writtenWords (modulus field) (now (whole .entry)) (now (part .entry)) words m (now (form .entry)) (now (out .entry))) (now (out .entry)) ⌝ }
+    ensures form { λ _. ⌜ final form ≡ cond (writeFits words (given whole) (given part) (given form) (given out)) (multiplied (modulus field) m (given form)) (given form) ⌝ }
+    ensures writes { λ _. ⌜ final out ≡ cond (writeFits words (given whole) (given part) (given form) (given out)) (writtenWords (modulus field) (given whole) (given part) words m (given form) (given out)) (given out) ⌝ }
 {
     if form.len() < words {
         return;
@@ -69,7 +70,7 @@ pub fn write_list(
 
 // The least power among those of f and g that are not zero; 0 where both are.
 pub fn common_power(f: &[u16], g: &[u16]) -> Power
-    ensures { λ r. ⌜ r .0 ≡ commonPower (now (f .entry) ∷ now (g .entry) ∷ []) ⌝ }
+    ensures { λ r. ⌜ r .0 ≡ commonPower (given f ∷ given g ∷ []) ⌝ }
 {
     let nf = lists::significant_words(f);
     let ng = lists::significant_words(g);
@@ -92,7 +93,7 @@ pub fn common_power(f: &[u16], g: &[u16]) -> Power
 
 // Each word times m.
 fn times_word(field: u8, x: &mut [u16], m: u16)
-    ensures { λ _. ⌜ now (x .exit) ≡ multiplied (modulus field) m (now (x .entry)) ⌝ }
+    ensures { λ _. ⌜ final x ≡ multiplied (modulus field) m (given x) ⌝ }
 {
     let mut i = 0;
     while i < x.len() {
@@ -103,7 +104,7 @@ fn times_word(field: u8, x: &mut [u16], m: u16)
 
 // Zeros from word `from` on.
 fn zero_from(out: &mut [u16], from: usize)
-    ensures { λ _. ⌜ now (out .exit) ≡ zeroedFrom from (now (out .entry)) ⌝ }
+    ensures { λ _. ⌜ final out ≡ zeroedFrom from (given out) ⌝ }
 {
     let mut i = from;
     while i < out.len() {

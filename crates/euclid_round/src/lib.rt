@@ -1,20 +1,48 @@
 // One of Euclid's rounds on words, and the writing of a result. Each function is total: where its input does not fit, nothing is written.
 ghost use mathlib.Core.Path.{_≡_};
 ghost use mathlib.Core.Bool.{cond};
-ghost use mathlib.Core.List.{[], _∷_, _++_};
-ghost use lib.ListN.{drop};
+ghost use mathlib.Core.List.{_++_};
+ghost use lib.ListN.{take, drop};
 ghost use Rattle.refusal.specs.Contract.{given, final};
-ghost use Rattle.field.specs.Fields.{modulus, fieldAt};
-ghost use Rattle.euclid_theory.specs.Gcd.{commonPower};
-ghost use Rattle.euclid_round.specs.Round.{roundSteps, roundFits, remaining, quotientWords, multiplied, zeroedFrom, writeFits, writtenWords};
-use lists::Power;
+ghost use Rattle.field.specs.Fields.{modulus};
+ghost use Rattle.lists.specs.Degrees.{significant};
+ghost use Rattle.euclid_round.specs.Round.{stepsMade, wordsLeft, quotientLeft, multiplied, zeroedFrom, writeFits, writtenWords};
+
+// What a round made: the number of words of its quotient, and of significant words that it left of x.
+pub struct Shortened {
+    pub steps: usize,
+    pub left: usize,
+}
+
+// A round on the first nx words of x and the first ny of y. Where these are the significant ones it is the round on x and y, and each
+// search for the end of x or y begins at the end, and not at the top of the zeros.
+pub fn shorten(
+    field: u8,
+    inverses: &[u16],
+    x: &mut [u16],
+    nx: usize,
+    y: &[u16],
+    ny: usize,
+    q: &mut [u16],
+) -> Shortened
+    ensures steps { λ r. ⌜ r .steps ≡ stepsMade field (take nx (given x)) (take ny (given y)) (given q) ⌝ }
+    ensures count { λ r. ⌜ r .left ≡ significant (take nx (final x)) ⌝ }
+    ensures left { λ _. ⌜ final x ≡ wordsLeft field (take nx (given x)) (take ny (given y)) (given q) ++ drop nx (given x) ⌝ }
+    ensures quotient { λ _. ⌜ final q ≡ quotientLeft field (take nx (given x)) (take ny (given y)) (given q) ⌝ }
+{
+    let mx = lists::smaller(nx, x.len());
+    let my = lists::smaller(ny, y.len());
+    let steps = round(field, inverses, &mut x[..mx], &y[..my], q);
+    let left = lists::significant_words(&x[..mx]);
+    Shortened { steps, left }
+}
 
 // x becomes the remainder of x by y; the words of the quotient go to q. Their number.
 // The table of inverses saves time; nothing depends on it.
-pub fn round(field: u8, inverses: &[u16], x: &mut [u16], y: &[u16], q: &mut [u16]) -> usize
-    ensures steps { λ r. ⌜ r ≡ cond (roundFits (modulus field) (given x) (given y) (given q)) (roundSteps (given x) (given y)) 0 ⌝ }
-    ensures left { λ _. ⌜ final x ≡ cond (roundFits (modulus field) (given x) (given y) (given q)) (remaining (fieldAt field) (given x) (given y)) (given x) ⌝ }
-    ensures quotient { λ _. ⌜ final q ≡ cond (roundFits (modulus field) (given x) (given y) (given q)) (quotientWords (fieldAt field) (given x) (given y) ++ drop (roundSteps (given x) (given y)) (given q)) (given q) ⌝ }
+fn round(field: u8, inverses: &[u16], x: &mut [u16], y: &[u16], q: &mut [u16]) -> usize
+    ensures steps { λ r. ⌜ r ≡ stepsMade field (given x) (given y) (given q) ⌝ }
+    ensures left { λ _. ⌜ final x ≡ wordsLeft field (given x) (given y) (given q) ⌝ }
+    ensures quotient { λ _. ⌜ final q ≡ quotientLeft field (given x) (given y) (given q) ⌝ }
 {
     let nx = lists::significant_words(x);
     let ny = lists::significant_words(y);
@@ -66,29 +94,6 @@ pub fn write_list(
     times_word(field, form, m);
     word_scaling::weigh(field, form, part, whole, &mut out[..words]);
     zero_from(out, words);
-}
-
-// The least power among those of f and g that are not zero; 0 where both are.
-pub fn common_power(f: &[u16], g: &[u16]) -> Power
-    ensures { λ r. ⌜ r .0 ≡ commonPower (given f ∷ given g ∷ []) ⌝ }
-{
-    let nf = lists::significant_words(f);
-    let ng = lists::significant_words(g);
-    if nf == 0 {
-        if ng == 0 {
-            return Power(0);
-        }
-        return lists::power_in(g);
-    }
-    let pf = lists::power_in(f);
-    if ng == 0 {
-        return pf;
-    }
-    let pg = lists::power_in(g);
-    if pf.0 < pg.0 {
-        return pf;
-    }
-    pg
 }
 
 // Each word times m.

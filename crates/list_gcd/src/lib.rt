@@ -1,25 +1,22 @@
 // The GCD of two lists.
 ghost use mathlib.Core.Path.{_≡_};
 ghost use mathlib.Core.Bool.{cond};
+ghost use mathlib.Core.List.{[], _∷_};
 ghost use Prim.Native.Nat.{ℕ, _+_, _<_, _≤_};
 ghost use lib.Dec.{eqb};
 ghost use lib.ListN.{length, getD};
 ghost use Rattle.refusal.specs.Contract.{given, final};
-ghost use Rattle.field.specs.Fields.{F65521, p, modulus, fieldAt, longest};
+ghost use Rattle.field.specs.Fields.{modulus, fieldAt, longest};
 ghost use Rattle.refusal.specs.Limits.{maxWords};
-ghost use Rattle.refusal.specs.Refusal.{reply, written};
 ghost use Rattle.refusal.specs.Lowest.{lowest};
 ghost use Rattle.lists.specs.Degrees.{significant};
 ghost use Rattle.lists.specs.Lists.{scaled};
 ghost use Rattle.lists.specs.Words.{seriesOf};
-ghost use Rattle.euclid_theory.specs.Gcd.{gcdOf, roundsOf};
+ghost use Rattle.euclid_theory.specs.Gcd.{gcdOf, roundsOf, commonPower};
 ghost use Rattle.lists.specs.Padded.{padded};
-ghost use Rattle.euclid_round.specs.Round.{roundFits, remaining};
 ghost use Rattle.field_tables.specs.Factorials.{Tables};
-ghost use Rattle.list_gcd.specs.Calls.{gcdReply, gcdValues, gcdRows, gcdRefusals, Greatest};
-ghost use Rattle.list_gcd.specs.Internal.{Buffer, Holds, euclidOn, monicList};
-ghost use Rattle.list_gcd.specs.Internal.{Ready};
-ghost use Rattle.list_gcd.specs.Internal.{LastOf, gcdDone};
+ghost use Rattle.list_gcd.specs.Calls.{gcdReply, gcdRows, gcdAnswer, gcdWritten, Greatest};
+ghost use Rattle.list_gcd.specs.Internal.{Ready, Buffer, Holds, euclidOn, monicList, LastOf, gcdDone};
 use lists::NaiveDegree;
 use lists::Power;
 use refusal::Outcome;
@@ -34,19 +31,10 @@ pub enum Gcd {
     Refused(Refusal),
 }
 
-// The GCD of f and g: h goes to a slice of as many words as the longest list has, zeros after word w.
-pub fn gcd_of(f: &[u16], g: &[u16], h: &mut [u16]) -> Gcd
-    ensures answer { λ r. ⌜ gcdReply r ≡ reply (lowest (gcdRefusals p (given f) (given g) (given h))) (gcdValues F65521 (given f) (given g)) ⌝ }
-    ensures writes { λ _. ⌜ final h ≡ written (lowest (gcdRefusals p (given f) (given g) (given h))) (padded maxWords (gcdOf F65521 (given f) (given g))) (given h) ⌝ }
-    ensures greatest { λ r. ⌜ Greatest F65521 (given f) (given g) (final h) r ⌝ }
-{
-    gcd_over(0, f, g, h)
-}
-
-// The same over a field: h goes to a slice of as many words as the longest list has.
+// The GCD of f and g over a field: h goes to a slice of as many words as the longest list has, zeros after word w.
 pub fn gcd_over(field: u8, f: &[u16], g: &[u16], h: &mut [u16]) -> Gcd
-    ensures answer { λ r. ⌜ gcdReply r ≡ reply (lowest (gcdRows (modulus field) (longest field) (given f) (given g) (given h))) (gcdValues (fieldAt field) (given f) (given g)) ⌝ }
-    ensures writes { λ _. ⌜ final h ≡ written (lowest (gcdRows (modulus field) (longest field) (given f) (given g) (given h))) (padded (longest field) (gcdOf (fieldAt field) (given f) (given g))) (given h) ⌝ }
+    ensures answer { λ r. ⌜ gcdReply r ≡ gcdAnswer field (given f) (given g) (given h) ⌝ }
+    ensures writes { λ _. ⌜ final h ≡ gcdWritten field (given f) (given g) (given h) ⌝ }
     ensures greatest { λ r. ⌜ Greatest (fieldAt field) (given f) (given g) (final h) r ⌝ }
 {
     let answer = judge_gcd(field, f, g, h);
@@ -57,7 +45,7 @@ pub fn gcd_over(field: u8, f: &[u16], g: &[u16], h: &mut [u16]) -> Gcd
 }
 
 // Whether f and g are both zero.
-pub fn both_zero(f: &[u16], g: &[u16]) -> bool
+fn both_zero(f: &[u16], g: &[u16]) -> bool
     ensures { λ r. ⌜ r ≡ eqb (significant (given f) + significant (given g)) 0 ⌝ }
 {
     if lists::significant_words(f) != 0 {
@@ -67,7 +55,7 @@ pub fn both_zero(f: &[u16], g: &[u16]) -> bool
 }
 
 // What the GCD refuses.
-fn judge_gcd(field: u8, f: &[u16], g: &[u16], h: &[u16]) -> Outcome
+pub fn judge_gcd(field: u8, f: &[u16], g: &[u16], h: &[u16]) -> Outcome
     ensures { λ r. ⌜ r ≡ lowest (gcdRows (modulus field) (longest field) (given f) (given g) (given h)) ⌝ }
 {
     if let Outcome::Refused(why) = lists::judge_lists(field, f, g) {
@@ -82,6 +70,29 @@ fn judge_gcd(field: u8, f: &[u16], g: &[u16], h: &[u16]) -> Outcome
     Outcome::Done
 }
 
+// The least power among those of f and g that are not zero; 0 where both are.
+pub fn common_power(f: &[u16], g: &[u16]) -> Power
+    ensures { λ r. ⌜ r .0 ≡ commonPower (given f ∷ given g ∷ []) ⌝ }
+{
+    let nf = lists::significant_words(f);
+    let ng = lists::significant_words(g);
+    if nf == 0 {
+        if ng == 0 {
+            return Power(0);
+        }
+        return lists::power_in(g);
+    }
+    let pf = lists::power_in(f);
+    if ng == 0 {
+        return pf;
+    }
+    let pg = lists::power_in(g);
+    if pf.0 < pg.0 {
+        return pf;
+    }
+    pg
+}
+
 // The words of the scaled form of a list, to a buffer of zeros.
 fn scale_into(field: u8, whole: &[u16], part: &[u16], list: &[u16], buffer: &mut [u16])
     requires { ⌜ Tables (fieldAt field) (longest field) (now whole) (now part) ⌝ }
@@ -93,29 +104,10 @@ fn scale_into(field: u8, whole: &[u16], part: &[u16], list: &[u16], buffer: &mut
     word_scaling::weigh(field, list, whole, part, &mut buffer[..n]);
 }
 
-// One of Euclid's rounds on the first nx words of x and ny of y, which are the significant ones: so a search for the end of x or y
-// begins close to it, and not at the top of the zeros. The number of significant words that are left of x.
-fn turn(
-    field: u8,
-    inverses: &[u16],
-    x: &mut [u16],
-    nx: usize,
-    y: &[u16],
-    ny: usize,
-    q: &mut [u16],
-) -> usize
-    requires { ⌜ (nx ≡ significant (now x)) × (ny ≡ significant (now y)) ⌝ }
-    ensures { λ r. ⌜ r ≡ significant (final x) ⌝ }
-    ensures { λ _. ⌜ final x ≡ cond (roundFits (modulus field) (given x) (given y) (given q)) (remaining (fieldAt field) (given x) (given y)) (given x) ⌝ }
-{
-    euclid_round::round(field, inverses, &mut x[..nx], &y[..ny], q);
-    lists::significant_words(&x[..nx])
-}
-
 // Where the rounds ended: how many they were, and whether the last x stands in the first buffer.
-struct Ended {
-    rounds: usize,
-    first: bool,
+pub struct Ended {
+    pub rounds: usize,
+    pub first: bool,
 }
 
 // Euclid's rounds on two buffers that alternate, until one of them is zero.
@@ -136,7 +128,8 @@ fn all_rounds(field: u8, inverses: &[u16], x: &mut [u16], y: &mut [u16], q: &mut
                 first: true,
             };
         }
-        nx = turn(field, inverses, x, nx, y, ny, q);
+        let of_x = euclid_round::shorten(field, inverses, x, nx, y, ny, q);
+        nx = of_x.left;
         rounds += 1;
         if nx == 0 {
             return Ended {
@@ -144,7 +137,8 @@ fn all_rounds(field: u8, inverses: &[u16], x: &mut [u16], y: &mut [u16], q: &mut
                 first: false,
             };
         }
-        ny = turn(field, inverses, y, ny, x, nx, q);
+        let of_y = euclid_round::shorten(field, inverses, y, ny, x, nx, q);
+        ny = of_y.left;
         rounds += 1;
     }
 }
@@ -242,7 +236,7 @@ fn gcd_in(
 {
     let ended = find_last(field, whole, part, inverses, f, g, x, y, q);
     let w = write_last(field, whole, part, inverses, ended.first, x, y, h);
-    let c = euclid_round::common_power(f, g);
+    let c = common_power(f, g);
     Gcd::Done(w, c, Rounds(ended.rounds))
 }
 

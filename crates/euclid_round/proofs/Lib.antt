@@ -2,4 +2,4 @@ pub mod Turns
 pub mod Partway
 pub mod Written
 pub mod Divided
-pub mod Power
+pub mod Parts

@@ -4,6 +4,8 @@
 --     remaining          the words that are left of x after a round with y
 --     quotientWords      the words of the round's quotient
 --     roundFits          y is not zero, its last word is a coefficient, and there is room for the quotient; else nothing is done
+--     stepsMade, wordsLeft, quotientLeft     over field k: the number of steps that a round makes, what it leaves of x, and the words of
+--                                            q after it
 --     multiplied         the words of x times m
 --     writtenWords       the words of form times m, weighed with the tables part and whole, zeros after so many
 --     writtenList        the list of so many words whose scaled form is m times the words of form, zeros after it: writtenWords of tables of
@@ -19,6 +21,7 @@ use lib.ListN.{length, getD, take, drop}
 use Rattle.algebra.specs.PrimeField.{PrimeField, residue}
 use Rattle.algebra.specs.Series.{C}
 use Rattle.field.specs.Field.{inverseOf}
+use Rattle.field.specs.Fields.{modulus, fieldAt}
 use Rattle.lists.specs.Tabulate.{tabulate}
 use Rattle.lists.specs.Degrees.{significant}
 use Rattle.lists.specs.Lists.{unscaled}
@@ -60,3 +63,12 @@ module _ (F : PrimeField) where
   unfoldable pub writtenList : (words m : ℕ) → (form out : List ℕ) → List ℕ
   writtenList words m form out =
       padded (length out) (unscaled F words (F .series .ring .mul (C (F .series) (residue F m)) (seriesOf F form)))
+
+abbrev pub stepsMade : (k : ℕ) → (x y q : List ℕ) → ℕ
+stepsMade k x y q = cond (roundFits (modulus k) x y q) (roundSteps x y) 0
+
+abbrev pub wordsLeft : (k : ℕ) → (x y q : List ℕ) → List ℕ
+wordsLeft k x y q = cond (roundFits (modulus k) x y q) (remaining (fieldAt k) x y) x
+
+abbrev pub quotientLeft : (k : ℕ) → (x y q : List ℕ) → List ℕ
+quotientLeft k x y q = cond (roundFits (modulus k) x y q) (quotientWords (fieldAt k) x y ++ drop (roundSteps x y) q) q

@@ -1,19 +1,48 @@
 // One of Euclid's rounds on words, and the writing of a result. Each function is total: where its input does not fit, nothing is written.
 ghost use mathlib.Core.Path.{_≡_};
 ghost use mathlib.Core.Bool.{cond};
-ghost use mathlib.Core.List.{[], _∷_, _++_};
-ghost use lib.ListN.{drop};
-ghost use Rattle.field.specs.Fields.{modulus, fieldAt};
-ghost use Rattle.euclid_theory.specs.Gcd.{commonPower};
-ghost use Rattle.euclid_round.specs.Round.{roundSteps, roundFits, remaining, quotientWords, multiplied, zeroedFrom, writeFits, writtenWords};
-use lists::Power;
+ghost use mathlib.Core.List.{_++_};
+ghost use lib.ListN.{take, drop};
+ghost use Rattle.refusal.specs.Contract.{given, final};
+ghost use Rattle.field.specs.Fields.{modulus};
+ghost use Rattle.lists.specs.Degrees.{significant};
+ghost use Rattle.euclid_round.specs.Round.{stepsMade, wordsLeft, quotientLeft, multiplied, zeroedFrom, writeFits, writtenWords};
+
+// What a round made: the number of words of its quotient, and of significant words that it left of x.
+pub struct Shortened {
+    pub steps: usize,
+    pub left: usize,
+}
+
+// A round on the first nx words of x and the first ny of y. Where these are the significant ones it is the round on x and y, and each
+// search for the end of x or y begins at the end, and not at the top of the zeros.
+pub fn shorten(
+    field: u8,
+    inverses: &[u16],
+    x: &mut [u16],
+    nx: usize,
+    y: &[u16],
+    ny: usize,
+    q: &mut [u16],
+) -> Shortened
+    ensures steps { λ r. ⌜ r .steps ≡ stepsMade field (take nx (given x)) (take ny (given y)) (given q) ⌝ }
+    ensures count { λ r. ⌜ r .left ≡ significant (take nx (final x)) ⌝ }
+    ensures left { λ _. ⌜ final x ≡ wordsLeft field (take nx (given x)) (take ny (given y)) (given q) ++ drop nx (given x) ⌝ }
+    ensures quotient { λ _. ⌜ final q ≡ quotientLeft field (take nx (given x)) (take ny (given y)) (given q) ⌝ }
+{
+    let mx = lists::smaller(nx, x.len());
+    let my = lists::smaller(ny, y.len());
+    let steps = round(field, inverses, &mut x[..mx], &y[..my], q);
+    let left = lists::significant_words(&x[..mx]);
+    Shortened { steps, left }
+}
 
 // x becomes the remainder of x by y; the words of the quotient go to q. Their number.
 // The table of inverses saves time; nothing depends on it.
-pub fn round(field: u8, inverses: &[u16], x: &mut [u16], y: &[u16], q: &mut [u16]) -> usize
-    ensures steps { λ r. ⌜ r ≡ cond (roundFits (modulus field) (now (x .entry)) (now (y .entry)) (now (q .entry))) (roundSteps (now (x .entry)) (now (y .entry))) 0 ⌝ }
-    ensures left { λ _. ⌜ now (x .exit) ≡ cond (roundFits (modulus field) (now (x .entry)) (now (y .entry)) (now (q .entry))) (remaining (fieldAt field) (now (x .entry)) (now (y .entry))) (now (x .entry)) ⌝ }
-    ensures quotient { λ _. ⌜ now (q .exit) ≡ cond (roundFits (modulus field) (now (x .entry)) (now (y .entry)) (now (q .entry))) (quotientWords (fieldAt field) (now (x .entry)) (now (y .entry)) ++ drop (roundSteps (now (x .entry)) (now (y .entry))) (now (q .entry))) (now (q .entry)) ⌝ }
+fn round(field: u8, inverses: &[u16], x: &mut [u16], y: &[u16], q: &mut [u16]) -> usize
+    ensures steps { λ r. ⌜ r ≡ stepsMade field (given x) (given y) (given q) ⌝ }
+    ensures left { λ _. ⌜ final x ≡ wordsLeft field (given x) (given y) (given q) ⌝ }
+    ensures quotient { λ _. ⌜ final q ≡ quotientLeft field (given x) (given y) (given q) ⌝ }
 {
     let nx = lists::significant_words(x);
     let ny = lists::significant_words(y);
@@ -47,8 +76,8 @@ pub fn write_list(
     words: usize,
     out: &mut [u16],
 )
-    ensures form { λ _. ⌜ now (form .exit) ≡ cond (writeFits words (now (whole .entry)) (now (part .entry)) (now (form .entry)) (now (out .entry))) (multiplied (modulus field) m (now (form .entry))) (now (form .entry)) ⌝ }
-    ensures writes { λ _. ⌜ now (out .exit) ≡ cond (writeFits words (now (whole .entry)) (now (part .entry)) (now (form .entry)) (now (out .entry))) (writtenWords (modulus field) (now (whole .entry)) (now (part .entry)) words m (now (form .entry)) (now (out .entry))) (now (out .entry)) ⌝ }
+    ensures form { λ _. ⌜ final form ≡ cond (writeFits words (given whole) (given part) (given form) (given out)) (multiplied (modulus field) m (given form)) (given form) ⌝ }
+    ensures writes { λ _. ⌜ final out ≡ cond (writeFits words (given whole) (given part) (given form) (given out)) (writtenWords (modulus field) (given whole) (given part) words m (given form) (given out)) (given out) ⌝ }
 {
     if form.len() < words {
         return;
@@ -67,32 +96,9 @@ pub fn write_list(
     zero_from(out, words);
 }
 
-// The least power among those of f and g that are not zero; 0 where both are.
-pub fn common_power(f: &[u16], g: &[u16]) -> Power
-    ensures { λ r. ⌜ r .0 ≡ commonPower (now (f .entry) ∷ now (g .entry) ∷ []) ⌝ }
-{
-    let nf = lists::significant_words(f);
-    let ng = lists::significant_words(g);
-    if nf == 0 {
-        if ng == 0 {
-            return Power(0);
-        }
-        return lists::power_in(g);
-    }
-    let pf = lists::power_in(f);
-    if ng == 0 {
-        return pf;
-    }
-    let pg = lists::power_in(g);
-    if pf.0 < pg.0 {
-        return pf;
-    }
-    pg
-}
-
 // Each word times m.
 fn times_word(field: u8, x: &mut [u16], m: u16)
-    ensures { λ _. ⌜ now (x .exit) ≡ multiplied (modulus field) m (now (x .entry)) ⌝ }
+    ensures { λ _. ⌜ final x ≡ multiplied (modulus field) m (given x) ⌝ }
 {
     let mut i = 0;
     while i < x.len() {
@@ -103,7 +109,7 @@ fn times_word(field: u8, x: &mut [u16], m: u16)
 
 // Zeros from word `from` on.
 fn zero_from(out: &mut [u16], from: usize)
-    ensures { λ _. ⌜ now (out .exit) ≡ zeroedFrom from (now (out .entry)) ⌝ }
+    ensures { λ _. ⌜ final out ≡ zeroedFrom from (given out) ⌝ }
 {
     let mut i = from;
     while i < out.len() {

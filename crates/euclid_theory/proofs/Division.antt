@@ -21,8 +21,7 @@ use Rattle.lists.specs.Degrees.{naiveDegree}
 use Rattle.lists.specs.Lists.{Coefficients, word, meaning, scaled}
 use Rattle.lists.proofs.Scaled.{length-naive, naive-length, coefficient-nonzero, coefficient-last, coeff-scaled, below-scaled, below-naive, meaning-hom}
 use Rattle.lists.proofs.Unscaled.{length-unscaled, coefficients-unscaled, scaled-unscaled, scaled-injective}
-use Rattle.euclid_theory.specs.Division.{steps, quotientOf, remainderOf}
-use Rattle.euclid_theory.specs.Division.{Divisible}
+use Rattle.euclid_theory.specs.Division.{steps, quotientOf, remainderOf, Equation, Divisible}
 
 module _ (F : PrimeField) where
   open CommRing (F .series .ring) using (add as _+ˢ_, mul as _*ˢ_)
@@ -131,8 +130,8 @@ module _ (F : PrimeField) where
         (remainder-below (F .series) (scalarField F) (steps g f) (naiveDegree f) degree-divisor wide)
 
     -- g = q·f + (1-t)^(e-d+1)·r
-    pub division-identity : meaning F g
-        ≡ meaning F (quotientOf F g f) *ˢ meaning F f +ˢ ⟨1-t⟩^ (F .series) (steps g f) *ˢ meaning F (remainderOf F g f)
+    pub division-identity : Equation F g f (quotientOf F g f) (remainderOf F g f)
+    unfolding Equation
     division-identity =
         sym
         (joined g f (quotientOf F g f) (remainderOf F g f) order (length-quotient g f) (length-remainder g f)
@@ -143,8 +142,8 @@ module _ (F : PrimeField) where
 
     -- with any other coefficients, in the same two lengths, the identity fails
     pub division-only : (q r : List ℕ) → Coefficients F q → Coefficients F r → length q ≡ steps g f → length r ≡ naiveDegree f
-        → meaning F g ≡ meaning F q *ˢ meaning F f +ˢ ⟨1-t⟩^ (F .series) (steps g f) *ˢ meaning F r
-        → (q ≡ quotientOf F g f) × (r ≡ remainderOf F g f)
+        → Equation F g f q r → (q ≡ quotientOf F g f) × (r ≡ remainderOf F g f)
+    unfolding Equation
     division-only q r cq cr lq lr e = (
       scaled-injective F q (quotientOf F g f) cq coefficients-quotient (lq ∙ sym (length-quotient g f)) (both .0 ∙ sym scaled-quotient),
       scaled-injective F r (remainderOf F g f) cr coefficients-remainder (lr ∙ sym (length-remainder g f)) (both .1 ∙ sym scaled-remainder),

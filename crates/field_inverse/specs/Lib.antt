@@ -1,2 +1,2 @@
-pub mod Inverses
+pub mod Calls
 pub mod Internal

@@ -1,30 +1,19 @@
 // The inverse of a coefficient, by Euclid's steps on whole numbers and a table of inverses.
 ghost use mathlib.Core.Path.{_≡_};
 ghost use mathlib.Core.Bool.{_&&_};
-ghost use mathlib.Core.List.{[], _∷_};
 ghost use Prim.Native.Nat.{_*_, _%_, _<_, _≤_};
 ghost use lib.Dec.{ltb, eqb};
 ghost use lib.IntN.{natAbs};
-ghost use Rattle.refusal.specs.Refusal.{reply};
-ghost use Rattle.refusal.specs.Lowest.{lowest};
-ghost use Rattle.field.specs.Field.{wordReply, inverseRefusals, inverseOf, inverseOrZero};
-ghost use Rattle.field.specs.Fields.{modulus, fieldAt, p, F65521};
-ghost use Rattle.field_inverse.specs.Inverses.{Inverts};
+ghost use Rattle.field.specs.Field.{wordReply, inverseOf, inverseOrZero};
+ghost use Rattle.field.specs.Fields.{modulus, fieldAt};
+ghost use Rattle.field_inverse.specs.Calls.{inverseAnswer, Inverts};
 ghost use Rattle.field_inverse.specs.Internal.{residueOf, Leaves};
 use field::Word;
 use refusal::Refusal;
 
-pub fn inverse(a: u16) -> Word
-    ensures answer { λ r. ⌜ wordReply r ≡ reply (lowest (inverseRefusals p a)) (inverseOf F65521 a ∷ []) ⌝ }
-    ensures inverts { λ r. ⌜ Inverts p a r ⌝ }
-{
-    let inverses = field_tables::inverses(0);
-    inverse_over(0, &inverses, a)
-}
-
-// The same over a field. The table of inverses saves steps; the answer does not depend on it.
+// The inverse of a coefficient over a field. The table of inverses saves steps; the answer does not depend on it.
 pub fn inverse_over(field: u8, inverses: &[u16], a: u16) -> Word
-    ensures answer { λ r. ⌜ wordReply r ≡ reply (lowest (inverseRefusals (modulus field) a)) (inverseOf (fieldAt field) a ∷ []) ⌝ }
+    ensures answer { λ r. ⌜ wordReply r ≡ inverseAnswer field a ⌝ }
     ensures inverts { λ r. ⌜ Inverts (modulus field) a r ⌝ }
 {
     if field::modulus_of(field) <= a {

@@ -19,9 +19,9 @@ use Rattle.word_division.proofs.Cut.{lessProduct-zero}
 use Rattle.euclid_round.specs.Round.{roundSteps, remaining, quotientWords}
 use Rattle.euclid_round.proofs.Turns.{end-euclid, round-fits, round-euclid, round-quotient, length-remaining, length-quotientWords}
 use Rattle.list_gcd.specs.Internal.{Buffer, euclidOn}
-use Rattle.list_gcd.proofs.Turning as T
-use Rattle.list_gcd.specs.Internal.{Turning}
-use Rattle.list_gcd.proofs.Turning.{Turned, turning-count, turning-last}
+use Rattle.list_gcd.proofs.Alternating as T
+use Rattle.list_gcd.specs.Internal.{Led}
+use Rattle.list_gcd.proofs.Alternating.{LedOn, led-count, led-last}
 use Rattle.list_cofactors.specs.Internal.{partX, partS, partT, reach, Short, Cut, lessQuotient, turned, Leads, roundsOn, Carried, Ends}
 use Rattle.list_cofactors.proofs.Parts.{length-partS, length-partT, joined-x, joined-s, joined-t, joined-length}
 
@@ -129,10 +129,10 @@ module _ (F : PrimeField) (n : ℕ) where
   carried-end u₀ v₀ u v rounds c none =
       record {
         size = c .size-u;
-        count = turning-count F n _ _ _ _ _ (c .turning) none;
-        last = turning-last F n _ _ _ _ _ (c .turning) none;
-        left = leads-end (partX n u) (partX n v) (c .turning .left) (c .turning .right) none (c .left);
-        right = leads-end (partX n u) (partX n v) (c .turning .left) (c .turning .right) none (c .right);
+        count = led-count F n _ _ _ _ _ (c .led) none;
+        last = led-last F n _ _ _ _ _ (c .led) none;
+        left = leads-end (partX n u) (partX n v) (c .led .left) (c .led .right) none (c .left);
+        right = leads-end (partX n u) (partX n v) (c .led .left) (c .led .right) none (c .right);
       }
 
   -- what the next round needs of the cofactors
@@ -153,7 +153,7 @@ module _ (F : PrimeField) (n : ℕ) where
         next = record {
           size-u = c .size-v;
           size-v = turned-length u v (c .size-u) bx by some;
-          turning = subst (λ w. Turning F n (partX n u₀) (partX n v₀) y w (rounds + 1)) (sym is-x) (step .next);
+          led = subst (λ w. Led F n (partX n u₀) (partX n v₀) y w (rounds + 1)) (sym is-x) (step .next);
           short-u = short-later (omega (arith, less)) (c .short-v);
           short-v = short-later (omega (arith, less)) (turned-short u v (c .size-u) bx by some (c .short-u) (c .short-v));
           left = leads (turned-s u v (c .size-u) bx by some) (leads-round x y bx by some (length-partS n u (c .size-u)) (length-partS n v (c .size-v)) (c .left));
@@ -170,14 +170,14 @@ module _ (F : PrimeField) (n : ℕ) where
       y = partX n v
 
       bx : Buffer F n x
-      bx = c .turning .left
+      bx = c .led .left
 
       by : Buffer F n y
-      by = c .turning .right
+      by = c .led .right
 
-      step : Turned F n (partX n u₀) (partX n v₀) x y (remaining F x y) rounds
+      step : LedOn F n (partX n u₀) (partX n v₀) x y (remaining F x y) rounds
       step =
-          T.turn F n _ _ x y x rounds bu bv (c .turning) some (let l = bx .size in omega arith)
+          T.turn F n _ _ x y x rounds bu bv (c .led) some (let l = bx .size in omega arith)
           (sym (ap (λ b. cond b (remaining F x y) x)
           (round-fits F n x y (bx .below) (by .below) (bx .size) (by .size) some x (let l = bx .size in omega arith))))
 

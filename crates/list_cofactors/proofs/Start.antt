@@ -21,7 +21,7 @@ use Rattle.field_tables.specs.Factorials.{Tables}
 use Rattle.word_scaling.specs.Kernels.{weighFits, weighted}
 use Rattle.list_gcd.specs.Internal.{Holds}
 use Rattle.list_gcd.proofs.Buffers.{holds-scaled}
-use Rattle.list_gcd.proofs.Turning.{turning-start}
+use Rattle.list_gcd.proofs.Alternating.{led-start}
 use Rattle.euclid_theory.specs.Gcd.{room}
 use Rattle.list_cofactors.specs.Internal.{partX, partS, partT, reach, Started, roundsOn, Carried}
 use Rattle.list_cofactors.proofs.Parts.{length-partX, length-partS}
@@ -103,7 +103,7 @@ module _ (F : PrimeField) (n : ℕ) where
         record {
           size-u = su .size;
           size-v = sv .size;
-          turning = turning-start F n (partX n u) (partX n v) (su .holds .buffer) (sv .holds .buffer);
+          led = led-start F n (partX n u) (partX n v) (su .holds .buffer) (sv .holds .buffer);
           short-u = record { left = after-1 (partS n u) zero-su; right = record { at = λ k l. zero-tu k } };
           short-v = record { left = record { at = λ k l. zero-sv k }; right = after-1 (partT n v) zero-tv };
           left = record { of = 1ˢ; of′ = 0ˢ; low = left-u; low′ = low-zero (partS n v) zero-sv; sum = keep (roundsOn F n u v .byX) (roundsOn F n u v .byY) };

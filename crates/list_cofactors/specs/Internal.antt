@@ -34,7 +34,7 @@ use Rattle.lists.specs.Words.{seriesOf, Low, ZeroFrom}
 use Rattle.word_division.specs.Reduction.{lessProduct}
 use Rattle.euclid_round.specs.Round.{remaining, quotientWords}
 use Rattle.list_gcd.specs.Internal.{Buffer, Holds, euclidOn, monicList}
-use Rattle.list_gcd.specs.Internal.{Turning}
+use Rattle.list_gcd.specs.Internal.{Led}
 use Rattle.algebra.specs.Monic.{topInverse}
 use Rattle.euclid_theory.specs.Gcd.{room, identityDegree, euclidOf, gcdOf, roundsOf, cofactorA, cofactorB}
 use Rattle.lists.specs.Padded.{padded}
@@ -106,7 +106,7 @@ module _ (F : PrimeField) (n : ℕ) where
   pub record Carried (u₀ v₀ u v : List ℕ) (rounds : ℕ) : Type 0 where
     pub size-u : length u ≡ n + (n + n)
     pub size-v : length v ≡ n + (n + n)
-    pub turning : Turning F n (partX n u₀) (partX n v₀) (partX n u) (partX n v) rounds
+    pub led : Led F n (partX n u₀) (partX n v₀) (partX n u) (partX n v) rounds
     pub short-u : Short (reach u v) u
     pub short-v : Short (reach u v) v
     pub left : Leads (roundsOn u v) (partS n u) (partS n v) (roundsOn u₀ v₀ .byX)

@@ -4,6 +4,7 @@ ghost use mathlib.Core.Bool.{cond};
 ghost use mathlib.Core.List.{_++_};
 ghost use Prim.Native.Nat.{ℕ, suc, max, _+_, _-_, _<_, _≤_};
 ghost use lib.ListN.{length, getD, take, drop};
+ghost use Rattle.refusal.specs.Contract.{given, final};
 ghost use Rattle.algebra.specs.PrimeField.{residue};
 ghost use Rattle.field.specs.Fields.{F65521, p, modulus, fieldAt, longest};
 ghost use Rattle.refusal.specs.Limits.{maxWords};
@@ -29,12 +30,12 @@ use refusal::Refusal;
 
 // The GCD of f and g with its cofactors: a·f + b·g = (1-t)^(m-w)·h.
 pub fn find_cofactors(f: &[u16], g: &[u16], h: &mut [u16], a: &mut [u16], b: &mut [u16]) -> Gcd
-    ensures answer { λ r. ⌜ gcdReply r ≡ reply (lowest (cofactorRefusals p (now (f .entry)) (now (g .entry)) (now (h .entry)) (now (a .entry)) (now (b .entry)))) (gcdValues F65521 (now (f .entry)) (now (g .entry))) ⌝ }
-    ensures gcd { λ _. ⌜ now (h .exit) ≡ written (lowest (cofactorRefusals p (now (f .entry)) (now (g .entry)) (now (h .entry)) (now (a .entry)) (now (b .entry)))) (padded maxWords (gcdOf F65521 (now (f .entry)) (now (g .entry)))) (now (h .entry)) ⌝ }
-    ensures left { λ _. ⌜ now (a .exit) ≡ written (lowest (cofactorRefusals p (now (f .entry)) (now (g .entry)) (now (h .entry)) (now (a .entry)) (now (b .entry)))) (cofactorA F65521 (now (f .entry)) (now (g .entry))) (now (a .entry)) ⌝ }
-    ensures right { λ _. ⌜ now (b .exit) ≡ written (lowest (cofactorRefusals p (now (f .entry)) (now (g .entry)) (now (h .entry)) (now (a .entry)) (now (b .entry)))) (cofactorB F65521 (now (f .entry)) (now (g .entry))) (now (b .entry)) ⌝ }
-    ensures greatest { λ r. ⌜ Greatest F65521 (now (f .entry)) (now (g .entry)) (now (h .exit)) r ⌝ }
-    ensures identity { λ r. ⌜ Cofactors F65521 (now (f .entry)) (now (g .entry)) (now (a .exit)) (now (b .exit)) r ⌝ }
+    ensures answer { λ r. ⌜ gcdReply r ≡ reply (lowest (cofactorRefusals p (given f) (given g) (given h) (given a) (given b))) (gcdValues F65521 (given f) (given g)) ⌝ }
+    ensures gcd { λ _. ⌜ final h ≡ written (lowest (cofactorRefusals p (given f) (given g) (given h) (given a) (given b))) (padded maxWords (gcdOf F65521 (given f) (given g))) (given h) ⌝ }
+    ensures left { λ _. ⌜ final a ≡ written (lowest (cofactorRefusals p (given f) (given g) (given h) (given a) (given b))) (cofactorA F65521 (given f) (given g)) (given a) ⌝ }
+    ensures right { λ _. ⌜ final b ≡ written (lowest (cofactorRefusals p (given f) (given g) (given h) (given a) (given b))) (cofactorB F65521 (given f) (given g)) (given b) ⌝ }
+    ensures greatest { λ r. ⌜ Greatest F65521 (given f) (given g) (final h) r ⌝ }
+    ensures identity { λ r. ⌜ Cofactors F65521 (given f) (given g) (final a) (final b) r ⌝ }
 {
     cofactors_over(0, f, g, h, a, b)
 }
@@ -48,12 +49,12 @@ pub fn cofactors_over(
     a: &mut [u16],
     b: &mut [u16],
 ) -> Gcd
-    ensures answer { λ r. ⌜ gcdReply r ≡ reply (lowest (cofactorRows (modulus field) (longest field) (now (f .entry)) (now (g .entry)) (now (h .entry)) (now (a .entry)) (now (b .entry)))) (gcdValues (fieldAt field) (now (f .entry)) (now (g .entry))) ⌝ }
-    ensures gcd { λ _. ⌜ now (h .exit) ≡ written (lowest (cofactorRows (modulus field) (longest field) (now (f .entry)) (now (g .entry)) (now (h .entry)) (now (a .entry)) (now (b .entry)))) (padded (longest field) (gcdOf (fieldAt field) (now (f .entry)) (now (g .entry)))) (now (h .entry)) ⌝ }
-    ensures left { λ _. ⌜ now (a .exit) ≡ written (lowest (cofactorRows (modulus field) (longest field) (now (f .entry)) (now (g .entry)) (now (h .entry)) (now (a .entry)) (now (b .entry)))) (cofactorA (fieldAt field) (now (f .entry)) (now (g .entry))) (now (a .entry)) ⌝ }
-    ensures right { λ _. ⌜ now (b .exit) ≡ written (lowest (cofactorRows (modulus field) (longest field) (now (f .entry)) (now (g .entry)) (now (h .entry)) (now (a .entry)) (now (b .entry)))) (cofactorB (fieldAt field) (now (f .entry)) (now (g .entry))) (now (b .entry)) ⌝ }
-    ensures greatest { λ r. ⌜ Greatest (fieldAt field) (now (f .entry)) (now (g .entry)) (now (h .exit)) r ⌝ }
-    ensures identity { λ r. ⌜ Cofactors (fieldAt field) (now (f .entry)) (now (g .entry)) (now (a .exit)) (now (b .exit)) r ⌝ }
+    ensures answer { λ r. ⌜ gcdReply r ≡ reply (lowest (cofactorRows (modulus field) (longest field) (given f) (given g) (given h) (given a) (given b))) (gcdValues (fieldAt field) (given f) (given g)) ⌝ }
+    ensures gcd { λ _. ⌜ final h ≡ written (lowest (cofactorRows (modulus field) (longest field) (given f) (given g) (given h) (given a) (given b))) (padded (longest field) (gcdOf (fieldAt field) (given f) (given g))) (given h) ⌝ }
+    ensures left { λ _. ⌜ final a ≡ written (lowest (cofactorRows (modulus field) (longest field) (given f) (given g) (given h) (given a) (given b))) (cofactorA (fieldAt field) (given f) (given g)) (given a) ⌝ }
+    ensures right { λ _. ⌜ final b ≡ written (lowest (cofactorRows (modulus field) (longest field) (given f) (given g) (given h) (given a) (given b))) (cofactorB (fieldAt field) (given f) (given g)) (given b) ⌝ }
+    ensures greatest { λ r. ⌜ Greatest (fieldAt field) (given f) (given g) (final h) r ⌝ }
+    ensures identity { λ r. ⌜ Cofactors (fieldAt field) (given f) (given g) (final a) (final b) r ⌝ }
 {
     let answer = judge_cofactors(field, f, g, h, a, b);
     match answer {
@@ -64,7 +65,7 @@ pub fn cofactors_over(
 
 // The number of words of the cofactor of a list: m less its naive degree, plus 1.
 fn cofactor_words(list: &[u16], other: &[u16]) -> usize
-    ensures { λ r. ⌜ r ≡ suc (identityDegree (now (list .entry)) (now (other .entry)) - naiveDegree (now (list .entry))) ⌝ }
+    ensures { λ r. ⌜ r ≡ suc (identityDegree (given list) (given other) - naiveDegree (given list)) ⌝ }
 {
     if list.len() < 2 {
         if other.len() < 2 {
@@ -80,7 +81,7 @@ fn cofactor_words(list: &[u16], other: &[u16]) -> usize
 
 // Whether a result slice has not the length of its result.
 fn wrong_slices(field: u8, f: &[u16], g: &[u16], h: &[u16], a: &[u16], b: &[u16]) -> bool
-    ensures { λ r. ⌜ r ≡ wrongSlices (longest field) (now (f .entry)) (now (g .entry)) (now (h .entry)) (now (a .entry)) (now (b .entry)) ⌝ }
+    ensures { λ r. ⌜ r ≡ wrongSlices (longest field) (given f) (given g) (given h) (given a) (given b) ⌝ }
 {
     if h.len() != field::longest_of(field) {
         return true;
@@ -93,7 +94,7 @@ fn wrong_slices(field: u8, f: &[u16], g: &[u16], h: &[u16], a: &[u16], b: &[u16]
 
 // What the call refuses.
 fn judge_cofactors(field: u8, f: &[u16], g: &[u16], h: &[u16], a: &[u16], b: &[u16]) -> Outcome
-    ensures { λ r. ⌜ r ≡ lowest (cofactorRows (modulus field) (longest field) (now (f .entry)) (now (g .entry)) (now (h .entry)) (now (a .entry)) (now (b .entry))) ⌝ }
+    ensures { λ r. ⌜ r ≡ lowest (cofactorRows (modulus field) (longest field) (given f) (given g) (given h) (given a) (given b)) ⌝ }
 {
     if let Outcome::Refused(why) = lists::judge_lists(field, f, g) {
         return Outcome::Refused(why);
@@ -116,7 +117,7 @@ fn start_row(field: u8, whole: &[u16], part: &[u16], list: &[u16], row: &mut [u1
     requires { ⌜ (length (now list) ≤ longest field) × (length (now row) ≡ longest field + (longest field + longest field)) ⌝ }
     requires { ⌜ (longest field ≤ one) × (one < length (now row)) ⌝ }
     requires { ⌜ ((k : ℕ) → getD (now row) k 0 ≡ 0) ⌝ }
-    ensures { λ _. ⌜ Started (fieldAt field) (longest field) one (now (row .exit)) (scaled (fieldAt field) (now (list .entry))) ⌝ }
+    ensures { λ _. ⌜ Started (fieldAt field) (longest field) one (final row) (scaled (fieldAt field) (given list)) ⌝ }
 {
     let words = list.len();
     word_scaling::weigh(field, list, whole, part, &mut row[..words]);
@@ -126,7 +127,7 @@ fn start_row(field: u8, whole: &[u16], part: &[u16], list: &[u16], row: &mut [u1
 // s less q times the first `read` words of t, for both cofactors of a row.
 fn take_off(field: u8, n: usize, s: &mut [u16], q: &[u16], t: &[u16], read: usize)
     requires { ⌜ (length (now s) ≡ n + n) × (length (now t) ≡ n + n) × (length (now q) ≤ n) × (read ≤ n) ⌝ }
-    ensures { λ _. ⌜ now (s .exit) ≡ lessProduct (modulus field) (take n (now (s .entry))) (now (q .entry)) (take read (now (t .entry))) ++ lessProduct (modulus field) (drop n (now (s .entry))) (now (q .entry)) (take read (drop n (now (t .entry)))) ⌝ }
+    ensures { λ _. ⌜ final s ≡ lessProduct (modulus field) (take n (given s)) (given q) (take read (given t)) ++ lessProduct (modulus field) (drop n (given s)) (given q) (take read (drop n (given t))) ⌝ }
 {
     word_division::sub_product(field, &mut s[..n], q, &t[..read]);
     word_division::sub_product(field, &mut s[n..], q, &t[n..n + read]);
@@ -159,8 +160,8 @@ fn turn(
     requires { ⌜ (nu ≡ significant (partX n (now u))) × (nv ≡ significant (partX n (now v))) × (0 < nv) ⌝ }
     requires { ⌜ Cut (fieldAt field) n (now u) (now v) ⌝ }
     requires { ⌜ n ≤ maxWords ⌝ }
-    ensures { λ r. ⌜ r ≡ significant (partX n (now (u .exit))) ⌝ }
-    ensures { λ _. ⌜ now (u .exit) ≡ turned (fieldAt field) n (now (u .entry)) (now (v .entry)) ⌝ }
+    ensures { λ r. ⌜ r ≡ significant (partX n (final u)) ⌝ }
+    ensures { λ _. ⌜ final u ≡ turned (fieldAt field) n (given u) (given v) ⌝ }
 {
     let k = euclid_round::round(field, inverses, &mut u[..nu], &v[..nv], q);
     let left = lists::significant_words(&u[..nu]);
@@ -193,7 +194,7 @@ fn all_rounds(
     requires { ⌜ Carried (fieldAt field) n (now u) (now v) (now u) (now v) 0 ⌝ }
     requires { ⌜ length (now q) ≡ n ⌝ }
     requires { ⌜ n ≤ maxWords ⌝ }
-    ensures { λ r. ⌜ Ends (fieldAt field) n (now (u .entry)) (now (v .entry)) (cond (r .first) (now (u .exit)) (now (v .exit))) (r .rounds) ⌝ }
+    ensures { λ r. ⌜ Ends (fieldAt field) n (given u) (given v) (cond (r .first) (final u) (final v)) (r .rounds) ⌝ }
 {
     let mut rounds = 0;
     let mut nu = lists::significant_words(&u[..n]);
@@ -237,7 +238,7 @@ fn find_last(
     requires { ⌜ (length (now u) ≡ n + (n + n)) × (length (now v) ≡ n + (n + n)) × (length (now q) ≡ n) ⌝ }
     requires { ⌜ ((k : ℕ) → getD (now u) k 0 ≡ 0) ⌝ }
     requires { ⌜ ((k : ℕ) → getD (now v) k 0 ≡ 0) ⌝ }
-    ensures { λ r. ⌜ Found (fieldAt field) n (now (f .entry)) (now (g .entry)) (cond (r .first) (now (u .exit)) (now (v .exit))) (r .rounds) ⌝ }
+    ensures { λ r. ⌜ Found (fieldAt field) n (given f) (given g) (cond (r .first) (final u) (final v)) (r .rounds) ⌝ }
 {
     start_row(field, whole, part, g, u, n);
     start_row(field, whole, part, f, v, n + n);
@@ -258,8 +259,8 @@ fn write_pair(
     requires { ⌜ n ≡ longest field ⌝ }
     requires { ⌜ Tables (fieldAt field) n (now whole) (now part) ⌝ }
     requires { ⌜ (length (now forms) ≡ n + n) × (length (now a) ≤ n) × (length (now b) ≤ n) ⌝ }
-    ensures { λ _. ⌜ now (a .exit) ≡ timesList (fieldAt field) (length (now (a .entry))) (residue (fieldAt field) m) (drop n (now (forms .entry))) ⌝ }
-    ensures { λ _. ⌜ now (b .exit) ≡ timesList (fieldAt field) (length (now (b .entry))) (residue (fieldAt field) m) (take n (now (forms .entry))) ⌝ }
+    ensures { λ _. ⌜ final a ≡ timesList (fieldAt field) (length (given a)) (residue (fieldAt field) m) (drop n (given forms)) ⌝ }
+    ensures { λ _. ⌜ final b ≡ timesList (fieldAt field) (length (given b)) (residue (fieldAt field) m) (take n (given forms)) ⌝ }
 {
     let na = a.len();
     let nb = b.len();
@@ -283,7 +284,7 @@ fn write_row(
     requires { ⌜ Tables (fieldAt field) n (now whole) (now part) ⌝ }
     requires { ⌜ LastRow (fieldAt field) n (now row) ⌝ }
     requires { ⌜ (length (now h) ≡ n) × (length (now a) ≤ n) × (length (now b) ≤ n) ⌝ }
-    ensures { λ r. ⌜ Wrote (fieldAt field) n (now (row .entry)) (length (now (a .entry))) (length (now (b .entry))) (r .0) (now (h .exit)) (now (a .exit)) (now (b .exit)) ⌝ }
+    ensures { λ r. ⌜ Wrote (fieldAt field) n (given row) (length (given a)) (length (given b)) (r .0) (final h) (final a) (final b) ⌝ }
 {
     let words = lists::significant_words(&row[..n]);
     let inv = field_inverse::inverse_or_zero(field, inverses, row[words - 1]);
@@ -310,7 +311,7 @@ fn write_last(
     requires { ⌜ Tables (fieldAt field) n (now whole) (now part) ⌝ }
     requires { ⌜ LastRow (fieldAt field) n (cond first (now u) (now v)) ⌝ }
     requires { ⌜ (length (now h) ≡ n) × (length (now a) ≤ n) × (length (now b) ≤ n) ⌝ }
-    ensures { λ r. ⌜ Wrote (fieldAt field) n (cond first (now (u .entry)) (now (v .entry))) (length (now (a .entry))) (length (now (b .entry))) (r .0) (now (h .exit)) (now (a .exit)) (now (b .exit)) ⌝ }
+    ensures { λ r. ⌜ Wrote (fieldAt field) n (cond first (given u) (given v)) (length (given a)) (length (given b)) (r .0) (final h) (final a) (final b) ⌝ }
 {
     if first {
         return write_row(field, n, whole, part, inverses, u, h, a, b);
@@ -341,7 +342,7 @@ fn cofactors_in(
     requires { ⌜ (length (now u) ≡ n + (n + n)) × (length (now v) ≡ n + (n + n)) × (length (now q) ≡ n) ⌝ }
     requires { ⌜ ((k : ℕ) → getD (now u) k 0 ≡ 0) ⌝ }
     requires { ⌜ ((k : ℕ) → getD (now v) k 0 ≡ 0) ⌝ }
-    ensures { λ r. ⌜ Results (fieldAt field) n (now (f .entry)) (now (g .entry)) r (now (h .exit)) (now (a .exit)) (now (b .exit)) ⌝ }
+    ensures { λ r. ⌜ Results (fieldAt field) n (given f) (given g) r (final h) (final a) (final b) ⌝ }
 {
     let ended = find_last(field, n, whole, part, inverses, f, g, u, v, q);
     let w = write_last(field, n, whole, part, inverses, ended.first, u, v, h, a, b);
@@ -367,7 +368,7 @@ fn cofactors_with(
     requires { ⌜ Tables (fieldAt field) (longest field) (now whole) (now part) ⌝ }
     requires { ⌜ Ready (fieldAt field) (longest field) (now f) (now g) ⌝ }
     requires { ⌜ Slices (longest field) (now f) (now g) (now h) (now a) (now b) ⌝ }
-    ensures { λ r. ⌜ Results (fieldAt field) (longest field) (now (f .entry)) (now (g .entry)) r (now (h .exit)) (now (a .exit)) (now (b .exit)) ⌝ }
+    ensures { λ r. ⌜ Results (fieldAt field) (longest field) (given f) (given g) r (final h) (final a) (final b) ⌝ }
 {
     let mut u = [0u16; ROW];
     let mut v = [0u16; ROW];
@@ -409,7 +410,7 @@ fn cofactors_between(
     requires { ⌜ (length (now u) ≡ maxWords + (maxWords + maxWords)) × (length (now v) ≡ maxWords + (maxWords + maxWords)) × (length (now q) ≡ maxWords) ⌝ }
     requires { ⌜ ((k : ℕ) → getD (now u) k 0 ≡ 0) ⌝ }
     requires { ⌜ ((k : ℕ) → getD (now v) k 0 ≡ 0) ⌝ }
-    ensures { λ r. ⌜ Results (fieldAt field) (longest field) (now (f .entry)) (now (g .entry)) r (now (h .exit)) (now (a .exit)) (now (b .exit)) ⌝ }
+    ensures { λ r. ⌜ Results (fieldAt field) (longest field) (given f) (given g) r (final h) (final a) (final b) ⌝ }
 {
     let n = field::longest_of(field);
     let row = 3 * n;
@@ -441,7 +442,7 @@ fn cofactors_into(
 ) -> Gcd
     requires { ⌜ Ready (fieldAt field) (longest field) (now f) (now g) ⌝ }
     requires { ⌜ Slices (longest field) (now f) (now g) (now h) (now a) (now b) ⌝ }
-    ensures { λ r. ⌜ Results (fieldAt field) (longest field) (now (f .entry)) (now (g .entry)) r (now (h .exit)) (now (a .exit)) (now (b .exit)) ⌝ }
+    ensures { λ r. ⌜ Results (fieldAt field) (longest field) (given f) (given g) r (final h) (final a) (final b) ⌝ }
 {
     let whole = field_tables::factorials(field);
     let part = field_tables::inverse_factorials(field);

@@ -10,14 +10,12 @@ use Rattle.refusal.specs.declared.Refusal.{Refusal}
 use Rattle.refusal.specs.declared.Outcome.{Outcome}
 use Rattle.refusal.specs.declared.Outcome.the-variants.{Done, Refused}
 use Rattle.refusal.proofs.Answers.{result, kept}
-use Rattle.euclid_theory.specs.Division.{quotientOf, remainderOf}
-use Rattle.euclid_theory.specs.Division.{Divisible}
+use Rattle.euclid_theory.specs.Division.{quotientOf, remainderOf, Divisible}
 use Rattle.euclid_theory.proofs.Division.{length-quotient, length-remainder, division-identity, division-only}
-use Rattle.list_division.specs.Calls.{Equation, DividesSo}
+use Rattle.list_division.specs.Calls.{DividesSo}
 
 -- the quotient and the remainder keep the promise
 pub divides-so : (F : PrimeField) (g f : List ℕ) → Divisible F g f → DividesSo F g f (quotientOf F g f) (remainderOf F g f)
-unfolding Equation
 divides-so F g f h =
     record {
       quotient-words = length-quotient F g f;

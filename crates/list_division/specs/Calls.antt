@@ -1,8 +1,11 @@
 -- What division refuses, and what it promises. g is the dividend, of naive degree e, f the divisor, of naive degree d.
---     divideRows, divideRefusals     backwards (7) where the dividend is shorter, vanishes (8) where the divisor's last word is 0; q of
---                                    e - d + 1 words, r of d words
---     DividesSo                      g = q·f + (1-t)^(e-d+1)·r as polynomials in t, and with any other words below p, in the same two
---                                    lengths, that equation fails
+--     divideRows           backwards (7) where the dividend is shorter, vanishes (8) where the divisor's last word is 0; q of e - d + 1
+--                          words, r of d words
+--     divideAnswer         what a division answers over field k
+--     quotientWritten      what the slice q holds at the end: the quotient
+--     remainderWritten     what the slice r holds at the end: the remainder
+--     DividesSo            g = q·f + (1-t)^(e-d+1)·r as polynomials in t, and with any other words below p, in the same two lengths,
+--                          that equation fails
 -- Assumes nothing.
 use mathlib.Core.Path.{_≡_}
 use mathlib.Core.Bool.{not, _||_}
@@ -10,16 +13,15 @@ use mathlib.Core.List.{List, [], _∷_, _++_}
 use Prim.Native.Nat.{ℕ}
 use lib.Dec.{ltb, eqb}
 use lib.ListN.{getD, length}
-use Rattle.algebra.specs.Ring.{CommRing}
-use Rattle.algebra.specs.OneMinusT.{⟨1-t⟩^}
 use Rattle.algebra.specs.PrimeField.{PrimeField}
-use Rattle.refusal.specs.Limits.{maxWords}
-use Rattle.refusal.specs.Lowest.{Condition, _given-when_}
+use Rattle.refusal.specs.Refusal.{Reply, reply, written}
+use Rattle.refusal.specs.Lowest.{Condition, _given-when_, lowest}
 use Rattle.refusal.specs.declared.Refusal.the-variants.{Backwards, Vanishes, Misfit}
+use Rattle.field.specs.Fields.{modulus, fieldAt, longest}
 use Rattle.lists.specs.Degrees.{naiveDegree}
-use Rattle.lists.specs.Lists.{Coefficients, meaning}
+use Rattle.lists.specs.Lists.{Coefficients}
 use Rattle.lists.specs.Refused.{listRefusals}
-use Rattle.euclid_theory.specs.Division.{steps}
+use Rattle.euclid_theory.specs.Division.{steps, quotientOf, remainderOf, Equation}
 
 unfoldable pub divideRows : (p most : ℕ) → (g f q r : List ℕ) → List Condition
 divideRows p most g f q r =
@@ -29,21 +31,20 @@ divideRows p most g f q r =
     Misfit given-when (not (eqb (length q) (steps g f)) || not (eqb (length r) (naiveDegree f))) ∷
     [])
 
-unfoldable pub divideRefusals : ℕ → (g f q r : List ℕ) → List Condition
-divideRefusals p g f q r = divideRows p maxWords g f q r
+abbrev pub divideAnswer : (k : ℕ) → (g f q r : List ℕ) → Reply
+divideAnswer k g f q r = reply (lowest (divideRows (modulus k) (longest k) g f q r)) []
 
-module _ (F : PrimeField) where
-  open CommRing (F .series .ring) using (add as _+ˢ_, mul as _*ˢ_)
+abbrev pub quotientWritten : (k : ℕ) → (g f q r : List ℕ) → List ℕ
+quotientWritten k g f q r =
+    written (lowest (divideRows (modulus k) (longest k) g f q r)) (quotientOf (fieldAt k) g f) q
 
-  infixl 65 _+ˢ_
-  infixl 70 _*ˢ_
-  -- the equation of the division
-  unfoldable pub Equation : (g f q r : List ℕ) → Type 0
-  Equation g f q r = meaning F g ≡ meaning F q *ˢ meaning F f +ˢ ⟨1-t⟩^ (F .series) (steps g f) *ˢ meaning F r
+abbrev pub remainderWritten : (k : ℕ) → (g f q r : List ℕ) → List ℕ
+remainderWritten k g f q r =
+    written (lowest (divideRows (modulus k) (longest k) g f q r)) (remainderOf (fieldAt k) g f) r
 
-  pub record DividesSo (g f q r : List ℕ) : Type 0 where
-    pub quotient-words : length q ≡ steps g f
-    pub remainder-words : length r ≡ naiveDegree f
-    pub holds : Equation g f q r
-    pub only : (q′ r′ : List ℕ) → Coefficients F q′ → Coefficients F r′ → length q′ ≡ length q → length r′ ≡ length r →
-        Equation g f q′ r′ → (q′ ≡ q) × (r′ ≡ r)
+pub record DividesSo (F : PrimeField) (g f q r : List ℕ) : Type 0 where
+  pub quotient-words : length q ≡ steps g f
+  pub remainder-words : length r ≡ naiveDegree f
+  pub holds : Equation F g f q r
+  pub only : (q′ r′ : List ℕ) → Coefficients F q′ → Coefficients F r′ → length q′ ≡ length q → length r′ ≡ length r →
+      Equation F g f q′ r′ → (q′ ≡ q) × (r′ ≡ r)

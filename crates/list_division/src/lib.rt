@@ -1,33 +1,23 @@
 // Division of lists.
 ghost use mathlib.Core.Path.{_≡_};
-ghost use mathlib.Core.List.{[]};
 ghost use lib.ListN.{length};
-ghost use Rattle.field.specs.Fields.{F65521, p, modulus, fieldAt, longest};
-ghost use Rattle.refusal.specs.Refusal.{reply, outcomeReply, written};
+ghost use Rattle.refusal.specs.Contract.{given, final};
+ghost use Rattle.field.specs.Fields.{modulus, fieldAt, longest};
+ghost use Rattle.refusal.specs.Refusal.{outcomeReply};
 ghost use Rattle.refusal.specs.Lowest.{lowest};
 ghost use Rattle.euclid_theory.specs.Division.{quotientOf, remainderOf};
 ghost use Rattle.field_tables.specs.Factorials.{Tables};
-ghost use Rattle.list_division.specs.Calls.{divideRows, divideRefusals, DividesSo};
+ghost use Rattle.list_division.specs.Calls.{divideRows, divideAnswer, quotientWritten, remainderWritten, DividesSo};
 ghost use Rattle.list_division.specs.Internal.{DivideFits};
 use refusal::Outcome;
 use refusal::Refusal;
 
-// g divided by f: the quotient goes to q, the remainder to r.
-pub fn divide(g: &[u16], f: &[u16], q: &mut [u16], r: &mut [u16]) -> Outcome
-    ensures answer { λ a. ⌜ outcomeReply a ≡ reply (lowest (divideRefusals p (now (g .entry)) (now (f .entry)) (now (q .entry)) (now (r .entry)))) [] ⌝ }
-    ensures quotient { λ _. ⌜ now (q .exit) ≡ written (lowest (divideRefusals p (now (g .entry)) (now (f .entry)) (now (q .entry)) (now (r .entry)))) (quotientOf F65521 (now (g .entry)) (now (f .entry))) (now (q .entry)) ⌝ }
-    ensures remainder { λ _. ⌜ now (r .exit) ≡ written (lowest (divideRefusals p (now (g .entry)) (now (f .entry)) (now (q .entry)) (now (r .entry)))) (remainderOf F65521 (now (g .entry)) (now (f .entry))) (now (r .entry)) ⌝ }
-    ensures property { λ a. ⌜ (a ≡ Outcome.Done → DividesSo F65521 (now (g .entry)) (now (f .entry)) (now (q .exit)) (now (r .exit))) ⌝ }
-{
-    divide_over(0, g, f, q, r)
-}
-
-// The same over a field.
+// g divided by f over a field: the quotient goes to q, the remainder to r.
 pub fn divide_over(field: u8, g: &[u16], f: &[u16], q: &mut [u16], r: &mut [u16]) -> Outcome
-    ensures answer { λ a. ⌜ outcomeReply a ≡ reply (lowest (divideRows (modulus field) (longest field) (now (g .entry)) (now (f .entry)) (now (q .entry)) (now (r .entry)))) [] ⌝ }
-    ensures quotient { λ _. ⌜ now (q .exit) ≡ written (lowest (divideRows (modulus field) (longest field) (now (g .entry)) (now (f .entry)) (now (q .entry)) (now (r .entry)))) (quotientOf (fieldAt field) (now (g .entry)) (now (f .entry))) (now (q .entry)) ⌝ }
-    ensures remainder { λ _. ⌜ now (r .exit) ≡ written (lowest (divideRows (modulus field) (longest field) (now (g .entry)) (now (f .entry)) (now (q .entry)) (now (r .entry)))) (remainderOf (fieldAt field) (now (g .entry)) (now (f .entry))) (now (r .entry)) ⌝ }
-    ensures property { λ a. ⌜ (a ≡ Outcome.Done → DividesSo (fieldAt field) (now (g .entry)) (now (f .entry)) (now (q .exit)) (now (r .exit))) ⌝ }
+    ensures answer { λ a. ⌜ outcomeReply a ≡ divideAnswer field (given g) (given f) (given q) (given r) ⌝ }
+    ensures quotient { λ _. ⌜ final q ≡ quotientWritten field (given g) (given f) (given q) (given r) ⌝ }
+    ensures remainder { λ _. ⌜ final r ≡ remainderWritten field (given g) (given f) (given q) (given r) ⌝ }
+    ensures property { λ a. ⌜ (a ≡ Outcome.Done → DividesSo (fieldAt field) (given g) (given f) (final q) (final r)) ⌝ }
 {
     let answer = judge_divide(field, g, f, q, r);
     match answer {
@@ -41,7 +31,7 @@ pub fn divide_over(field: u8, g: &[u16], f: &[u16], q: &mut [u16], r: &mut [u16]
 
 // What a division refuses.
 fn judge_divide(field: u8, g: &[u16], f: &[u16], q: &[u16], r: &[u16]) -> Outcome
-    ensures { λ a. ⌜ a ≡ lowest (divideRows (modulus field) (longest field) (now (g .entry)) (now (f .entry)) (now (q .entry)) (now (r .entry))) ⌝ }
+    ensures { λ a. ⌜ a ≡ lowest (divideRows (modulus field) (longest field) (given g) (given f) (given q) (given r)) ⌝ }
 {
     if let Outcome::Refused(why) = lists::judge_lists(field, g, f) {
         return Outcome::Refused(why);
@@ -78,8 +68,8 @@ fn divide_in(
     requires { ⌜ Tables (fieldAt field) (longest field) (now whole) (now part) ⌝ }
     requires { ⌜ DivideFits (fieldAt field) (longest field) (now g) (now f) (now q) (now r) ⌝ }
     requires { ⌜ (length (now x) ≡ length (now g)) × (length (now y) ≡ length (now f)) × (length (now k) ≡ length (now q)) ⌝ }
-    ensures quotient { λ _. ⌜ now (q .exit) ≡ quotientOf (fieldAt field) (now (g .entry)) (now (f .entry)) ⌝ }
-    ensures remainder { λ _. ⌜ now (r .exit) ≡ remainderOf (fieldAt field) (now (g .entry)) (now (f .entry)) ⌝ }
+    ensures quotient { λ _. ⌜ final q ≡ quotientOf (fieldAt field) (given g) (given f) ⌝ }
+    ensures remainder { λ _. ⌜ final r ≡ remainderOf (fieldAt field) (given g) (given f) ⌝ }
 {
     let inv = field_inverse::inverse_or_zero(field, inverses, f[f.len() - 1]);
     word_scaling::weigh(field, g, whole, part, x);
@@ -102,8 +92,8 @@ fn divide_with(
 )
     requires { ⌜ Tables (fieldAt field) (longest field) (now whole) (now part) ⌝ }
     requires { ⌜ DivideFits (fieldAt field) (longest field) (now g) (now f) (now q) (now r) ⌝ }
-    ensures quotient { λ _. ⌜ now (q .exit) ≡ quotientOf (fieldAt field) (now (g .entry)) (now (f .entry)) ⌝ }
-    ensures remainder { λ _. ⌜ now (r .exit) ≡ remainderOf (fieldAt field) (now (g .entry)) (now (f .entry)) ⌝ }
+    ensures quotient { λ _. ⌜ final q ≡ quotientOf (fieldAt field) (given g) (given f) ⌝ }
+    ensures remainder { λ _. ⌜ final r ≡ remainderOf (fieldAt field) (given g) (given f) ⌝ }
 {
     let m = g.len();
     let n = f.len();
@@ -129,8 +119,8 @@ fn divide_with(
 // The same with our own tables.
 fn divide_into(field: u8, g: &[u16], f: &[u16], q: &mut [u16], r: &mut [u16])
     requires { ⌜ DivideFits (fieldAt field) (longest field) (now g) (now f) (now q) (now r) ⌝ }
-    ensures quotient { λ _. ⌜ now (q .exit) ≡ quotientOf (fieldAt field) (now (g .entry)) (now (f .entry)) ⌝ }
-    ensures remainder { λ _. ⌜ now (r .exit) ≡ remainderOf (fieldAt field) (now (g .entry)) (now (f .entry)) ⌝ }
+    ensures quotient { λ _. ⌜ final q ≡ quotientOf (fieldAt field) (given g) (given f) ⌝ }
+    ensures remainder { λ _. ⌜ final r ≡ remainderOf (fieldAt field) (given g) (given f) ⌝ }
 {
     let whole = field_tables::factorials(field);
     let part = field_tables::inverse_factorials(field);

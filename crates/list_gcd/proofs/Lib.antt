@@ -1,5 +1,5 @@
-pub mod Parts
+pub mod Power
 pub mod Buffers
-pub mod Turning
+pub mod Alternating
 pub mod Ready
 pub mod Finish

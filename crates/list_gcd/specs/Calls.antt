@@ -1,7 +1,9 @@
 -- What the GCD of two lists answers, refuses and promises.
 --     gcdReply         what an answer says: w, c and rounds
 --     gcdValues        w, the naive degree of h; c; rounds
---     gcdRows, gcdRefusals      all zero (9) where both lists are zero; h a slice of exactly as many words as the longest list
+--     gcdRows          all zero (9) where both lists are zero; h a slice of exactly as many words as the longest list
+--     gcdAnswer        what the GCD answers over field k: w, c and rounds
+--     gcdWritten       what the slice h holds at the end: h, zeros after it
 --     GreatestSo       (1-t)^c·h divides both meanings, and every polynomial over the field, of any degree, that divides both divides it,
 --                      h being the first w + 1 words of the slice; the slice holds 1 at w and 0 after it; rounds is at most the extent of
 --                      f plus 1, and 0 where f is zero
@@ -14,12 +16,13 @@ use lib.Dec.{eqb}
 use lib.ListN.{getD, length, take}
 use Rattle.algebra.specs.OneMinusT.{⟨1-t⟩^}
 use Rattle.algebra.specs.PrimeField.{PrimeField}
-use Rattle.refusal.specs.Limits.{maxWords}
-use Rattle.refusal.specs.Refusal.{Reply, number}
-use Rattle.refusal.specs.Lowest.{Condition, _given-when_}
+use Rattle.refusal.specs.Refusal.{Reply, reply, written, number}
+use Rattle.refusal.specs.Lowest.{Condition, _given-when_, lowest}
 use Rattle.refusal.specs.declared.Refusal.the-variants.{AllZero, Misfit}
+use Rattle.field.specs.Fields.{modulus, fieldAt, longest}
 use Rattle.lists.specs.Degrees.{naiveDegree, significant}
 use Rattle.lists.specs.Lists.{meaning}
+use Rattle.lists.specs.Padded.{padded}
 use Rattle.lists.specs.Refused.{listRefusals}
 use Rattle.euclid_theory.specs.Gcd.{commonPower, gcdOf, roundsOf}
 use Rattle.euclid_theory.specs.Greatest.{IsGreatest}
@@ -40,8 +43,12 @@ gcdRows p most f g h =
     Misfit given-when not (eqb (length h) most) ∷
     [])
 
-unfoldable pub gcdRefusals : ℕ → (f g h : List ℕ) → List Condition
-gcdRefusals p f g h = gcdRows p maxWords f g h
+abbrev pub gcdAnswer : (k : ℕ) → (f g h : List ℕ) → Reply
+gcdAnswer k f g h = reply (lowest (gcdRows (modulus k) (longest k) f g h)) (gcdValues (fieldAt k) f g)
+
+abbrev pub gcdWritten : (k : ℕ) → (f g h : List ℕ) → List ℕ
+gcdWritten k f g h =
+    written (lowest (gcdRows (modulus k) (longest k) f g h)) (padded (longest k) (gcdOf (fieldAt k) f g)) h
 
 pub record GreatestSo (F : PrimeField) (f g slice : List ℕ) (w c rounds : ℕ) : Type 0 where
   pub ends : getD slice w 0 ≡ 1

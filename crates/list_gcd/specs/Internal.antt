@@ -3,7 +3,7 @@
 --     Buffer n x          n words, each below p
 --     Holds n x s         a buffer whose words are the coefficients of s
 --     euclidOn n x y      what Euclid's rounds answer on the series of x and y
---     Turning             the rounds have led from the buffers x₀, y₀ to x, y: the last x is the same, and the rounds made and those that
+--     Led                 the rounds have led from the buffers x₀, y₀ to x, y: the last x is the same, and the rounds made and those that
 --                         are left are all the rounds
 --     monicList n s       the list of the scaled form s, of at most n coefficients, made to have last word 1
 --     LastOf n f g x      the buffer x holds the last x of the rounds on f and g
@@ -49,9 +49,9 @@ module _ (F : PrimeField) where
   unfoldable pub monicList : ℕ → S → List ℕ
   monicList n s = unscaled F (size (F .series) (scalarField F) n s) (monic (F .series) (scalarField F) n s)
 
-  pub record Turning (n : ℕ) (x₀ y₀ x y : List ℕ) (rounds : ℕ) : Type 0 where
-    pub left : Buffer n x
-    pub right : Buffer n y
+  pub record Led (n : ℕ) (x₀ y₀ x y : List ℕ) (rounds : ℕ) : Type 0 where
+    pub buffer-x : Buffer n x
+    pub buffer-y : Buffer n y
     pub last : euclidOn n x y .last ≡ euclidOn n x₀ y₀ .last
     pub count : rounds + euclidOn n x y .rounds ≡ euclidOn n x₀ y₀ .rounds
 

@@ -1,24 +1,22 @@
 // The GCD of two lists.
 ghost use mathlib.Core.Path.{_≡_};
 ghost use mathlib.Core.Bool.{cond};
+ghost use mathlib.Core.List.{[], _∷_};
 ghost use Prim.Native.Nat.{ℕ, _+_, _<_, _≤_};
 ghost use lib.Dec.{eqb};
 ghost use lib.ListN.{length, getD};
-ghost use Rattle.field.specs.Fields.{F65521, p, modulus, fieldAt, longest};
+ghost use Rattle.refusal.specs.Contract.{given, final};
+ghost use Rattle.field.specs.Fields.{modulus, fieldAt, longest};
 ghost use Rattle.refusal.specs.Limits.{maxWords};
-ghost use Rattle.refusal.specs.Refusal.{reply, written};
 ghost use Rattle.refusal.specs.Lowest.{lowest};
 ghost use Rattle.lists.specs.Degrees.{significant};
 ghost use Rattle.lists.specs.Lists.{scaled};
 ghost use Rattle.lists.specs.Words.{seriesOf};
-ghost use Rattle.euclid_theory.specs.Gcd.{gcdOf, roundsOf};
+ghost use Rattle.euclid_theory.specs.Gcd.{gcdOf, roundsOf, commonPower};
 ghost use Rattle.lists.specs.Padded.{padded};
-ghost use Rattle.euclid_round.specs.Round.{roundFits, remaining};
 ghost use Rattle.field_tables.specs.Factorials.{Tables};
-ghost use Rattle.list_gcd.specs.Calls.{gcdReply, gcdValues, gcdRows, gcdRefusals, Greatest};
-ghost use Rattle.list_gcd.specs.Internal.{Buffer, Holds, euclidOn, monicList};
-ghost use Rattle.list_gcd.specs.Internal.{Ready};
-ghost use Rattle.list_gcd.specs.Internal.{LastOf, gcdDone};
+ghost use Rattle.list_gcd.specs.Calls.{gcdReply, gcdRows, gcdAnswer, gcdWritten, Greatest};
+ghost use Rattle.list_gcd.specs.Internal.{Ready, Buffer, Holds, euclidOn, monicList, LastOf, gcdDone};
 use lists::NaiveDegree;
 use lists::Power;
 use refusal::Outcome;
@@ -33,20 +31,11 @@ pub enum Gcd {
     Refused(Refusal),
 }
 
-// The GCD of f and g: h goes to a slice of as many words as the longest list has, zeros after word w.
-pub fn gcd_of(f: &[u16], g: &[u16], h: &mut [u16]) -> Gcd
-    ensures answer { λ r. ⌜ gcdReply r ≡ reply (lowest (gcdRefusals p (now (f .entry)) (now (g .entry)) (now (h .entry)))) (gcdValues F65521 (now (f .entry)) (now (g .entry))) ⌝ }
-    ensures writes { λ _. ⌜ now (h .exit) ≡ written (lowest (gcdRefusals p (now (f .entry)) (now (g .entry)) (now (h .entry)))) (padded maxWords (gcdOf F65521 (now (f .entry)) (now (g .entry)))) (now (h .entry)) ⌝ }
-    ensures greatest { λ r. ⌜ Greatest F65521 (now (f .entry)) (now (g .entry)) (now (h .exit)) r ⌝ }
-{
-    gcd_over(0, f, g, h)
-}
-
-// The same over a field: h goes to a slice of as many words as the longest list has.
+// The GCD of f and g over a field: h goes to a slice of as many words as the longest list has, zeros after word w.
 pub fn gcd_over(field: u8, f: &[u16], g: &[u16], h: &mut [u16]) -> Gcd
-    ensures answer { λ r. ⌜ gcdReply r ≡ reply (lowest (gcdRows (modulus field) (longest field) (now (f .entry)) (now (g .entry)) (now (h .entry)))) (gcdValues (fieldAt field) (now (f .entry)) (now (g .entry))) ⌝ }
-    ensures writes { λ _. ⌜ now (h .exit) ≡ written (lowest (gcdRows (modulus field) (longest field) (now (f .entry)) (now (g .entry)) (now (h .entry)))) (padded (longest field) (gcdOf (fieldAt field) (now (f .entry)) (now (g .entry)))) (now (h .entry)) ⌝ }
-    ensures greatest { λ r. ⌜ Greatest (fieldAt field) (now (f .entry)) (now (g .entry)) (now (h .exit)) r ⌝ }
+    ensures answer { λ r. ⌜ gcdReply r ≡ gcdAnswer field (given f) (given g) (given h) ⌝ }
+    ensures writes { λ _. ⌜ final h ≡ gcdWritten field (given f) (given g) (given h) ⌝ }
+    ensures greatest { λ r. ⌜ Greatest (fieldAt field) (given f) (given g) (final h) r ⌝ }
 {
     let answer = judge_gcd(field, f, g, h);
     match answer {
@@ -56,8 +45,8 @@ pub fn gcd_over(field: u8, f: &[u16], g: &[u16], h: &mut [u16]) -> Gcd
 }
 
 // Whether f and g are both zero.
-pub fn both_zero(f: &[u16], g: &[u16]) -> bool
-    ensures { λ r. ⌜ r ≡ eqb (significant (now (f .entry)) + significant (now (g .entry))) 0 ⌝ }
+fn both_zero(f: &[u16], g: &[u16]) -> bool
+    ensures { λ r. ⌜ r ≡ eqb (significant (given f) + significant (given g)) 0 ⌝ }
 {
     if lists::significant_words(f) != 0 {
         return false;
@@ -66,8 +55,8 @@ pub fn both_zero(f: &[u16], g: &[u16]) -> bool
 }
 
 // What the GCD refuses.
-fn judge_gcd(field: u8, f: &[u16], g: &[u16], h: &[u16]) -> Outcome
-    ensures { λ r. ⌜ r ≡ lowest (gcdRows (modulus field) (longest field) (now (f .entry)) (now (g .entry)) (now (h .entry))) ⌝ }
+pub fn judge_gcd(field: u8, f: &[u16], g: &[u16], h: &[u16]) -> Outcome
+    ensures { λ r. ⌜ r ≡ lowest (gcdRows (modulus field) (longest field) (given f) (given g) (given h)) ⌝ }
 {
     if let Outcome::Refused(why) = lists::judge_lists(field, f, g) {
         return Outcome::Refused(why);
@@ -81,40 +70,44 @@ fn judge_gcd(field: u8, f: &[u16], g: &[u16], h: &[u16]) -> Outcome
     Outcome::Done
 }
 
+// The least power among those of f and g that are not zero; 0 where both are.
+pub fn common_power(f: &[u16], g: &[u16]) -> Power
+    ensures { λ r. ⌜ r .0 ≡ commonPower (given f ∷ given g ∷ []) ⌝ }
+{
+    let nf = lists::significant_words(f);
+    let ng = lists::significant_words(g);
+    if nf == 0 {
+        if ng == 0 {
+            return Power(0);
+        }
+        return lists::power_in(g);
+    }
+    let pf = lists::power_in(f);
+    if ng == 0 {
+        return pf;
+    }
+    let pg = lists::power_in(g);
+    if pf.0 < pg.0 {
+        return pf;
+    }
+    pg
+}
+
 // The words of the scaled form of a list, to a buffer of zeros.
 fn scale_into(field: u8, whole: &[u16], part: &[u16], list: &[u16], buffer: &mut [u16])
     requires { ⌜ Tables (fieldAt field) (longest field) (now whole) (now part) ⌝ }
     requires { ⌜ (length (now list) ≤ (longest field)) × (length (now buffer) ≡ (longest field)) ⌝ }
     requires { ⌜ ((k : ℕ) → getD (now buffer) k 0 ≡ 0) ⌝ }
-    ensures { λ _. ⌜ Holds (fieldAt field) (longest field) (now (buffer .exit)) (scaled (fieldAt field) (now (list .entry))) ⌝ }
+    ensures { λ _. ⌜ Holds (fieldAt field) (longest field) (final buffer) (scaled (fieldAt field) (given list)) ⌝ }
 {
     let n = list.len();
     word_scaling::weigh(field, list, whole, part, &mut buffer[..n]);
 }
 
-// One of Euclid's rounds on the first nx words of x and ny of y, which are the significant ones: so a search for the end of x or y
-// begins close to it, and not at the top of the zeros. The number of significant words that are left of x.
-fn turn(
-    field: u8,
-    inverses: &[u16],
-    x: &mut [u16],
-    nx: usize,
-    y: &[u16],
-    ny: usize,
-    q: &mut [u16],
-) -> usize
-    requires { ⌜ (nx ≡ significant (now x)) × (ny ≡ significant (now y)) ⌝ }
-    ensures { λ r. ⌜ r ≡ significant (now (x .exit)) ⌝ }
-    ensures { λ _. ⌜ now (x .exit) ≡ cond (roundFits (modulus field) (now (x .entry)) (now (y .entry)) (now (q .entry))) (remaining (fieldAt field) (now (x .entry)) (now (y .entry))) (now (x .entry)) ⌝ }
-{
-    euclid_round::round(field, inverses, &mut x[..nx], &y[..ny], q);
-    lists::significant_words(&x[..nx])
-}
-
 // Where the rounds ended: how many they were, and whether the last x stands in the first buffer.
-struct Ended {
-    rounds: usize,
-    first: bool,
+pub struct Ended {
+    pub rounds: usize,
+    pub first: bool,
 }
 
 // Euclid's rounds on two buffers that alternate, until one of them is zero.
@@ -122,8 +115,8 @@ fn all_rounds(field: u8, inverses: &[u16], x: &mut [u16], y: &mut [u16], q: &mut
     requires { ⌜ Buffer (fieldAt field) (longest field) (now x) ⌝ }
     requires { ⌜ Buffer (fieldAt field) (longest field) (now y) ⌝ }
     requires { ⌜ (longest field) ≤ length (now q) ⌝ }
-    ensures { λ r. ⌜ r .rounds ≡ euclidOn (fieldAt field) (longest field) (now (x .entry)) (now (y .entry)) .rounds ⌝ }
-    ensures { λ r. ⌜ Holds (fieldAt field) (longest field) (cond (r .first) (now (x .exit)) (now (y .exit))) (euclidOn (fieldAt field) (longest field) (now (x .entry)) (now (y .entry)) .last) ⌝ }
+    ensures { λ r. ⌜ r .rounds ≡ euclidOn (fieldAt field) (longest field) (given x) (given y) .rounds ⌝ }
+    ensures { λ r. ⌜ Holds (fieldAt field) (longest field) (cond (r .first) (final x) (final y)) (euclidOn (fieldAt field) (longest field) (given x) (given y) .last) ⌝ }
 {
     let mut rounds = 0;
     let mut nx = lists::significant_words(x);
@@ -135,7 +128,8 @@ fn all_rounds(field: u8, inverses: &[u16], x: &mut [u16], y: &mut [u16], q: &mut
                 first: true,
             };
         }
-        nx = turn(field, inverses, x, nx, y, ny, q);
+        let of_x = euclid_round::shorten(field, inverses, x, nx, y, ny, q);
+        nx = of_x.left;
         rounds += 1;
         if nx == 0 {
             return Ended {
@@ -143,7 +137,8 @@ fn all_rounds(field: u8, inverses: &[u16], x: &mut [u16], y: &mut [u16], q: &mut
                 first: false,
             };
         }
-        ny = turn(field, inverses, y, ny, x, nx, q);
+        let of_y = euclid_round::shorten(field, inverses, y, ny, x, nx, q);
+        ny = of_y.left;
         rounds += 1;
     }
 }
@@ -160,8 +155,8 @@ fn write_gcd(
     requires { ⌜ Tables (fieldAt field) (longest field) (now whole) (now part) ⌝ }
     requires { ⌜ Buffer (fieldAt field) (longest field) (now last) ⌝ }
     requires { ⌜ (0 < significant (now last)) × (length (now h) ≡ (longest field)) ⌝ }
-    ensures { λ r. ⌜ r .0 + 1 ≡ significant (now (last .entry)) ⌝ }
-    ensures { λ _. ⌜ now (h .exit) ≡ padded (longest field) (monicList (fieldAt field) (longest field) (seriesOf (fieldAt field) (now (last .entry)))) ⌝ }
+    ensures { λ r. ⌜ r .0 + 1 ≡ significant (given last) ⌝ }
+    ensures { λ _. ⌜ final h ≡ padded (longest field) (monicList (fieldAt field) (longest field) (seriesOf (fieldAt field) (given last))) ⌝ }
 {
     let n = lists::significant_words(last);
     let inv = field_inverse::inverse_or_zero(field, inverses, last[n - 1]);
@@ -183,8 +178,8 @@ fn write_last(
     requires { ⌜ Tables (fieldAt field) (longest field) (now whole) (now part) ⌝ }
     requires { ⌜ Buffer (fieldAt field) (longest field) (cond first (now x) (now y)) ⌝ }
     requires { ⌜ (0 < significant (cond first (now x) (now y))) × (length (now h) ≡ (longest field)) ⌝ }
-    ensures { λ r. ⌜ r .0 + 1 ≡ significant (cond first (now (x .entry)) (now (y .entry))) ⌝ }
-    ensures { λ _. ⌜ now (h .exit) ≡ padded (longest field) (monicList (fieldAt field) (longest field) (seriesOf (fieldAt field) (cond first (now (x .entry)) (now (y .entry))))) ⌝ }
+    ensures { λ r. ⌜ r .0 + 1 ≡ significant (cond first (given x) (given y)) ⌝ }
+    ensures { λ _. ⌜ final h ≡ padded (longest field) (monicList (fieldAt field) (longest field) (seriesOf (fieldAt field) (cond first (given x) (given y)))) ⌝ }
 {
     if first {
         return write_gcd(field, whole, part, inverses, x, h);
@@ -209,8 +204,8 @@ fn find_last(
     requires { ⌜ (length (now x) ≡ (longest field)) × (length (now y) ≡ (longest field)) × (length (now q) ≡ (longest field)) ⌝ }
     requires { ⌜ ((k : ℕ) → getD (now x) k 0 ≡ 0) ⌝ }
     requires { ⌜ ((k : ℕ) → getD (now y) k 0 ≡ 0) ⌝ }
-    ensures { λ r. ⌜ r .rounds ≡ roundsOf (fieldAt field) (now (f .entry)) (now (g .entry)) ⌝ }
-    ensures { λ r. ⌜ LastOf (fieldAt field) (longest field) (now (f .entry)) (now (g .entry)) (cond (r .first) (now (x .exit)) (now (y .exit))) ⌝ }
+    ensures { λ r. ⌜ r .rounds ≡ roundsOf (fieldAt field) (given f) (given g) ⌝ }
+    ensures { λ r. ⌜ LastOf (fieldAt field) (longest field) (given f) (given g) (cond (r .first) (final x) (final y)) ⌝ }
 {
     scale_into(field, whole, part, g, x);
     scale_into(field, whole, part, f, y);
@@ -236,12 +231,12 @@ fn gcd_in(
     requires { ⌜ ((k : ℕ) → getD (now x) k 0 ≡ 0) ⌝ }
     requires { ⌜ ((k : ℕ) → getD (now y) k 0 ≡ 0) ⌝ }
     requires { ⌜ length (now h) ≡ longest field ⌝ }
-    ensures { λ r. ⌜ r ≡ gcdDone (fieldAt field) (now (f .entry)) (now (g .entry)) ⌝ }
-    ensures { λ _. ⌜ now (h .exit) ≡ padded (longest field) (gcdOf (fieldAt field) (now (f .entry)) (now (g .entry))) ⌝ }
+    ensures { λ r. ⌜ r ≡ gcdDone (fieldAt field) (given f) (given g) ⌝ }
+    ensures { λ _. ⌜ final h ≡ padded (longest field) (gcdOf (fieldAt field) (given f) (given g)) ⌝ }
 {
     let ended = find_last(field, whole, part, inverses, f, g, x, y, q);
     let w = write_last(field, whole, part, inverses, ended.first, x, y, h);
-    let c = euclid_round::common_power(f, g);
+    let c = common_power(f, g);
     Gcd::Done(w, c, Rounds(ended.rounds))
 }
 
@@ -258,8 +253,8 @@ fn gcd_with(
     requires { ⌜ Tables (fieldAt field) (longest field) (now whole) (now part) ⌝ }
     requires { ⌜ Ready (fieldAt field) (longest field) (now f) (now g) ⌝ }
     requires { ⌜ length (now h) ≡ longest field ⌝ }
-    ensures { λ r. ⌜ r ≡ gcdDone (fieldAt field) (now (f .entry)) (now (g .entry)) ⌝ }
-    ensures { λ _. ⌜ now (h .exit) ≡ padded (longest field) (gcdOf (fieldAt field) (now (f .entry)) (now (g .entry))) ⌝ }
+    ensures { λ r. ⌜ r ≡ gcdDone (fieldAt field) (given f) (given g) ⌝ }
+    ensures { λ _. ⌜ final h ≡ padded (longest field) (gcdOf (fieldAt field) (given f) (given g)) ⌝ }
 {
     let mut x = [0u16; refusal::MAX_WORDS];
     let mut y = [0u16; refusal::MAX_WORDS];
@@ -297,8 +292,8 @@ fn gcd_between(
     requires { ⌜ ((k : ℕ) → getD (now x) k 0 ≡ 0) ⌝ }
     requires { ⌜ ((k : ℕ) → getD (now y) k 0 ≡ 0) ⌝ }
     requires { ⌜ length (now h) ≡ longest field ⌝ }
-    ensures { λ r. ⌜ r ≡ gcdDone (fieldAt field) (now (f .entry)) (now (g .entry)) ⌝ }
-    ensures { λ _. ⌜ now (h .exit) ≡ padded (longest field) (gcdOf (fieldAt field) (now (f .entry)) (now (g .entry))) ⌝ }
+    ensures { λ r. ⌜ r ≡ gcdDone (fieldAt field) (given f) (given g) ⌝ }
+    ensures { λ _. ⌜ final h ≡ padded (longest field) (gcdOf (fieldAt field) (given f) (given g)) ⌝ }
 {
     let n = field::longest_of(field);
     gcd_in(
@@ -319,8 +314,8 @@ fn gcd_between(
 fn gcd_into(field: u8, f: &[u16], g: &[u16], h: &mut [u16]) -> Gcd
     requires { ⌜ Ready (fieldAt field) (longest field) (now f) (now g) ⌝ }
     requires { ⌜ length (now h) ≡ longest field ⌝ }
-    ensures { λ r. ⌜ r ≡ gcdDone (fieldAt field) (now (f .entry)) (now (g .entry)) ⌝ }
-    ensures { λ _. ⌜ now (h .exit) ≡ padded (longest field) (gcdOf (fieldAt field) (now (f .entry)) (now (g .entry))) ⌝ }
+    ensures { λ r. ⌜ r ≡ gcdDone (fieldAt field) (given f) (given g) ⌝ }
+    ensures { λ _. ⌜ final h ≡ padded (longest field) (gcdOf (fieldAt field) (given f) (given g)) ⌝ }
 {
     let whole = field_tables::factorials(field);
     let part = field_tables::inverse_factorials(field);

@@ -19,20 +19,16 @@ use Rattle.refusal.specs.declared.Outcome.the-variants.{Done, Refused}
 use Rattle.refusal.proofs.Answers.{number-is}
 use Rattle.test_calls.specs.Lent.{fitted}
 
-pub counted : (o r : Outcome) {n : ℕ} → outcomeReply r ≡ reply o [] → n ≡ outcomeNumber r → n ≡ outcomeNumber o
-counted o r e a = a ∙ sym (number-is r [] refl) ∙ number-is o [] e
+pub counted : (r : Outcome) {answer : Reply} {n : ℕ} → outcomeReply r ≡ answer → n ≡ outcomeNumber r → n ≡ answer .number
+counted r e a = a ∙ sym (number-is r [] refl) ∙ ap (λ x. x .number) e
 
 pub fitted-none : (old : List ℕ) → fitted [] old ≡ old
 fitted-none [] = refl
 fitted-none (x ∷ old) = simp (ne-eqb (length (x ∷ old)) 0 (λ e. omega arith))
 
-offered : (o : Outcome) (values old : List ℕ) → fitted (reply o values .values) old ≡ written o (fitted values old) old
-offered Done values old = refl
-offered (Refused why) values old = fitted-none old
-
-pub told : (o : Outcome) (values old : List ℕ) {r : Reply} {n : ℕ} {left : List ℕ} → r ≡ reply o values → n ≡ r .number → left ≡ fitted (r .values) old
-    → (n ≡ outcomeNumber o) × (left ≡ written o (fitted values old) old)
-told o values old e a b = (a ∙ number-is o values e, b ∙ ap (λ r. fitted (r .values) old) e ∙ offered o values old)
+pub told : (old : List ℕ) {answer r : Reply} {n : ℕ} {left : List ℕ} → r ≡ answer → n ≡ r .number → left ≡ fitted (r .values) old
+    → (n ≡ answer .number) × (left ≡ fitted (answer .values) old)
+told old e a b = (a ∙ ap (λ x. x .number) e, b ∙ ap (λ x. fitted (x .values) old) e)
 
 pub noted : {A : Type 0} (replyOf : A → Reply) (x y : A) (old : List ℕ) {n : ℕ} {left : List ℕ} → x ≡ y → n ≡ replyOf y .number → left ≡ fitted (replyOf y .values) old
     → (n ≡ replyOf x .number) × (left ≡ fitted (replyOf x .values) old)

@@ -1,5 +1,5 @@
 // Every public call as a C function on words in place, for the second implementation (tests/host) and the bench: no part of the engine's
-// calls, and none of what it offers to a C host (crates/host). Each function is the call that it names and returns the refusal's number, 0
+// calls, and none of what it offers to a C host (crates/bernstein). Each function is the call that it names and returns the refusal's number, 0
 // when the call completes; `note_...` write the answer's values, if it has any, to a lent slice of exactly as many numbers, and leave a slice
 // of another length as it came. tests/calls.h declares them.
 ghost use mathlib.Core.Path.{_≡_};
@@ -42,129 +42,129 @@ const COMPLETED: u8 = 0;
 // The sum of two coefficients.
 #[no_mangle]
 pub extern "C" fn test_field_sum(a: u16, b: u16, answer: &mut [usize]) -> u8
-    ensures number { λ r. ⌜ r ≡ outcomeNumber (lowest (operandRefusals p a b)) ⌝ }
-    ensures values { λ _. ⌜ now (answer .exit) ≡ written (lowest (operandRefusals p a b)) (fitted (sumOf p a b ∷ []) (now (answer .entry))) (now (answer .entry)) ⌝ }
+    ensures number { λ r. ⌜ r ≡ wordSumAnswer 0 a b .number ⌝ }
+    ensures values { λ _. ⌜ final answer ≡ fitted (wordSumAnswer 0 a b .values) (given answer) ⌝ }
 {
-    note_word(field::sum(a, b), answer)
+    note_word(field_calls::sum(a, b), answer)
 }
 
 // The difference of two coefficients.
 #[no_mangle]
 pub extern "C" fn test_field_difference(a: u16, b: u16, answer: &mut [usize]) -> u8
-    ensures number { λ r. ⌜ r ≡ outcomeNumber (lowest (operandRefusals p a b)) ⌝ }
-    ensures values { λ _. ⌜ now (answer .exit) ≡ written (lowest (operandRefusals p a b)) (fitted (differenceOf p a b ∷ []) (now (answer .entry))) (now (answer .entry)) ⌝ }
+    ensures number { λ r. ⌜ r ≡ wordDifferenceAnswer 0 a b .number ⌝ }
+    ensures values { λ _. ⌜ final answer ≡ fitted (wordDifferenceAnswer 0 a b .values) (given answer) ⌝ }
 {
-    note_word(field::difference(a, b), answer)
+    note_word(field_calls::difference(a, b), answer)
 }
 
 // The product of two coefficients.
 #[no_mangle]
 pub extern "C" fn test_field_product(a: u16, b: u16, answer: &mut [usize]) -> u8
-    ensures number { λ r. ⌜ r ≡ outcomeNumber (lowest (operandRefusals p a b)) ⌝ }
-    ensures values { λ _. ⌜ now (answer .exit) ≡ written (lowest (operandRefusals p a b)) (fitted (productOf p a b ∷ []) (now (answer .entry))) (now (answer .entry)) ⌝ }
+    ensures number { λ r. ⌜ r ≡ wordProductAnswer 0 a b .number ⌝ }
+    ensures values { λ _. ⌜ final answer ≡ fitted (wordProductAnswer 0 a b .values) (given answer) ⌝ }
 {
-    note_word(field::product(a, b), answer)
+    note_word(field_calls::product(a, b), answer)
 }
 
 // The inverse of a coefficient.
 #[no_mangle]
 pub extern "C" fn test_inverse(a: u16, answer: &mut [usize]) -> u8
-    ensures number { λ r. ⌜ r ≡ outcomeNumber (lowest (inverseRefusals p a)) ⌝ }
-    ensures values { λ _. ⌜ now (answer .exit) ≡ written (lowest (inverseRefusals p a)) (fitted (inverseOf F65521 a ∷ []) (now (answer .entry))) (now (answer .entry)) ⌝ }
+    ensures number { λ r. ⌜ r ≡ inverseAnswer 0 a .number ⌝ }
+    ensures values { λ _. ⌜ final answer ≡ fitted (inverseAnswer 0 a .values) (given answer) ⌝ }
 {
-    note_word(field_inverse::inverse(a), answer)
+    note_word(field_calls::inverse(a), answer)
 }
 
 // The product of two lists.
 #[no_mangle]
 pub extern "C" fn test_product(f: &[u16], g: &[u16], out: &mut [u16]) -> u8
-    ensures number { λ r. ⌜ r ≡ outcomeNumber (lowest (productRefusals p (now (f .entry)) (now (g .entry)) (now (out .entry)))) ⌝ }
-    ensures writes { λ _. ⌜ now (out .exit) ≡ written (lowest (productRefusals p (now (f .entry)) (now (g .entry)) (now (out .entry)))) (of.product F65521 (now (f .entry)) (now (g .entry))) (now (out .entry)) ⌝ }
+    ensures number { λ r. ⌜ r ≡ productAnswer 0 (given f) (given g) (given out) .number ⌝ }
+    ensures writes { λ _. ⌜ final out ≡ productWritten 0 (given f) (given g) (given out) ⌝ }
 {
-    refusal::outcome_number(list_product::product(f, g, out))
+    refusal::outcome_number(list_calls::product(f, g, out))
 }
 
 // A list raised to a naive degree.
 #[no_mangle]
 pub extern "C" fn test_raise(f: &[u16], to: usize, out: &mut [u16]) -> u8
-    ensures number { λ r. ⌜ r ≡ outcomeNumber (lowest (raiseRefusals p (now (f .entry)) to (now (out .entry)))) ⌝ }
-    ensures writes { λ _. ⌜ now (out .exit) ≡ written (lowest (raiseRefusals p (now (f .entry)) to (now (out .entry)))) (of.raise F65521 to (now (f .entry))) (now (out .entry)) ⌝ }
+    ensures number { λ r. ⌜ r ≡ raiseAnswer 0 (given f) to (given out) .number ⌝ }
+    ensures writes { λ _. ⌜ final out ≡ raiseWritten 0 (given f) to (given out) ⌝ }
 {
-    refusal::outcome_number(list_product::raise(f, NaiveDegree(to), out))
+    refusal::outcome_number(list_calls::raise(f, NaiveDegree(to), out))
 }
 
 // The sum of two lists.
 #[no_mangle]
 pub extern "C" fn test_sum(f: &[u16], g: &[u16], out: &mut [u16]) -> u8
-    ensures number { λ r. ⌜ r ≡ outcomeNumber (lowest (sumRefusals p (now (f .entry)) (now (g .entry)) (now (out .entry)))) ⌝ }
-    ensures writes { λ _. ⌜ now (out .exit) ≡ written (lowest (sumRefusals p (now (f .entry)) (now (g .entry)) (now (out .entry)))) (of.sumOf F65521 (now (f .entry)) (now (g .entry))) (now (out .entry)) ⌝ }
+    ensures number { λ r. ⌜ r ≡ sumAnswer 0 (given f) (given g) (given out) .number ⌝ }
+    ensures writes { λ _. ⌜ final out ≡ sumWritten 0 (given f) (given g) (given out) ⌝ }
 {
-    refusal::outcome_number(list_sum::sum(f, g, out))
+    refusal::outcome_number(list_calls::sum(f, g, out))
 }
 
 // The difference of two lists.
 #[no_mangle]
 pub extern "C" fn test_difference(f: &[u16], g: &[u16], out: &mut [u16]) -> u8
-    ensures number { λ r. ⌜ r ≡ outcomeNumber (lowest (sumRefusals p (now (f .entry)) (now (g .entry)) (now (out .entry)))) ⌝ }
-    ensures writes { λ _. ⌜ now (out .exit) ≡ written (lowest (sumRefusals p (now (f .entry)) (now (g .entry)) (now (out .entry)))) (of.differenceOf F65521 (now (f .entry)) (now (g .entry))) (now (out .entry)) ⌝ }
+    ensures number { λ r. ⌜ r ≡ sumAnswer 0 (given f) (given g) (given out) .number ⌝ }
+    ensures writes { λ _. ⌜ final out ≡ differenceWritten 0 (given f) (given g) (given out) ⌝ }
 {
-    refusal::outcome_number(list_sum::difference(f, g, out))
+    refusal::outcome_number(list_calls::difference(f, g, out))
 }
 
 // The extent of a list; a zero list has none, and the answer is left as it came.
 #[no_mangle]
 pub extern "C" fn test_find_extent(f: &[u16], answer: &mut [usize]) -> u8
-    ensures number { λ r. ⌜ r ≡ outcomeNumber (lowest (extentRefusals p (now (f .entry)))) ⌝ }
-    ensures values { λ _. ⌜ now (answer .exit) ≡ written (lowest (extentRefusals p (now (f .entry)))) (fitted (extentValues (now (f .entry))) (now (answer .entry))) (now (answer .entry)) ⌝ }
+    ensures number { λ r. ⌜ r ≡ extentAnswer 0 (given f) .number ⌝ }
+    ensures values { λ _. ⌜ final answer ≡ fitted (extentAnswer 0 (given f) .values) (given answer) ⌝ }
 {
-    note_found(list_extent::find_extent(f), answer)
+    note_found(list_calls::find_extent(f), answer)
 }
 
 // A list less its top zeros.
 #[no_mangle]
 pub extern "C" fn test_trim(f: &[u16], out: &mut [u16]) -> u8
-    ensures number { λ r. ⌜ r ≡ outcomeNumber (lowest (trimRefusals p (now (f .entry)) (now (out .entry)))) ⌝ }
-    ensures writes { λ _. ⌜ now (out .exit) ≡ written (lowest (trimRefusals p (now (f .entry)) (now (out .entry)))) (of.trim F65521 (now (f .entry))) (now (out .entry)) ⌝ }
+    ensures number { λ r. ⌜ r ≡ trimAnswer 0 (given f) (given out) .number ⌝ }
+    ensures writes { λ _. ⌜ final out ≡ trimWritten 0 (given f) (given out) ⌝ }
 {
-    refusal::outcome_number(list_extent::trim(f, out))
+    refusal::outcome_number(list_calls::trim(f, out))
 }
 
 // The derivative of a list.
 #[no_mangle]
 pub extern "C" fn test_derivative(f: &[u16], out: &mut [u16]) -> u8
-    ensures number { λ r. ⌜ r ≡ outcomeNumber (lowest (derivativeRefusals p (now (f .entry)) (now (out .entry)))) ⌝ }
-    ensures writes { λ _. ⌜ now (out .exit) ≡ written (lowest (derivativeRefusals p (now (f .entry)) (now (out .entry)))) (of.derivative F65521 (now (f .entry))) (now (out .entry)) ⌝ }
+    ensures number { λ r. ⌜ r ≡ derivativeAnswer 0 (given f) (given out) .number ⌝ }
+    ensures writes { λ _. ⌜ final out ≡ derivativeWritten 0 (given f) (given out) ⌝ }
 {
-    refusal::outcome_number(list_derivative::derivative(f, out))
+    refusal::outcome_number(list_calls::derivative(f, out))
 }
 
 // The value of f at x.
 #[no_mangle]
 pub extern "C" fn test_evaluate(f: &[u16], x: u16, answer: &mut [usize]) -> u8
-    ensures number { λ r. ⌜ r ≡ outcomeNumber (lowest (evaluateRefusals p (now (f .entry)) x)) ⌝ }
-    ensures values { λ _. ⌜ now (answer .exit) ≡ written (lowest (evaluateRefusals p (now (f .entry)) x)) (fitted (of.evaluate F65521 (now (f .entry)) x ∷ []) (now (answer .entry))) (now (answer .entry)) ⌝ }
+    ensures number { λ r. ⌜ r ≡ evaluateAnswer 0 (given f) x .number ⌝ }
+    ensures values { λ _. ⌜ final answer ≡ fitted (evaluateAnswer 0 (given f) x .values) (given answer) ⌝ }
 {
-    note_word(list_value::evaluate(f, x), answer)
+    note_word(list_calls::evaluate(f, x), answer)
 }
 
 // g divided by f.
 #[no_mangle]
 pub extern "C" fn test_divide(g: &[u16], f: &[u16], q: &mut [u16], r: &mut [u16]) -> u8
-    ensures number { λ a. ⌜ a ≡ outcomeNumber (lowest (divideRefusals p (now (g .entry)) (now (f .entry)) (now (q .entry)) (now (r .entry)))) ⌝ }
-    ensures quotient { λ _. ⌜ now (q .exit) ≡ written (lowest (divideRefusals p (now (g .entry)) (now (f .entry)) (now (q .entry)) (now (r .entry)))) (quotientOf F65521 (now (g .entry)) (now (f .entry))) (now (q .entry)) ⌝ }
-    ensures remainder { λ _. ⌜ now (r .exit) ≡ written (lowest (divideRefusals p (now (g .entry)) (now (f .entry)) (now (q .entry)) (now (r .entry)))) (remainderOf F65521 (now (g .entry)) (now (f .entry))) (now (r .entry)) ⌝ }
+    ensures number { λ n. ⌜ n ≡ divideAnswer 0 (given g) (given f) (given q) (given r) .number ⌝ }
+    ensures quotient { λ _. ⌜ final q ≡ quotientWritten 0 (given g) (given f) (given q) (given r) ⌝ }
+    ensures remainder { λ _. ⌜ final r ≡ remainderWritten 0 (given g) (given f) (given q) (given r) ⌝ }
 {
-    refusal::outcome_number(list_division::divide(g, f, q, r))
+    refusal::outcome_number(list_calls::divide(g, f, q, r))
 }
 
 // The GCD of two lists; the answer is w, c and rounds.
 #[no_mangle]
 pub extern "C" fn test_gcd(f: &[u16], g: &[u16], h: &mut [u16], answer: &mut [usize]) -> u8
-    ensures number { λ r. ⌜ r ≡ outcomeNumber (lowest (gcdRefusals p (now (f .entry)) (now (g .entry)) (now (h .entry)))) ⌝ }
-    ensures writes { λ _. ⌜ now (h .exit) ≡ written (lowest (gcdRefusals p (now (f .entry)) (now (g .entry)) (now (h .entry)))) (padded maxWords (gcdOf F65521 (now (f .entry)) (now (g .entry)))) (now (h .entry)) ⌝ }
-    ensures values { λ _. ⌜ now (answer .exit) ≡ written (lowest (gcdRefusals p (now (f .entry)) (now (g .entry)) (now (h .entry)))) (fitted (gcdValues F65521 (now (f .entry)) (now (g .entry))) (now (answer .entry))) (now (answer .entry)) ⌝ }
+    ensures number { λ r. ⌜ r ≡ gcdAnswer 0 (given f) (given g) (given h) .number ⌝ }
+    ensures writes { λ _. ⌜ final h ≡ gcdWritten 0 (given f) (given g) (given h) ⌝ }
+    ensures values { λ _. ⌜ final answer ≡ fitted (gcdAnswer 0 (given f) (given g) (given h) .values) (given answer) ⌝ }
 {
-    note_gcd(list_gcd::gcd_of(f, g, h), answer)
+    note_gcd(list_calls::gcd_of(f, g, h), answer)
 }
 
 // The GCD of two lists with its cofactors; the answer is w, c and rounds.
@@ -177,21 +177,21 @@ pub extern "C" fn test_cofactors(
     b: &mut [u16],
     answer: &mut [usize],
 ) -> u8
-    ensures number { λ r. ⌜ r ≡ outcomeNumber (lowest (cofactorRefusals p (now (f .entry)) (now (g .entry)) (now (h .entry)) (now (a .entry)) (now (b .entry)))) ⌝ }
-    ensures gcd { λ _. ⌜ now (h .exit) ≡ written (lowest (cofactorRefusals p (now (f .entry)) (now (g .entry)) (now (h .entry)) (now (a .entry)) (now (b .entry)))) (padded maxWords (gcdOf F65521 (now (f .entry)) (now (g .entry)))) (now (h .entry)) ⌝ }
-    ensures left { λ _. ⌜ now (a .exit) ≡ written (lowest (cofactorRefusals p (now (f .entry)) (now (g .entry)) (now (h .entry)) (now (a .entry)) (now (b .entry)))) (cofactorA F65521 (now (f .entry)) (now (g .entry))) (now (a .entry)) ⌝ }
-    ensures right { λ _. ⌜ now (b .exit) ≡ written (lowest (cofactorRefusals p (now (f .entry)) (now (g .entry)) (now (h .entry)) (now (a .entry)) (now (b .entry)))) (cofactorB F65521 (now (f .entry)) (now (g .entry))) (now (b .entry)) ⌝ }
-    ensures values { λ _. ⌜ now (answer .exit) ≡ written (lowest (cofactorRefusals p (now (f .entry)) (now (g .entry)) (now (h .entry)) (now (a .entry)) (now (b .entry)))) (fitted (gcdValues F65521 (now (f .entry)) (now (g .entry))) (now (answer .entry))) (now (answer .entry)) ⌝ }
+    ensures number { λ r. ⌜ r ≡ cofactorAnswer 0 (given f) (given g) (given h) (given a) (given b) .number ⌝ }
+    ensures gcd { λ _. ⌜ final h ≡ cofactorGcd 0 (given f) (given g) (given h) (given a) (given b) ⌝ }
+    ensures cofactor_a { λ _. ⌜ final a ≡ cofactorsWrittenA 0 (given f) (given g) (given h) (given a) (given b) ⌝ }
+    ensures cofactor_b { λ _. ⌜ final b ≡ cofactorsWrittenB 0 (given f) (given g) (given h) (given a) (given b) ⌝ }
+    ensures values { λ _. ⌜ final answer ≡ fitted (cofactorAnswer 0 (given f) (given g) (given h) (given a) (given b) .values) (given answer) ⌝ }
 {
-    note_gcd(list_cofactors::find_cofactors(f, g, h, a, b), answer)
+    note_gcd(list_calls::find_cofactors(f, g, h, a, b), answer)
 }
 
 // The check of an album with an index.
 #[no_mangle]
 pub extern "C" fn test_check(album: &[u8], i: usize) -> u8
-    ensures number { λ r. ⌜ r ≡ outcomeNumber (lowest (checkRefusals p (now (album .entry)) i)) ⌝ }
+    ensures number { λ r. ⌜ r ≡ checkAnswer 0 (given album) i .number ⌝ }
 {
-    refusal::outcome_number(album_layout::check(album, i))
+    refusal::outcome_number(album_calls::check(album, i))
 }
 
 // The bytes of list i, in a slice of exactly their number. The call has no number to return: the number of its bytes, 0 when refused.
@@ -200,7 +200,7 @@ pub extern "C" fn test_body(album: &[u8], i: usize, out: &mut [u8]) -> usize
     ensures answer { λ r. ⌜ r ≡ length (bodyOf p (now (album .entry)) i) ⌝ }
     ensures writes { λ _. ⌜ now (out .exit) ≡ fitted (bodyOf p (now (album .entry)) i) (now (out .entry)) ⌝ }
 {
-    let part = album_layout::body(album, i);
+    let part = album_calls::body(album, i);
     if out.len() == part.len() {
         copy(part, out);
     }
@@ -215,11 +215,11 @@ pub extern "C" fn test_read_list(
     out: &mut [u16],
     answer: &mut [usize],
 ) -> u8
-    ensures number { λ r. ⌜ r ≡ outcomeNumber (lowest (readRefusals p (now (album .entry)) i (now (out .entry)))) ⌝ }
-    ensures writes { λ _. ⌜ now (out .exit) ≡ written (lowest (readRefusals p (now (album .entry)) i (now (out .entry)))) (padded maxWords (listAt (now (album .entry)) i)) (now (out .entry)) ⌝ }
-    ensures values { λ _. ⌜ now (answer .exit) ≡ written (lowest (readRefusals p (now (album .entry)) i (now (out .entry)))) (fitted (degreeAt (now (album .entry)) i ∷ []) (now (answer .entry))) (now (answer .entry)) ⌝ }
+    ensures number { λ r. ⌜ r ≡ readAnswer 0 (given album) i (given out) .number ⌝ }
+    ensures writes { λ _. ⌜ final out ≡ readWritten 0 (given album) i (given out) ⌝ }
+    ensures values { λ _. ⌜ final answer ≡ fitted (readAnswer 0 (given album) i (given out) .values) (given answer) ⌝ }
 {
-    note_listed(album_reader::read_list(album, i, out), answer)
+    note_listed(album_calls::read_list(album, i, out), answer)
 }
 
 // The contents of an album as records.
@@ -234,11 +234,11 @@ pub extern "C" fn test_contents(album: &[u8], out: &mut [Entry]) -> u8
 // The GCD of an album; the answer is w, c and rounds.
 #[no_mangle]
 pub extern "C" fn test_gcd_of_album(album: &[u8], h: &mut [u16], answer: &mut [usize]) -> u8
-    ensures number { λ r. ⌜ r ≡ outcomeNumber (lowest (albumGcdRefusals p (now (album .entry)) (now (h .entry)))) ⌝ }
-    ensures writes { λ _. ⌜ now (h .exit) ≡ written (lowest (albumGcdRefusals p (now (album .entry)) (now (h .entry)))) (padded maxWords (albumGcd F65521 (listsOf (now (album .entry))) .list)) (now (h .entry)) ⌝ }
-    ensures values { λ _. ⌜ now (answer .exit) ≡ written (lowest (albumGcdRefusals p (now (album .entry)) (now (h .entry)))) (fitted (albumGcdValues F65521 (listsOf (now (album .entry)))) (now (answer .entry))) (now (answer .entry)) ⌝ }
+    ensures number { λ r. ⌜ r ≡ albumGcdAnswer 0 (given album) (given h) .number ⌝ }
+    ensures writes { λ _. ⌜ final h ≡ albumGcdWritten 0 (given album) (given h) ⌝ }
+    ensures values { λ _. ⌜ final answer ≡ fitted (albumGcdAnswer 0 (given album) (given h) .values) (given answer) ⌝ }
 {
-    note_gcd(album_gcd::gcd_of_album(album, h), answer)
+    note_gcd(album_calls::gcd_of_album(album, h), answer)
 }
 
 fn note_word(found: Word, answer: &mut [usize]) -> u8

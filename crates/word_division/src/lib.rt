@@ -4,13 +4,14 @@ ghost use mathlib.Core.Path.{_≡_};
 ghost use mathlib.Core.Bool.{cond};
 ghost use Prim.Native.Nat.{_+_, _≤_};
 ghost use lib.ListN.{length};
+ghost use Rattle.refusal.specs.Contract.{given, final};
 ghost use Rattle.field.specs.Fields.{modulus};
 ghost use Rattle.word_division.specs.Reduction.{negated, reduced, digits, lessProduct, reduceFits, lessProductFits};
 
 // Division of x by y from the top: the quotient's words go to q, what is left stays in x. `inv` is the inverse of y's last word.
 pub fn reduce(field: u8, x: &mut [u16], y: &[u16], inv: u16, q: &mut [u16])
-    ensures left { λ _. ⌜ now (x .exit) ≡ cond (reduceFits (now (x .entry)) (now (y .entry)) (now (q .entry))) (reduced (modulus field) inv (now (y .entry)) (length (now (q .entry))) (now (x .entry))) (now (x .entry)) ⌝ }
-    ensures quotient { λ _. ⌜ now (q .exit) ≡ cond (reduceFits (now (x .entry)) (now (y .entry)) (now (q .entry))) (digits (modulus field) inv (now (y .entry)) (length (now (q .entry))) (now (x .entry))) (now (q .entry)) ⌝ }
+    ensures left { λ _. ⌜ final x ≡ cond (reduceFits (given x) (given y) (given q)) (reduced (modulus field) inv (given y) (length (given q)) (given x)) (given x) ⌝ }
+    ensures quotient { λ _. ⌜ final q ≡ cond (reduceFits (given x) (given y) (given q)) (digits (modulus field) inv (given y) (length (given q)) (given x)) (given q) ⌝ }
 {
     if y.len() == 0 {
         return;
@@ -27,7 +28,7 @@ pub fn reduce(field: u8, x: &mut [u16], y: &[u16], inv: u16, q: &mut [u16])
 
 // s less q times t, in as many words as s has.
 pub fn sub_product(field: u8, s: &mut [u16], q: &[u16], t: &[u16])
-    ensures { λ _. ⌜ now (s .exit) ≡ cond (lessProductFits (now (s .entry)) (now (q .entry))) (lessProduct (modulus field) (now (s .entry)) (now (q .entry)) (now (t .entry))) (now (s .entry)) ⌝ }
+    ensures { λ _. ⌜ final s ≡ cond (lessProductFits (given s) (given q)) (lessProduct (modulus field) (given s) (given q) (given t)) (given s) ⌝ }
 {
     if q.len() <= s.len() {
         sub_product_in(field, s, q, t);
@@ -37,8 +38,8 @@ pub fn sub_product(field: u8, s: &mut [u16], q: &[u16], t: &[u16])
 // The division, where the lengths fit.
 fn reduce_in(field: u8, x: &mut [u16], y: &[u16], inv: u16, q: &mut [u16])
     requires { ⌜ (1 ≤ length (now y)) × (length (now x) + 1 ≡ length (now y) + length (now q)) ⌝ }
-    ensures left { λ _. ⌜ now (x .exit) ≡ reduced (modulus field) inv (now (y .entry)) (length (now (q .entry))) (now (x .entry)) ⌝ }
-    ensures quotient { λ _. ⌜ now (q .exit) ≡ digits (modulus field) inv (now (y .entry)) (length (now (q .entry))) (now (x .entry)) ⌝ }
+    ensures left { λ _. ⌜ final x ≡ reduced (modulus field) inv (given y) (length (given q)) (given x) ⌝ }
+    ensures quotient { λ _. ⌜ final q ≡ digits (modulus field) inv (given y) (length (given q)) (given x) ⌝ }
 {
     let d = y.len() - 1;
     let mut k = q.len();
@@ -53,7 +54,7 @@ fn reduce_in(field: u8, x: &mut [u16], y: &[u16], inv: u16, q: &mut [u16])
 // The product taken off, where the lengths fit.
 fn sub_product_in(field: u8, s: &mut [u16], q: &[u16], t: &[u16])
     requires { ⌜ length (now q) ≤ length (now s) ⌝ }
-    ensures { λ _. ⌜ now (s .exit) ≡ lessProduct (modulus field) (now (s .entry)) (now (q .entry)) (now (t .entry)) ⌝ }
+    ensures { λ _. ⌜ final s ≡ lessProduct (modulus field) (given s) (given q) (given t) ⌝ }
 {
     let mut k = 0;
     while k < q.len() {

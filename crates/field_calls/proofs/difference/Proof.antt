@@ -12,7 +12,7 @@ difference-over-requires c κs = search needs
 returns : tie.Need-returns
 returns c =
     let core = c .difference-over .ensures in
-    (core, replies _ core no-slice, word-difference-so _ _ core)
+    (core, (replies _ core no-slice, word-difference-so _ _ core))
 
 pub difference-spec : {M : Type 1} → statement M
 difference-spec = tie.close (tie.spec difference-over-requires returns)

@@ -12,7 +12,7 @@ product-over-requires c κs = search needs
 returns : tie.Need-returns
 returns c =
     let core = c .product-over .ensures in
-    (core, replies _ core no-slice, word-product-so _ _ core)
+    (core, (replies _ core no-slice, word-product-so _ _ core))
 
 pub product-spec : {M : Type 1} → statement M
 product-spec = tie.close (tie.spec product-over-requires returns)

@@ -12,7 +12,7 @@ sum-over-requires c κs = search needs
 returns : tie.Need-returns
 returns c =
     let core = c .sum-over .ensures in
-    (core, replies _ core no-slice, word-sum-so _ _ core)
+    (core, (replies _ core no-slice, word-sum-so _ _ core))
 
 pub sum-spec : {M : Type 1} → statement M
 sum-spec = tie.close (tie.spec sum-over-requires returns)

@@ -14,7 +14,7 @@ returns : tie.Need-returns
 unfolding longest
 returns c =
     let core = c .evaluate-over .ensures in
-    (core, replies _ core no-slice, value-so _ _ core)
+    (core, (replies _ core no-slice, value-so _ _ core))
 
 pub evaluate-spec : {M : Type 1} → statement M
 evaluate-spec = tie.close (tie.spec evaluate-over-requires returns)

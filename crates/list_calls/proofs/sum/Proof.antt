@@ -17,7 +17,7 @@ returns : tie.Need-returns
 unfolding longest
 returns c =
     let core = c .before .before .sum-over .ensures in
-    (core .0, core .1, replies _ (core .0) (and-slice _ (core .1) no-slice), sum-so _ _ _ (core .0) (core .1))
+    (core .0, (core .1, (replies _ (core .0) (and-slice _ (core .1) no-slice), sum-so _ _ _ (core .0) (core .1))))
 
 pub sum-spec : {M : Type 1} → statement M
 sum-spec = tie.close (tie.spec sum-over-requires same-length returns)

@@ -27,7 +27,7 @@ abbrev μ-loop : tie.MeasureT-loop
 first : (c : tie.After-turn Inv-loop μ-loop)
     → Carries-on (fieldAt (c .before .before .before .before .before .before .before .before .before .before .before .before .before .before .args .field)) (c .before .before .before .before .before .before .before .before .before .before .before .before .before .before .args .n) (c .before .before .before .before .before .before .before .before .before .before .before .before .before .before .args .u .now) (c .before .before .before .before .before .before .before .before .before .before .before .before .before .before .args .v .now) (c .before .before .before .before .before .loop .v) (c .turn .last .1 .1 .1 .0) (c .before .before .before .before .before .loop .rounds)
 first c =
-    let start = c .before .before .before .before .before .before .before .before .before .before .before .before .before .before .pre .0 .turning in
+    let start = c .before .before .before .before .before .before .before .before .before .before .before .before .before .before .pre .0 .led in
     let i = c .before .before .before .before .before .loop .inv in
     carried-round (fieldAt _) _ _ _ _ _ _ (start .left) (start .right) (i .0) (omega arith) (c .turn .ensures .1)
 
@@ -35,7 +35,7 @@ first c =
 second : (c : tie.After-turn2 Inv-loop μ-loop)
     → Carries-on (fieldAt (c .before .before .before .before .before .before .before .before .before .before .before .before .before .before .before .before .before .before .before .before .before .before .before .args .field)) (c .before .before .before .before .before .before .before .before .before .before .before .before .before .before .before .before .before .before .before .before .before .before .before .args .n) (c .before .before .before .before .before .before .before .before .before .before .before .before .before .before .before .before .before .before .before .before .before .before .before .args .u .now) (c .before .before .before .before .before .before .before .before .before .before .before .before .before .before .before .before .before .before .before .before .before .before .before .args .v .now) (c .before .before .before .before .before .before .before .before .before .turn .last .1 .1 .1 .0) (c .turn2 .last .1 .1 .1 .0) (c .before .before .before .before .before .before .before .before .before .before .before .before .before .before .loop .rounds + 1)
 second c =
-    let start = c .before .before .before .before .before .before .before .before .before .before .before .before .before .before .before .before .before .before .before .before .before .before .before .pre .0 .turning in
+    let start = c .before .before .before .before .before .before .before .before .before .before .before .before .before .before .before .before .before .before .before .before .before .before .before .pre .0 .led in
     carried-round (fieldAt _) _ _ _ _ _ _ (start .left) (start .right) (first (c .before .before .before .before .before .before .before .before .before) .next) (omega arith) (c .turn2 .ensures .1)
 
 slice-reshare-prefix-significant-words : tie.Need-slice-reshare-prefix-significant-words Inv-loop μ-loop
@@ -76,7 +76,7 @@ returns c =
 turn-requires : tie.Need-turn-requires Inv-loop μ-loop
 turn-requires c κs =
     let i = c .before .before .before .before .loop .inv in
-    ((i .0 .size-u, i .0 .size-v, i .1 ∙ c .before .before .before .before .before .before .before .before .before .before .before .before .before .pre .1 .0), (i .0 .turning .left, (i .0 .turning .right, ((i .2, i .3, omega arith), (carried-cut (fieldAt _) _ _ _ _ _ _ (i .0), c .before .before .before .before .before .before .before .before .before .before .before .before .before .pre .1 .1)))))
+    ((i .0 .size-u, i .0 .size-v, i .1 ∙ c .before .before .before .before .before .before .before .before .before .before .before .before .before .pre .1 .0), (i .0 .led .left, (i .0 .led .right, ((i .2, i .3, omega arith), (carried-cut (fieldAt _) _ _ _ _ _ _ (i .0), c .before .before .before .before .before .before .before .before .before .before .before .before .before .pre .1 .1)))))
 
 add-rounds : tie.Need-add-rounds Inv-loop μ-loop
 add-rounds c = let few = first (c .before .before .before .before) .few in search needs
@@ -101,7 +101,7 @@ turn-requires-2 c κs =
     let i = first t .next in
     let before = c .before .before .before .before .before .before .before .before .before .before .before .before .before .loop .inv in
     let pre = c .before .before .before .before .before .before .before .before .before .before .before .before .before .before .before .before .before .before .before .before .before .before .pre in
-    ((i .size-u, i .size-v, t .turn .kept .1 .1 .1 .1 .1 .1 .1 .0 ∙ before .1 ∙ pre .1 .0), (i .turning .left, (i .turning .right, ((before .3, t .turn .ensures .0, omega arith), (carried-cut (fieldAt _) _ _ _ _ _ _ i, pre .1 .1)))))
+    ((i .size-u, i .size-v, t .turn .kept .1 .1 .1 .1 .1 .1 .1 .0 ∙ before .1 ∙ pre .1 .0), (i .led .left, (i .led .right, ((before .3, t .turn .ensures .0, omega arith), (carried-cut (fieldAt _) _ _ _ _ _ _ i, pre .1 .1)))))
 
 add-rounds-2 : tie.Need-add-rounds-2 Inv-loop μ-loop
 add-rounds-2 c =

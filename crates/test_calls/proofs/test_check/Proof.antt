@@ -16,8 +16,8 @@ outcome-number-requires c κs = search needs
 
 returns : tie.Need-returns
 returns c =
-    let start = c .before .before .before in
-    counted (lowest (checkRefusals p (start .args .album .now) (start .args .i))) (c .before .check .result) (c .before .check .ensures) (c .outcome-number .ensures)
+    let call = c .before .check in
+    counted (call .result) (call .ensures .0) (c .outcome-number .ensures)
 
 pub test-check-spec : {M : Type 1} → statement M
 test-check-spec =

@@ -22,8 +22,8 @@ same-length-2 c = search needs
 
 returns : tie.Need-returns
 returns c =
-    let start = c .before .before .before .before .before .before .before .before .before .before .before .before in
-    (counted (lowest (divideRefusals p (start .args .g .now) (start .args .f .now) (start .args .q .now) (start .args .r .now))) (c .before .before .before .before .before .divide .result) (c .before .before .before .before .before .divide .ensures .0) (c .outcome-number .ensures), ((c .before .before .before .before .before .divide .ensures .1 .0), (c .before .before .before .before .before .divide .ensures .1 .1 .0)))
+    let call = c .before .before .before .before .before .divide in
+    (counted (call .result) (call .ensures .0) (c .outcome-number .ensures), (call .ensures .1 .0, call .ensures .1 .1 .0))
 
 pub test-divide-spec : {M : Type 1} → statement M
 test-divide-spec =

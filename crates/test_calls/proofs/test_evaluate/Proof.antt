@@ -21,8 +21,8 @@ same-length c = search needs
 
 returns : tie.Need-returns
 returns c =
-    let start = c .before .before .before .before .before .before .before in
-    told (lowest (evaluateRefusals p (start .args .f .now) (start .args .x))) (evaluate F65521 (start .args .f .now) (start .args .x) ∷ []) (start .args .answer .now) (c .before .before .before .before .evaluate .ensures) (c .before .before .note-word .ensures .0) (c .before .before .note-word .ensures .1)
+    let note = c .before .before .note-word .ensures in
+    told _ (c .before .before .before .before .evaluate .ensures .0) (note .0) (note .1)
 
 pub test-evaluate-spec : {M : Type 1} → statement M
 test-evaluate-spec =

@@ -19,8 +19,8 @@ same-length c = search needs
 
 returns : tie.Need-returns
 returns c =
-    let start = c .before .before .before .before .before .before .before in
-    told (lowest (extentRefusals p (start .args .f .now))) (extentValues (start .args .f .now)) (start .args .answer .now) (c .before .before .before .before .find-extent .ensures) (c .before .before .note-found .ensures .0) (c .before .before .note-found .ensures .1)
+    let note = c .before .before .note-found .ensures in
+    told _ (c .before .before .before .before .find-extent .ensures .0) (note .0) (note .1)
 
 pub test-find-extent-spec : {M : Type 1} → statement M
 test-find-extent-spec =

@@ -24,11 +24,10 @@ same-length-2 c = search needs
 
 returns : tie.Need-returns
 returns c =
-    let start = c .before .before .before .before .before .before .before .before .before .before .before in
     let call = c .before .before .before .before .before .before .read-list .ensures in
     let note = c .before .before .note-listed .ensures in
-    let all = told (lowest (readRefusals p (start .args .album .now) (start .args .i) (start .args .out .now))) (degreeAt (start .args .album .now) (start .args .i) ∷ []) (start .args .answer .now) (call .0) (note .0) (note .1) in
-    (all .0, (call .1, all .1))
+    let all = told _ (call .0) (note .0) (note .1) in
+    (all .0, (call .1 .0, all .1))
 
 pub test-read-list-spec : {M : Type 1} → statement M
 test-read-list-spec =

@@ -1,10 +1,10 @@
--- `euclid_round::common_power` meets its contract, by which of the two lists are zero.
+-- `list_gcd::common_power` meets its contract, by which of the two lists are zero.
 -- Assumes nothing.
 use native.Mathlib.Omega.{arith}
 use borrow.Author.Needs.{needs}
-use Rattle.euclid_round.proofs.Power.{none, first, second, both}
-use Rattle.euclid_round.proofs.common_power.Statement.{statement}
-use Rattle.euclid_round.proofs.common_power.Tie as tie
+use Rattle.list_gcd.proofs.Power.{none, first, second, both}
+use Rattle.list_gcd.proofs.common_power.Statement.{statement}
+use Rattle.list_gcd.proofs.common_power.Tie as tie
 
 significant-words-requires : tie.Need-significant-words-requires
 significant-words-requires c κs = search needs

@@ -19,7 +19,8 @@ use Rattle.euclid_theory.specs.Gcd.{commonPower}
 use Rattle.lists.specs.Padded.{padded}
 use Rattle.lists.proofs.Padded.{getD-padded}
 use Rattle.album_theory.specs.Albums.{albumGcd}
-use Rattle.album_theory.proofs.Greatest.{coefficients-none, album-length, album-ends, album-is-greatest}
+use Rattle.album_theory.proofs.Greatest.{album-length, album-ends, album-is-greatest}
+use Rattle.album_theory.proofs.Albums.{coefficients-none}
 use Rattle.album_theory.specs.Folds.{zeroStart, foldGcd}
 use Rattle.album_theory.proofs.Folds.{fold-album}
 use Rattle.album_layout.specs.Layout.{listsOf}

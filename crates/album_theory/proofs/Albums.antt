@@ -1,16 +1,30 @@
 -- The GCD of an album, list by list: the clauses of the definition.
+--     coefficients-none, meaning-none        the list of no words, which means 0
 --     from-none, from-zero, from-nonzero     from a result so far: no list, a zero list, which is passed over, and another
 --     album-zero, album-nonzero              the first list of an album, where it is zero and where not
 -- Assumes nothing.
 use mathlib.Core.Path.{_≡_, refl}
 use mathlib.Core.List.{List, [], _∷_}
-use Prim.Native.Nat.{ℕ}
+use Prim.Native.Nat.{ℕ, zero-le}
 use borrow.Author.Tests.{eq-eqb, ne-eqb}
-use Rattle.algebra.specs.PrimeField.{PrimeField}
+use Rattle.algebra.specs.Ring.{CommRing}
+use Rattle.algebra.specs.PrimeField.{PrimeField, positive}
 use Rattle.lists.specs.Degrees.{significant}
+use Rattle.lists.specs.Lists.{Coefficients, meaning}
+use Rattle.euclid_theory.proofs.Powers.{significant-nil}
+use Rattle.euclid_theory.proofs.Greatest.{meaning-zero}
 use Rattle.album_theory.specs.Albums.{Result, ended, joined, gcdFrom, albumGcd}
 
 module _ (F : PrimeField) where
+  open CommRing (F .series .ring) using (zero as 0ˢ)
+
+  -- the list of no words
+  pub coefficients-none : Coefficients F []
+  coefficients-none = record { short = zero-le; below = λ k. positive F }
+
+  pub meaning-none : meaning F [] ≡ 0ˢ
+  meaning-none = meaning-zero F [] coefficients-none significant-nil
+
   pub from-none : (result : Result) → gcdFrom F result [] ≡ result
   unfolding gcdFrom
   from-none result = refl

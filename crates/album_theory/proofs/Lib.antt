@@ -1,5 +1,6 @@
 pub mod Albums
 pub mod Ended
+pub mod CommonDivisors
 pub mod Greatest
 pub mod Defined
 pub mod Folds

@@ -20,7 +20,8 @@ use Rattle.euclid_theory.proofs.Division.{meaning-at-1}
 use Rattle.euclid_theory.proofs.Defined.{gcd-is-the}
 use Rattle.euclid_theory.proofs.Greatest.{gcd-is-greatest}
 use Rattle.euclid_theory.proofs.Cofactors.{cofactors-are, cofactors-only}
-use Rattle.album_theory.proofs.Greatest.{meaning-none, album-is-greatest}
+use Rattle.album_theory.proofs.Greatest.{album-is-greatest}
+use Rattle.album_theory.proofs.Albums.{meaning-none}
 use Rattle.album_theory.proofs.Defined.{album-is-the}
 use Rattle.album_layout.specs.Layout.{listsOf}
 use Rattle.album_layout.proofs.Passed.{passed-each}

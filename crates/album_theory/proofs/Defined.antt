@@ -1,4 +1,8 @@
--- Laws: The h and the number of rounds that document 01 defines for an album, list by list, however they are computed.
+-- What `albumGcd` computes is the h and the rounds that document 01 defines.
+-- Theorems:
+--     album-is-the     the h and rounds of an album's GCD are those of the definition, where not all lists are zero
+--     album-only       the definition has no two
+--     album-lone       a lone list that is not zero takes 0 rounds
 -- Assumes nothing.
 use mathlib.Core.Path.{_≡_, refl, sym, _∙_, ap₂, subst}
 use mathlib.Core.List.{List, [], _∷_}
@@ -16,7 +20,7 @@ use Rattle.euclid_theory.specs.Defined.{Head}
 use Rattle.euclid_theory.proofs.Defined.{head-gcd, gcd-is-the, monic-only, gcd-only}
 use Rattle.album_theory.specs.Albums.{Result, ended, joined, gcdFrom, albumGcd}
 use Rattle.album_theory.proofs.Ended.{head-ended, monic-ended}
-use Rattle.album_theory.proofs.Greatest.{from-none, from-zero, from-nonzero, album-zero, album-nonzero}
+use Rattle.album_theory.proofs.Albums.{from-none, from-zero, from-nonzero, album-zero, album-nonzero}
 use Rattle.album_theory.specs.Defined.{Turns, none, turn, TheAlbumGcd, passed, first}
 
 module _ (F : PrimeField) where
@@ -40,13 +44,13 @@ module _ (F : PrimeField) where
           rw (from-zero F result c lists e) (record { rounds = ih .rounds; sum = ih .sum; turns = passed e (ih .turns) })
       go ih ih′ (no e) =
           let some : 0 < significant (result .list) + significant c = omega arith in
-          let r = ih′ (head-gcd F (result .list) c (hd .coefficients) (each 0) some) in
-          let z = gcd-is-the F (result .list) c (hd .coefficients) (each 0) some in
+          let later = ih′ (head-gcd F (result .list) c (hd .coefficients) (each 0) some) in
+          let this = gcd-is-the F (result .list) c (hd .coefficients) (each 0) some in
           rw (from-nonzero F result c lists e)
           (record {
-            rounds = roundsOf F (result .list) c + r .rounds;
-            sum = r .sum ∙ N.add-assoc _ _ _;
-            turns = turn e z (r .turns);
+            rounds = roundsOf F (result .list) c + later .rounds;
+            sum = later .sum ∙ N.add-assoc _ _ _;
+            turns = turn e this (later .turns);
           })
 
   -- list i is not zero
@@ -64,11 +68,11 @@ module _ (F : PrimeField) where
       go ih (no e) i l =
           let start : Result = record { list = ended F c; rounds = 0 } in
           let some : 0 < significant c = omega arith in
-          let r = turns-are lists start (head-ended F c (each 0) some) (λ i. each (suc i)) in
-          let none : r .rounds ≡ gcdFrom F start lists .rounds = omega (arith, r .sum) in
+          let later = turns-are lists start (head-ended F c (each 0) some) (λ i. each (suc i)) in
+          let none : later .rounds ≡ gcdFrom F start lists .rounds = omega (arith, later .sum) in
           rw (album-nonzero F c lists e)
           (first e (monic-ended F c (each 0) some)
-          (subst (Turns F (ended F c) lists (gcdFrom F start lists .list)) none (r .turns)))
+          (subst (Turns F (ended F c) lists (gcdFrom F start lists .list)) none (later .turns)))
 
   turns-only : {f h h′ : List ℕ} {lists : List (List ℕ)} {k k′ : ℕ} → Turns F f lists h k → Turns F f lists h′ k′ → (h ≡ h′) × (k ≡ k′)
   turns-only none none = (refl, refl)
@@ -76,9 +80,9 @@ module _ (F : PrimeField) where
   turns-only (passed e z) (turn n g z′) = absurd (n e)
   turns-only (turn n g z) (passed e z′) = absurd (n e)
   turns-only (turn {lists = lists} n g z) (turn {h = h′} {k = k′} n′ g′ z′) =
-      let e = gcd-only F g g′ in
-      let b = turns-only z (subst (λ f. Turns F f lists h′ k′) (sym (e .0)) z′) in
-      (b .0, ap₂ _+_ (e .1) (b .1))
+      let this = gcd-only F g g′ in
+      let later = turns-only z (subst (λ f. Turns F f lists h′ k′) (sym (this .0)) z′) in
+      (later .0, ap₂ _+_ (this .1) (later .1))
 
   pub album-only : {h h′ : List ℕ} {lists : List (List ℕ)} {k k′ : ℕ} → TheAlbumGcd F lists h k → TheAlbumGcd F lists h′ k′
       → (h ≡ h′) × (k ≡ k′)

@@ -1,5 +1,9 @@
--- A list that is not zero, its top zeros removed and scaled to end in 1: its meaning is a constant times that of the list without its
--- top zeros.
+-- A list that is not zero, its top zeros removed and scaled to end in 1.
+--     scaled-ended, monic-ended                 its scaled form is that of the list, made monic
+--     length-ended, naive-ended, head-ended     it ends at its extent, in 1
+--     ended-divides                             in u it divides the list
+--     ended-meaning                             its meaning is a constant times that of the list without its top zeros
+--     bezout-ended                              so what divides the list and is not 0 at 1 divides it
 -- Assumes nothing.
 use mathlib.Core.Path.{_≡_, sym, _∙_, ap, ap₂, subst}
 use mathlib.Core.List.{List}
@@ -23,7 +27,8 @@ use Rattle.algebra.specs.PrimeField.{PrimeField, scalarField}
 use Rattle.lists.specs.Degrees.{naiveDegree, significant, extent, power}
 use Rattle.lists.specs.Lists.{Coefficients, meaning, scaled}
 use Rattle.lists.specs.Operations.{trim}
-use Rattle.lists.proofs.Scaled.{naive-length, below-scaled, meaning-hom, length-unscaled, coefficients-unscaled, scaled-unscaled, last-one}
+use Rattle.lists.proofs.Scaled.{naive-length, below-scaled, meaning-hom, last-one}
+use Rattle.lists.proofs.Unscaled.{length-unscaled, coefficients-unscaled, scaled-unscaled}
 use Rattle.lists.proofs.Extents.{significant-le, significant-extent, significant-is-size}
 use Rattle.lists.proofs.Trims.{naive-trim, trim-scaled, trim-meaning}
 use Rattle.euclid_theory.specs.Defined.{Head, MonicOf}

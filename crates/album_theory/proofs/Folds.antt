@@ -1,4 +1,10 @@
--- Laws: What ties a loop over the lists to the definition of the GCD of an album: a loop that starts from the zero list [0] at 0 rounds, and
+-- What ties a loop over the lists to the definition of an album's GCD.
+--     turn-zero, turn-nonzero             a turn at a zero list, and at another
+--     fold-none, fold-more, fold-drop     the loop before its first turn, and one turn on
+--     start-zero, start-rounds            from [0], a list that is not zero is ended, in no round
+--     start-listed, turn-listed           each result so far is a list that no call refuses
+-- Theorem:
+--     fold-album     from [0] the loop ends with the GCD of an album whose lists are not all zero
 -- Assumes nothing.
 use mathlib.Core.Path.{_≡_, refl, sym, _∙_, ap, ap₂}
 use mathlib.Core.List.{List, [], _∷_}
@@ -18,7 +24,8 @@ use Rattle.algebra.proofs.Monic.{monic-is}
 use Rattle.algebra.specs.PrimeField.{PrimeField, scalarField, positive}
 use Rattle.lists.specs.Degrees.{significantIn, significant}
 use Rattle.lists.specs.Lists.{Coefficients, scaled, unscaled}
-use Rattle.lists.proofs.Scaled.{coefficients-listed, below-scaled, length-unscaled}
+use Rattle.lists.proofs.Scaled.{coefficients-listed, below-scaled}
+use Rattle.lists.proofs.Unscaled.{length-unscaled}
 use Rattle.lists.proofs.Extents.{significant-at}
 use Rattle.lists.specs.Refused.{IsList}
 use Rattle.euclid_theory.specs.Gcd.{room, euclidOf, gcdOf, roundsOf}
@@ -27,7 +34,7 @@ use Rattle.euclid_theory.proofs.Gcd.{room-right, fits-right, rounds-of-zero}
 use Rattle.euclid_theory.proofs.Powers.{significant-nil}
 use Rattle.euclid_theory.proofs.Defined.{head-gcd}
 use Rattle.album_theory.specs.Albums.{Result, ended, joined, gcdFrom, albumGcd}
-use Rattle.album_theory.proofs.Greatest.{from-none, from-zero, from-nonzero, album-zero, album-nonzero}
+use Rattle.album_theory.proofs.Albums.{from-none, from-zero, from-nonzero, album-zero, album-nonzero}
 use Rattle.album_theory.specs.Folds.{zeroStart, turn, foldGcd}
 
 significant-start : significant (0 ∷ []) ≡ 0
@@ -144,14 +151,14 @@ module _ (F : PrimeField) where
     where
       short : length (gcdOf F (result .list) c) ≤ most
       short =
-          let s = size-le (F .series) (scalarField F) (room (result .list) c) (euclidOf F (result .list) c .last) in
-          let a = hr .short in
-          let b = hc .short in
+          let size = size-le (F .series) (scalarField F) (room (result .list) c) (euclidOf F (result .list) c .last) in
+          let first = hr .short in
+          let second = hc .short in
           unfold gcdOf room in rw (length-unscaled F _ _) (omega arith)
 
       go : Dec (significant c ≡ 0) → IsList (F .p) most (turn F result c .list)
       go (yes e) = rw (turn-zero result c e) hr
       go (no e) =
-          let h = head-gcd F (result .list) c (coefficients-listed F l hr) (coefficients-listed F l hc) (omega arith) in
-          let w = h .words in
-          rw (turn-nonzero result c e) (record { some = omega arith; short = short; words = h .coefficients .below })
+          let head = head-gcd F (result .list) c (coefficients-listed F l hr) (coefficients-listed F l hc) (omega arith) in
+          let words = head .words in
+          rw (turn-nonzero result c e) (record { some = omega arith; short = short; words = head .coefficients .below })

@@ -1,18 +1,27 @@
--- Laws: The GCD of an album whose lists are not all zero is the greatest common divisor of their polynomials: with c the common power,
+-- The GCD of an album whose lists are not all zero is the greatest common divisor of their polynomials: with c the common power,
+-- (1-t)^c·h divides each list, and every polynomial that divides them all divides it.
+--     coefficients-none, meaning-none     the list of no words
+--     From h lists r                      r is a common divisor in u of h and the lists, and what divides these in t and is not 0
+--                                         at 1 divides r
+--     Whole lists r                       the same of an album
+-- Theorems:
+--     album-divides                              (1-t)^c·h divides each list
+--     album-greatest                             every polynomial that divides them all divides it
+--     album-is-greatest                          both
+--     album-length, album-extent, album-ends     h has naive degree w, which is its extent, and ends in 1
 -- Assumes nothing.
-use mathlib.Core.Path.{_≡_, refl, sym, _∙_, subst}
+use mathlib.Core.Path.{_≡_, sym, _∙_, subst}
 use mathlib.Core.Logic.{_⊎_, inl, inr}
 use mathlib.Core.List.{List, [], _∷_}
 use Prim.Native.Nat.{ℕ, zero, suc, _+_, _≤_, _<_, zero-le}
 use native.Mathlib.Decide.{ℕ-discrete}
 use native.Mathlib.Omega.{arith}
 use lib.ListN.{getD, length}
-use borrow.Author.Tests.{eq-eqb, ne-eqb}
 use Rattle.algebra.specs.Ring.{CommRing}
 use Rattle.algebra.specs.Polynomial.{Polynomial, Divides}
 use Rattle.algebra.proofs.Polynomial.{divides-0, divides-refl, divides-trans}
 use Rattle.algebra.specs.OneMinusT.{⟨1-t⟩^}
-use Rattle.algebra.proofs.OneMinusT.{Split, split-le, split-off}
+use Rattle.algebra.proofs.Factors.{Split, split-le, split-off}
 use Rattle.algebra.proofs.CommonDivisor.{core-divides, assemble, divisor-nonzero, core-divides-bezout}
 use Rattle.algebra.specs.PrimeField.{PrimeField, scalarField, positive}
 use Rattle.lists.specs.Degrees.{naiveDegree, significant, extent}
@@ -26,6 +35,7 @@ use Rattle.euclid_theory.proofs.Greatest.{meaning-zero, divides-list, bezout-gc
 use Rattle.euclid_theory.specs.Defined.{Head}
 use Rattle.euclid_theory.proofs.Defined.{head-extent, head-gcd}
 use Rattle.album_theory.specs.Albums.{Result, ended, joined, gcdFrom, albumGcd}
+use Rattle.album_theory.proofs.Albums.{from-none, from-zero, from-nonzero, album-zero, album-nonzero}
 use Rattle.album_theory.proofs.Ended.{head-ended, ended-divides, bezout-ended}
 use Rattle.album_theory.specs.Greatest.{IsGreatestOf}
 
@@ -44,33 +54,9 @@ module _ (F : PrimeField) where
   pub meaning-none : meaning F [] ≡ 0ˢ
   meaning-none = meaning-zero F [] coefficients-none significant-nil
 
-  pub from-none : (result : Result) → gcdFrom F result [] ≡ result
-  unfolding gcdFrom
-  from-none result = refl
-
-  -- zero lists are passed over
-  pub from-zero : (result : Result) (c : List ℕ) (lists : List (List ℕ)) → significant c ≡ 0
-      → gcdFrom F result (c ∷ lists) ≡ gcdFrom F result lists
-  unfolding gcdFrom
-  from-zero result c lists e = rw (eq-eqb (significant c) 0 e)
-
-  pub from-nonzero : (result : Result) (c : List ℕ) (lists : List (List ℕ)) → ¬ (significant c ≡ 0)
-      → gcdFrom F result (c ∷ lists) ≡ gcdFrom F (joined F result c) lists
-  unfolding gcdFrom
-  from-nonzero result c lists h = rw (ne-eqb (significant c) 0 h)
-
   -- the first list that is not zero, at 0 rounds
   abbrev start : List ℕ → Result
   start c = record { list = ended F c; rounds = 0 }
-
-  pub album-zero : (c : List ℕ) (lists : List (List ℕ)) → significant c ≡ 0 → albumGcd F (c ∷ lists) ≡ albumGcd F lists
-  unfolding albumGcd
-  album-zero c lists e = rw (eq-eqb (significant c) 0 e)
-
-  pub album-nonzero : (c : List ℕ) (lists : List (List ℕ)) → ¬ (significant c ≡ 0)
-      → albumGcd F (c ∷ lists) ≡ gcdFrom F (record { list = ended F c; rounds = 0 }) lists
-  unfolding albumGcd
-  album-nonzero c lists h = rw (ne-eqb (significant c) 0 h)
 
   -- a zero list is divided by everything, in u too
   zero-over : (s : S) (c : List ℕ) → Coefficients F c → significant c ≡ 0 → Divides (F .series) s (scaled F c)
@@ -91,7 +77,7 @@ module _ (F : PrimeField) where
   from-ok : (lists : List (List ℕ)) (result : Result) → Head F (result .list) → ((i : ℕ) → Coefficients F (at lists i))
       → From (result .list) lists (gcdFrom F result lists .list)
   from-ok [] result hd each =
-      rw (from-none result)
+      rw (from-none F result)
       (record {
         head = hd;
         over-h = divides-refl (F .series) _;
@@ -106,14 +92,14 @@ module _ (F : PrimeField) where
           → (Head F (gcdOf F (result .list) c) → From (gcdOf F (result .list) c) lists (gcdFrom F (joined F result c) lists .list))
           → Dec (significant c ≡ 0) → From (result .list) (c ∷ lists) (gcdFrom F result (c ∷ lists) .list)
       go ih ih′ (yes e) =
-          rw (from-zero result c lists e)
+          rw (from-zero F result c lists e)
           (record { head = ih .head; over-h = ih .over-h; over = over; under = λ q k all. ih .under q k (λ i. all (suc i)) })
         where
           over : (i : ℕ) → Divides (F .series) (scaled F (gcdFrom F result lists .list)) (scaled F (at (c ∷ lists) i))
           over zero = zero-over _ c (each 0) e
           over (suc i) = ih .over i
       go ih ih′ (no e) =
-          rw (from-nonzero result c lists e)
+          rw (from-nonzero F result c lists e)
           (record {
             head = r .head;
             over-h = divides-trans (F .series) (r .over-h) (gcd-left F (result .list) c (hd .coefficients) (each 0) some);
@@ -151,14 +137,14 @@ module _ (F : PrimeField) where
       go ih (yes e) zero l = absurd (omega arith)
       go ih (yes e) (suc i) l =
           let r = ih i l in
-          rw (album-zero c lists e) (record { head = r .head; over = over r; under = λ q all. r .under q (λ i. all (suc i)) })
+          rw (album-zero F c lists e) (record { head = r .head; over = over r; under = λ q all. r .under q (λ i. all (suc i)) })
         where
           over : Whole lists (albumGcd F lists .list) → (i : ℕ)
               → Divides (F .series) (scaled F (albumGcd F lists .list)) (scaled F (at (c ∷ lists) i))
           over r zero = zero-over _ c (each 0) e
           over r (suc i) = r .over i
       go ih (no e) i l =
-          rw (album-nonzero c lists e)
+          rw (album-nonzero F c lists e)
           (record {
             head = r .head;
             over = over;
@@ -212,9 +198,9 @@ module _ (F : PrimeField) where
         -- K has at most c factors 1-t
         small : (q : Split (F .series) K) → q .k ≤ commonPower lists
         small q =
-            let a = commonPower-attained lists i some in
-            let s = power-exact F (at lists (a .index)) (each (a .index)) (a .some) in
-            subst (λ k. q .k ≤ k) (s .1 ∙ sym (a .is)) (split-le (F .series) q (s .0) (d (a .index)))
+            let least = commonPower-attained lists i some in
+            let exact = power-exact F (at lists (least .index)) (each (least .index)) (least .some) in
+            subst (λ k. q .k ≤ k) (exact .1 ∙ sym (least .is)) (split-le (F .series) q (exact .0) (d (least .index)))
 
         go : (K ≡ 0ˢ) ⊎ Split (F .series) K
             → Divides (F .series) K (⟨1-t⟩^ (F .series) (commonPower lists) *ˢ meaning F (albumGcd F lists .list))

@@ -1,4 +1,5 @@
-pub mod Defined
+pub mod Albums
 pub mod Ended
-pub mod Folds
 pub mod Greatest
+pub mod Defined
+pub mod Folds

@@ -1,9 +1,14 @@
 -- The GCD of an album, that is of some lists, as document 01 has it. Its c is the common power of the lists.
---     ended            a list that is not zero, its top zeros removed and scaled to end in 1
---     Result           h, and the sum of all rounds
---     joined           the GCD of the result so far, standing as f, and one more list; its rounds are added
---     gcdFrom          from a result so far, the GCD with each later list in turn; zero lists are passed over
---     albumGcd         the first list that is not zero, ended, at 0 rounds, and so on with the later lists; no words where all are zero
+--     ended c                  a list that is not zero, its top zeros removed and scaled to end in 1
+--     Result                   h, and the sum of all rounds
+--     joined result c          the GCD of the result so far, standing as f, and one more list; its rounds are added
+--     gcdFrom result lists     from a result so far, the GCD with each later list in turn; zero lists are passed over
+--     albumGcd lists           the first list that is not zero, ended, at 0 rounds, and so on with the later lists; no words where
+--                              all are zero
+-- Theorems, each in the module of proofs/ that is named:
+--     album-is-greatest     (1-t)^c·h is the greatest common divisor of the lists' polynomials (Greatest)
+--     album-is-the          h and the rounds are those of the definition list by list (Defined)
+--     fold-album            a loop over the lists from [0] ends with it (Folds)
 -- Assumes nothing.
 use mathlib.Core.Bool.{cond}
 use mathlib.Core.List.{List, [], _∷_}

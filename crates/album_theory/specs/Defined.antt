@@ -1,11 +1,13 @@
--- The h and the number of rounds that document 01 defines for an album, list by list, however they are computed.
---     Turns f lists h k        from the result so far f, the GCD with each of the lists that is not zero, in turn, ends with h; in each
---                              turn the result so far stands as f; k is the sum of the turns' rounds
---     TheAlbumGcd lists h k    the first list that is not zero, its top zeros removed and scaled to end in 1, takes 0 rounds; the turns of
---                              the later lists lead from it to h in k rounds
--- A zero list is passed over, in no round.
--- Theorems: album-is-the, the h and rounds of an album's GCD are these; album-only, and no others are; album-lone, a lone list that is not
--- zero takes 0 rounds.
+-- The h and the number of rounds that document 01 defines for an album, list by list, however they are computed. A zero list is
+-- passed over, in no round.
+--     Turns f lists h k         from the result so far f, the GCD with each of the lists that is not zero, in turn, ends with h; in
+--                               each turn the result so far stands as f; k is the sum of the turns' rounds
+--     TheAlbumGcd lists h k     the first list that is not zero, its top zeros removed and scaled to end in 1, takes 0 rounds; the
+--                               turns of the later lists lead from it to h in k rounds
+-- Theorems (proofs/Defined):
+--     album-is-the     the h and rounds of an album's GCD are these
+--     album-only       and no others are
+--     album-lone       a lone list that is not zero takes 0 rounds
 -- Assumes nothing.
 use mathlib.Core.Path.{_≡_}
 use mathlib.Core.List.{List, [], _∷_}

@@ -1,8 +1,10 @@
--- What ties a loop over the lists to the definition of the GCD of an album: a loop that starts from the zero list [0] at 0 rounds, and
--- takes the GCD of two with each list that is not zero, ends with it.
---     turn              the result so far after one more list: the same where that is zero, else the GCD with it, its rounds added
---     foldGcd           the result after all lists, one turn each
---     zeroStart         the zero list [0] at 0 rounds
+-- The loop over the lists of an album.
+--     zeroStart                the zero list [0] at 0 rounds
+--     turn result c            the result so far after one more list: the same where that is zero, else the GCD with it, its rounds
+--                              added
+--     foldGcd result lists     the result after all lists, one turn each
+-- Theorems (proofs/Folds):
+--     fold-album     from [0] the loop ends with the GCD of an album whose lists are not all zero
 -- Assumes nothing.
 use mathlib.Core.Bool.{cond}
 use mathlib.Core.List.{List, [], _∷_}

@@ -1,7 +1,10 @@
--- The GCD of an album whose lists are not all zero is the greatest common divisor of their polynomials: with c the common power,
--- (1-t)^c·h divides each list, and every polynomial that divides them all divides it.
---     IsGreatestOf      D divides the meaning of each list, and every polynomial that divides them all divides D
--- List i past the last one is the list of no words, which means 0, and which every polynomial divides.
+-- The greatest common divisor of the polynomials of an album's lists. List i past the last one is the list of no words, which means
+-- 0, and which every polynomial divides.
+--     IsGreatestOf lists D     D divides the meaning of each list, and every polynomial that divides them all divides D
+-- Theorems (proofs/Greatest), for an album whose lists are not all zero, c the common power and h the list of its GCD:
+--     album-is-greatest     (1-t)^c·h is such a D
+--     album-ends            h ends in 1
+--     album-extent          its extent is its naive degree
 -- Assumes nothing.
 use mathlib.Core.List.{List, []}
 use Prim.Native.Nat.{ℕ}

@@ -1,4 +1,10 @@
--- Laws: Binomial coefficients.
+-- Binomial coefficients, and that none of them is 0 modulo a prime above n.
+--     choose-zero, choose-0-suc, pascal     the clauses of the definition
+--     choose-above, choose-self             C(n, k) = 0 for k above n, and C(n, n) = 1
+--     choose-symmetric                      C(n, k) = C(n, n-k)
+--     absorb                                C(n, k+1) · (k+1) = C(n, k) · (n-k); absorb+ is the same without a difference
+--     choose-suc-suc, choose-suc            (k+1) · C(n+1, k+1) = (n+1) · C(n, k) = (n+1-k) · C(n+1, k)
+--     choose-nonzero                        modulo a prime above n none of C(n, 0), …, C(n, n) is 0
 -- Assumes nothing.
 use mathlib.Core.Path.{_≡_, refl, sym, _∙_, ap, ap₂}
 use Prim.Native.Nat.{ℕ, zero, suc, _+_, _*_, _-_, _%_, _≤_, _<_}
@@ -7,6 +13,7 @@ use native.Mathlib.Decide.{ℕ-discrete}
 use native.Mathlib.Omega.{arith}
 use Rattle.algebra.specs.RingLaws as R
 use Rattle.algebra.specs.Ring.{CommRing}
+use Rattle.algebra.proofs.Ring.{zero-of-mul}
 use Rattle.algebra.specs.Prime.{Prime}
 use Rattle.algebra.specs.Zp.{Zp, Zp-field}
 use Rattle.algebra.specs.ResiduesLaws.{pos-of}
@@ -47,12 +54,12 @@ choose-symmetric (suc n) (suc k) l = go (λ j h. choose-symmetric n j h) (ℕ-di
   where
     go : ((j : ℕ) → j ≤ n → choose n j ≡ choose n (n - j)) → Dec (k ≡ n) → choose (suc n) (suc k) ≡ choose (suc n) (suc n - suc k)
     go ih (yes e) =
-        let z : suc n - suc k ≡ 0 = omega arith in
-        rw (z, e) (choose-self (suc n) ∙ sym (choose-zero (suc n)))
+        let none : suc n - suc k ≡ 0 = omega arith in
+        rw (none, e) (choose-self (suc n) ∙ sym (choose-zero (suc n)))
     go ih (no e) =
-        let z : suc n - suc k ≡ suc (n - suc k) = omega arith in
-        let y : n - k ≡ suc (n - suc k) = omega arith in
-        rw (z, pascal n k, pascal n (n - suc k)) (omega (arith, ih k (omega arith) ∙ ap (choose n) y, ih (suc k) (omega arith)))
+        let more : suc n - suc k ≡ suc (n - suc k) = omega arith in
+        let rest : n - k ≡ suc (n - suc k) = omega arith in
+        rw (more, pascal n k, pascal n (n - suc k)) (omega (arith, ih k (omega arith) ∙ ap (choose n) rest, ih (suc k) (omega arith)))
 
 -- C(n, k+1) · (k+1) = C(n, k) · (n-k); first without a difference
 pub absorb+ : (n k : ℕ) → choose n (suc k) * suc k + choose n k * k ≡ choose n k * n
@@ -83,9 +90,9 @@ module _ (p : ℕ) (prime : Prime p) where
 
   small-nonzero : (n : ℕ) → 0 < n → n < p → ¬ (res n ≡ 𝟘)
   small-nonzero n l h e =
-      let z : n % p ≡ 0 % p = residueMod-injective p (pos-of p prime) n 0 (e ∙ sym (residueMod-zero p (pos-of p prime))) in
-      let a = N.mod-eq-of-lt h in
-      let b = N.zero-mod p in
+      let remainders : n % p ≡ 0 % p = residueMod-injective p (pos-of p prime) n 0 (e ∙ sym (residueMod-zero p (pos-of p prime))) in
+      let itself = N.mod-eq-of-lt h in
+      let nothing = N.zero-mod p in
       omega arith
 
   -- modulo a prime above n none of C(n, 0), …, C(n, n) is 0
@@ -94,7 +101,7 @@ module _ (p : ℕ) (prime : Prime p) where
       Zp-field p prime .one≢zero (sym (residueMod-one p (pos-of p prime)) ∙ ap res (sym (choose-zero n)) ∙ e)
   choose-nonzero n (suc k) h l e =
       small-nonzero (n - k) (omega arith) (omega arith)
-      (R.zero-of-mul (Zp p prime) (Zp-field p prime) (res (choose n k)) (res (n - k)) (choose-nonzero n k h (omega arith)) product)
+      (zero-of-mul (Zp p prime) (Zp-field p prime) (res (choose n k)) (res (n - k)) (choose-nonzero n k h (omega arith)) product)
     where
       product : res (choose n k) ⊗ res (n - k) ≡ 𝟘
       product =

@@ -1,10 +1,10 @@
 -- Common divisors of two polynomials f and g, from an identity a·f + b·g = (1-t)^N·h.
---
--- Bezout f g h        a·f + b·g = (1-t)^N·h for polynomials a and b
--- LeastPower c f g    c is the least number of factors 1-t of those of f and g that are not 0, and one of the two is not 0
---
--- The theorem is greatest-common-divisor: what divides f and g divides (1-t)^c·h.
---
+--     Bezout f g h         a·f + b·g = (1-t)^N·h for polynomials a and b
+--     LeastPower c f g     c is the least number of factors 1-t of those of f and g that are not 0, and one of the two is not 0
+-- Theorems:
+--     greatest-common-divisor     every polynomial that divides f and g divides (1-t)^c·h
+--     divides-hom                 a divisor in u is one in t, and with c factors 1-t where the homogenisation has as many
+--     core-divides-bezout         what divides f and g and is not 0 at 1 divides h
 -- Assumes nothing.
 use mathlib.Core.Path.{_≡_, _∙_, sym, ap, ap₂, subst}
 use mathlib.Core.Logic.{_⊎_, inl, inr}
@@ -17,7 +17,8 @@ use Rattle.algebra.proofs.Series.{coeff-0}
 use Rattle.algebra.specs.Polynomial.{Polynomial, Divides}
 use Rattle.algebra.proofs.Polynomial.{polynomial-add, polynomial-mul, divides-trans, divides-mul}
 use Rattle.algebra.specs.OneMinusT.{⟨1-t⟩^}
-use Rattle.algebra.proofs.OneMinusT.{polynomial-⟨1-t⟩^, divides-⟨1-t⟩^, Split, split-le, split-nonzero, split-off, divides-without-⟨1-t⟩}
+use Rattle.algebra.proofs.OneMinusT.{polynomial-⟨1-t⟩^, divides-⟨1-t⟩^}
+use Rattle.algebra.proofs.Factors.{Split, split-le, split-nonzero, split-off, divides-without-⟨1-t⟩}
 use Rattle.algebra.specs.Homogenise.{hom}
 use Rattle.algebra.proofs.Homogenise.{hom-mul, hom-strip, polynomial-hom}
 use Rattle.algebra.specs.Degree.{Degree}

@@ -1,4 +1,12 @@
--- Laws: The degree of a polynomial, and its number of coefficients.
+-- The degree of a polynomial, and its number of coefficients.
+--     degree-of, degree-unique     every polynomial but 0 has one degree
+--     degree-le                    a polynomial of degree d has no bound below d + 1
+--     degree-mul                   over a field the degrees of a product add
+--     size-yes, size-no            the size by the last coefficient, where it is 0 and where not
+--     size-extent, size-of         a size d + 1 is a degree d, and conversely
+--     size-below, size-least       the size is a bound, and no bound is below it
+--     size-zero                    of size 0: the zero polynomial
+--     size-same                    two bounds give one size
 -- Assumes nothing.
 use mathlib.Core.Path.{_≡_, _∙_, refl, sym, ap, subst}
 use mathlib.Core.Logic.{_⊎_, inl, inr}
@@ -6,8 +14,8 @@ use Prim.Native.Nat.{ℕ, zero, suc, _+_, _≤_, _<_, zero-le}
 use native.Mathlib.Nat as N
 use native.Mathlib.Decide.{decLe}
 use native.Mathlib.Omega.{arith}
-use Rattle.algebra.specs.RingLaws as R
 use Rattle.algebra.specs.Ring.{CommRing, IsField}
+use Rattle.algebra.proofs.Ring.{zero-of-mul}
 use Rattle.algebra.specs.Series.{SeriesRing}
 use Rattle.algebra.specs.Polynomial.{Below}
 use Rattle.algebra.proofs.Polynomial.{below-0, zero-of-below, below-mul, drop-top, top-of-product}
@@ -48,7 +56,7 @@ module _ {Rg : CommRing} (X : SeriesRing Rg) (K : IsField Rg) where
         below = subst (λ k. Below X k (a *ˢ b)) (N.add-suc d e) (below-mul X d (suc e) (x .below) (y .below));
         top =
             λ z. y .top
-            (R.zero-of-mul Rg K (X .coeff a d) (X .coeff b e) (x .top) (sym (top-of-product X d e (x .below) (y .below)) ∙ z));
+            (zero-of-mul Rg K (X .coeff a d) (X .coeff b e) (x .top) (sym (top-of-product X d e (x .below) (y .below)) ∙ z));
       }
 
   pub size-0 : (s : S) → size X K 0 s ≡ 0

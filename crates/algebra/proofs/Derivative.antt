@@ -1,9 +1,13 @@
--- Laws: The derivative of a series, and of a homogenisation.
+-- The derivative of a series, and of a homogenisation.
+--     derivative-add, derivative-neg, derivative-C-mul, derivative-t-mul     the derivative of a sum, a negative, c · s and t · s
+--     derivative-⟨1-t⟩-mul                                                   that of (1-t) · s
+--     coeff-scaledDerivative                                                 the coefficients of the scaled derivative
+-- Theorem:
+--     derivative-hom     the derivative of hom (n+1) s is hom n of the scaled derivative
 -- Assumes nothing.
-use mathlib.Core.Path.{_≡_, _∙_, refl, sym, ap, ap₂}
-use Prim.Native.Nat.{ℕ, zero, suc, _+_, _-_}
+use mathlib.Core.Path.{_≡_, _∙_, sym, ap, ap₂}
+use Prim.Native.Nat.{ℕ, zero, suc, _-_}
 use native.Mathlib.Nat as N
-use native.Mathlib.Omega.{arith}
 use Rattle.algebra.specs.RingLaws as R
 use Rattle.algebra.specs.Ring.{CommRing}
 use Rattle.algebra.specs.RingLaws.{RING}
@@ -13,47 +17,8 @@ use Rattle.algebra.specs.OneMinusT.{⟨1-t⟩, ⟨1-t⟩^}
 use Rattle.algebra.proofs.OneMinusT.{⟨1-t⟩^-zero, ⟨1-t⟩^-suc}
 use Rattle.algebra.specs.Homogenise.{hom}
 use Rattle.algebra.proofs.Homogenise.{C-add, C-neg, hom-zero, hom-suc, hom-add}
-use Rattle.algebra.specs.PrimeField.{PrimeField, scalars, residue}
-use Rattle.algebra.proofs.PrimeField.{residue-0, residue-1, residue-add}
+use Rattle.algebra.proofs.Multiple.{multiple-zero, multiple-suc, multiple-0, mul-multiple, multiple-add, multiple-neg, multiple-mul}
 use Rattle.algebra.specs.Derivative.{multiple, derivative, scaledDerivative}
-
-module _ (Rg : CommRing) where
-  open CommRing Rg using (Carrier, zero as 𝟘, neg as ⊖_, add as _⊕_, mul as _⊗_)
-
-  infixl 65 _⊕_
-  infixl 70 _⊗_
-  infix 80 ⊖_
-  pub multiple-zero : (a : Carrier) → multiple Rg 0 a ≡ 𝟘
-  unfolding multiple
-  multiple-zero a = refl
-
-  pub multiple-suc : (n : ℕ) (a : Carrier) → multiple Rg (suc n) a ≡ a ⊕ multiple Rg n a
-  unfolding multiple
-  multiple-suc n a = refl
-
-  pub multiple-0 : (n : ℕ) → multiple Rg n 𝟘 ≡ 𝟘
-  multiple-0 zero = multiple-zero 𝟘
-  multiple-0 (suc n) = multiple-suc n 𝟘 ∙ R.zero-add Rg _ ∙ multiple-0 n
-
-  pub mul-multiple : (n : ℕ) (c a : Carrier) → c ⊗ multiple Rg n a ≡ multiple Rg n (c ⊗ a)
-  mul-multiple zero c a = ap (λ x. c ⊗ x) (multiple-zero a) ∙ R.mul-zero Rg c ∙ sym (multiple-zero _)
-  mul-multiple (suc n) c a =
-      ap (λ x. c ⊗ x) (multiple-suc n a) ∙ R.mul-add Rg _ _ _ ∙ ap (λ x. c ⊗ a ⊕ x) (mul-multiple n c a)
-      ∙ sym (multiple-suc n _)
-
-  pub multiple-add : (n : ℕ) (a b : Carrier) → multiple Rg n (a ⊕ b) ≡ multiple Rg n a ⊕ multiple Rg n b
-  multiple-add zero a b = multiple-zero _ ∙ sym (R.add-zero Rg 𝟘) ∙ sym (ap₂ (λ x y. x ⊕ y) (multiple-zero a) (multiple-zero b))
-  multiple-add (suc n) a b =
-      multiple-suc n _ ∙ ap (λ x. a ⊕ b ⊕ x) (multiple-add n a b) ∙ four a b (multiple Rg n a) (multiple Rg n b)
-      ∙ sym (ap₂ (λ x y. x ⊕ y) (multiple-suc n a) (multiple-suc n b))
-    where
-      four : (a b c d : Carrier) → a ⊕ b ⊕ (c ⊕ d) ≡ a ⊕ c ⊕ (b ⊕ d)
-      four a b c d = simp RING
-
-  pub multiple-neg : (n : ℕ) (a : Carrier) → multiple Rg n (⊖ a) ≡ ⊖ multiple Rg n a
-  multiple-neg n a =
-      R.neg-unique Rg (multiple Rg n a) (multiple Rg n (⊖ a))
-      (sym (multiple-add n a (⊖ a)) ∙ ap (multiple Rg n) (R.add-neg Rg a) ∙ multiple-0 n)
 
 module _ {Rg : CommRing} (X : SeriesRing Rg) where
   open CommRing Rg using (Carrier, one as 𝟙, neg as ⊖_, add as _⊕_, mul as _⊗_)
@@ -172,18 +137,12 @@ module _ {Rg : CommRing} (X : SeriesRing Rg) where
   C-multiple (suc n) c =
       ap (C X) (multiple-suc Rg n c) ∙ C-add X c _ ∙ ap (λ x. C X c +ˢ x) (C-multiple n c) ∙ sym (multiple-suc (X .ring) n _)
 
-  -- (n · a) · b = a · (n · b)
-  multiple-mul : (n : ℕ) (a b : S) → multiple (X .ring) n a *ˢ b ≡ a *ˢ multiple (X .ring) n b
-  multiple-mul n a b =
-      R.mul-comm (X .ring) _ _ ∙ mul-multiple (X .ring) n b a ∙ ap (multiple (X .ring) n) (R.mul-comm (X .ring) b a)
-      ∙ sym (mul-multiple (X .ring) n a b)
-
   first-term : (n : ℕ) (c : Carrier) → derivative X (⟨1-t⟩^ X (suc n) *ˢ C X c) ≡ -ˢ (⟨1-t⟩^ X n *ˢ C X (multiple Rg (suc n) c))
   first-term n c =
       ap (derivative X) (R.mul-comm (X .ring) _ _) ∙ derivative-C-mul c (⟨1-t⟩^ X (suc n))
       ∙ ap (λ x. C X c *ˢ x) (derivative-⟨1-t⟩^ n) ∙ R.mul-neg (X .ring) _ _
       ∙ ap (λ x. -ˢ x)
-      (R.mul-comm (X .ring) _ _ ∙ multiple-mul (suc n) (⟨1-t⟩^ X n) (C X c)
+      (R.mul-comm (X .ring) _ _ ∙ multiple-mul (X .ring) (suc n) (⟨1-t⟩^ X n) (C X c)
       ∙ ap (λ x. ⟨1-t⟩^ X n *ˢ x) (sym (C-multiple (suc n) c)))
 
   first-coefficient : (n : ℕ) (s : S)
@@ -224,21 +183,3 @@ module _ {Rg : CommRing} (X : SeriesRing Rg) where
       ∙ ap₂ (λ x y. ⟨1-t⟩^ X (suc n) *ˢ x +ˢ t X *ˢ y) (first-coefficient (suc (suc n)) s)
       (ap (hom X n) (scaledDerivative-tail (suc n) s)
       ∙ hom-add X n (scaledDerivative X (suc n) (tail X s)) (tail X (tail X s))))
-
-module _ (F : PrimeField) where
-  open CommRing (scalars F) using (Carrier, one as 𝟙, add as _⊕_, mul as _⊗_)
-
-  infixl 65 _⊕_
-  infixl 70 _⊗_
-  -- n · a is the residue of n times a
-  pub multiple-residue : (n : ℕ) (a : Carrier) → multiple (scalars F) n a ≡ residue F n ⊗ a
-  multiple-residue zero a = multiple-zero (scalars F) a ∙ sym (ap (λ x. x ⊗ a) (residue-0 F) ∙ R.zero-mul (scalars F) a)
-  multiple-residue (suc n) a =
-      multiple-suc (scalars F) n a ∙ ap (λ x. a ⊕ x) (multiple-residue n a)
-      ∙ sym (ap (λ x. x ⊗ a) (ap (residue F) e ∙ residue-add F 1 n ∙ ap (λ x. x ⊕ residue F n) (residue-1 F)) ∙ last a (residue F n))
-    where
-      e : suc n ≡ 1 + n
-      e = omega arith
-
-      last : (a b : Carrier) → (𝟙 ⊕ b) ⊗ a ≡ a ⊕ b ⊗ a
-      last a b = simp RING

@@ -1,4 +1,12 @@
--- Laws: Division with remainder, as functions that compute: k steps, each of which clears one coefficient.
+-- Division with remainder.
+--     coeff-monomial-mul, coeff-monomial-mul-low     the coefficients of c · u^k · y
+--     step-below                                     a step clears one coefficient
+-- Theorems:
+--     division                                   x = quotient · y + remainder, for any x and y
+--     remainder-below                            with k steps for x of d + k coefficients, y of degree d, the remainder is below d
+--     mul-below                                  a multiple of y that is shorter than y is 0
+--     division-unique                            quotient and remainder are the only ones
+--     coeff-quotient-top, coeff-quotient-low     the quotient, from its last coefficient down
 -- Assumes nothing.
 use mathlib.Core.Path.{_≡_, _∙_, refl, sym, ap, ap₂, subst}
 use Prim.Native.Nat.{ℕ, zero, suc, _+_, _<_}
@@ -7,6 +15,7 @@ use native.Mathlib.Omega.{arith}
 use Rattle.algebra.specs.RingLaws as R
 use Rattle.algebra.specs.Ring.{CommRing, IsField}
 use Rattle.algebra.specs.RingLaws.{RING}
+use Rattle.algebra.proofs.Ring.{zero-of-mul}
 use Rattle.algebra.specs.Series.{SeriesRing, C, t}
 use Rattle.algebra.proofs.Series.{coeff-add, coeff-neg, coeff-C-mul, coeff-t-mul-zero, coeff-t-mul-suc}
 use Rattle.algebra.specs.Polynomial.{Below, Polynomial, monomial}
@@ -127,7 +136,7 @@ module _ {Rg : CommRing} (X : SeriesRing Rg) (K : IsField Rg) where
     where
       top : X .coeff u n ≡ 𝟘
       top =
-          R.zero-of-mul Rg K (X .coeff f m) (X .coeff u n) nonzero
+          zero-of-mul Rg K (X .coeff f m) (X .coeff u n) nonzero
           (R.mul-comm Rg _ _ ∙ sym (top-of-product X n m hu hf) ∙ h .at (n + m) (N.le-add-left m n))
 
   -- quotient and remainder are the only ones

@@ -1,19 +1,25 @@
--- Laws: Euclid's algorithm as a function that computes, with its cofactors and its count of rounds.
+-- Euclid's algorithm from round to round.
+--     done-last, done-byX, done-byY     the answer where y is 0
+--     euclid-end, euclid-round          the clauses of the algorithm
+--     remainder-small                   the remainder has fewer coefficients than y
+-- Theorems:
+--     euclid-fuel, euclid-room     more fuel, or more room, changes nothing
+--     round-law                    one round, with no fuel to count
+--     next-acc, done-acc           a loop that carries (s0, s1) and replaces it by (s1, s0 - q · s1) in each round ends with the
+--                                  cofactors
 -- Assumes nothing.
-use mathlib.Core.Path.{_≡_, _∙_, refl, sym, ap, ap₂, subst}
-use Prim.Native.Nat.{ℕ, zero, suc, _-_, _≤_, _<_, max, zero-le}
-use native.Mathlib.Nat as N
+use mathlib.Core.Path.{_≡_, _∙_, refl, sym, ap}
+use Prim.Native.Nat.{ℕ, zero, suc, _-_, _≤_}
 use native.Mathlib.Omega.{arith}
-use Rattle.algebra.specs.RingLaws as R
 use Rattle.algebra.specs.Ring.{CommRing, IsField}
 use Rattle.algebra.specs.RingLaws.{RING}
 use Rattle.algebra.specs.Series.{SeriesRing}
-use Rattle.algebra.specs.Polynomial.{Below, Divides}
-use Rattle.algebra.proofs.Polynomial.{below-mono, below-0, below-add, below-neg, below-1, below-mul, polynomial, polynomial-0, polynomial-1, polynomial-add, polynomial-mul}
-use Rattle.algebra.specs.Degree.{Degree, size}
-use Rattle.algebra.proofs.Degree.{size-le, size-below, size-extent, size-least, size-zero, size-same}
+use Rattle.algebra.specs.Polynomial.{Below}
+use Rattle.algebra.proofs.Polynomial.{below-mono}
+use Rattle.algebra.specs.Degree.{size}
+use Rattle.algebra.proofs.Degree.{size-le, size-below, size-extent, size-least, size-same}
 use Rattle.algebra.specs.Division.{remainder, quotient}
-use Rattle.algebra.proofs.Division.{remainder-zero, quotient-zero, division, remainder-below, quotient-below}
+use Rattle.algebra.proofs.Division.{remainder-below}
 use Rattle.algebra.specs.Euclid.{Euclid, quotientBy, remainderBy, done, next, euclid}
 
 module _ {Rg : CommRing} (X : SeriesRing Rg) (K : IsField Rg) where
@@ -52,135 +58,10 @@ module _ {Rg : CommRing} (X : SeriesRing Rg) (K : IsField Rg) where
   abbrev sz : ℕ → S → ℕ
   sz = size X K
 
-  -- the last x divides both, in at most size n y rounds; where y is not 0, byX is below size y - size last,
-  -- and byY below size x - size last, or a constant
-  pub record EuclidOk (n : ℕ) (x y : S) (z : Euclid X K) : Type 0 where
-    pub bezout : z .byX *ˢ x +ˢ z .byY *ˢ y ≡ z .last
-    pub left : Divides X (z .last) x
-    pub right : Divides X (z .last) y
-    pub below : Below X n (z .last)
-    pub few : z .rounds ≤ sz n y
-    pub small : 0 < sz n y → sz n (z .last) ≤ sz n y
-    pub byX-below : 0 < sz n y → Below X (sz n y - sz n (z .last)) (z .byX)
-    pub byY-below : 0 < sz n y → Below X (max 1 (sz n x - sz n (z .last))) (z .byY)
-
-  done-ok : (n : ℕ) {x y : S} → Below X n x → Below X n y → sz n y ≡ 0 → EuclidOk n x y (done X K x)
-  unfolding done
-  done-ok n {x} {y} hx hy e =
-      record {
-        bezout = simp RING;
-        left = record { cofactor = 1ˢ; polynomial = polynomial-1 X; equation = simp RING };
-        right = record { cofactor = 0ˢ; polynomial = polynomial-0 X; equation = size-zero X K n hy e ∙ simp RING };
-        below = hx;
-        few = zero-le;
-        small = λ l. absurd (omega arith);
-        byX-below = λ l. absurd (omega arith);
-        byY-below = λ l. absurd (omega arith);
-      }
-
-  bezout-next : (a b q x y r : S) → x ≡ q *ˢ y +ˢ r → b *ˢ x +ˢ (a +ˢ -ˢ (b *ˢ q)) *ˢ y ≡ a *ˢ y +ˢ b *ˢ r
-  bezout-next a b q x y r e = ap (λ z. b *ˢ z +ˢ (a +ˢ -ˢ (b *ˢ q)) *ˢ y) e ∙ expand a b q y r
-    where
-      expand : (a b q y r : S) → b *ˢ (q *ˢ y +ˢ r) +ˢ (a +ˢ -ˢ (b *ˢ q)) *ˢ y ≡ a *ˢ y +ˢ b *ˢ r
-      expand a b q y r = simp RING
-
-  factor-out : (q h a b : S) → q *ˢ (h *ˢ a) +ˢ h *ˢ b ≡ h *ˢ (q *ˢ a +ˢ b)
-  factor-out q h a b = simp RING
-
-  below-mul-0 : {n : ℕ} (a : S) {q : S} → q ≡ 0ˢ → Below X n (a *ˢ q)
-  below-mul-0 {n} a {q} e = subst (λ w. Below X n w) (sym (ap (λ w. a *ˢ w) e ∙ R.mul-zero (X .ring) a)) (below-0 X n)
-
-  next-ok : (n d : ℕ) {x y : S} → Below X n x → Below X n y → (e : sz n y ≡ suc d) (z : Euclid X K)
-      → EuclidOk n y (remainderBy X K n d x y) z → (sz n (remainderBy X K n d x y) ≡ 0 → z ≡ done X K y)
-      → EuclidOk n x y (next X K (quotientBy X K n d x y) z)
-  unfolding next done
-  next-ok n d {x} {y} hx hy e z ok fin =
-      record {
-        bezout = bezout-next (z .byX) (z .byY) q x y r (division X K k d x y) ∙ ok .bezout;
-        left = divides-x;
-        right = ok .left;
-        below = ok .below;
-        few = let l = ok .few in omega (arith, rd);
-        small = λ l. small′ (sz n r) refl;
-        byX-below = λ l. byX′ (sz n r) refl;
-        byY-below = λ l. byY′ (sz n r) refl (sz n x - d) refl;
-      }
-    where
-      k : ℕ
-      k = sz n x - d
-
-      q : S
-      q = quotient X K k d x y
-
-      r : S
-      r = remainder X K k d x y
-
-      divides-x : Divides X (z .last) x
-      divides-x =
-          record {
-            cofactor = q *ˢ ok .left .cofactor +ˢ ok .right .cofactor;
-            polynomial =
-                polynomial-add X (polynomial-mul X (polynomial X (quotient-below X K k d x y)) (ok .left .polynomial))
-                (ok .right .polynomial);
-            equation =
-                division X K k d x y ∙ ap₂ (λ a b. q *ˢ a +ˢ b) (ok .left .equation) (ok .right .equation)
-                ∙ factor-out q (z .last) (ok .left .cofactor) (ok .right .cofactor);
-          }
-
-      xy : Degree X d y
-      xy = size-extent X K n d hy e
-
-      hr : Below X d r
-      hr = remainder-below X K k d xy (below-mono X (omega arith) (size-below X K n hx))
-
-      rd : sz n r ≤ d
-      rd = size-least X K n d hr
-
-      small′ : (j : ℕ) → sz n r ≡ j → sz n (z .last) ≤ sz n y
-      small′ zero f = N.le-of-eq (ap (λ w. sz n (w .last)) (fin f))
-      small′ (suc j) f = let l = ok .small (omega arith) in omega (arith, rd)
-
-      byX′ : (j : ℕ) → sz n r ≡ j → Below X (sz n y - sz n (z .last)) (z .byY)
-      byX′ zero f = subst (λ w. Below X (sz n y - sz n (z .last)) (w .byY)) (sym (fin f)) (below-0 X _)
-      byX′ (suc j) f = let l = ok .small (omega arith) in below-mono X (omega (arith, rd)) (ok .byY-below (omega arith))
-
-      last1 : (a b : S) → a ≡ 1ˢ → b ≡ 0ˢ → Below X 1 (a +ˢ -ˢ (b *ˢ q))
-      last1 a b u v = subst (λ w. Below X 1 w) (sym (ap₂ (λ a b. a +ˢ -ˢ (b *ˢ q)) u v ∙ simp RING)) (below-1 X)
-
-      byY′ : (j : ℕ) → sz n r ≡ j → (i : ℕ) → sz n x - d ≡ i → Below X (max 1 (sz n x - sz n (z .last))) (z .byX +ˢ -ˢ (z .byY *ˢ q))
-      byY′ zero f i g = below-mono X (omega arith) (last1 (z .byX) (z .byY) (ap (λ w. w .byX) (fin f)) (ap (λ w. w .byY) (fin f)))
-      byY′ (suc j) f zero g = let l : sz n r ≡ sz n x = ap (sz n) (ap (λ i. remainder X K i d x y) g ∙ remainder-zero X K d x y) in
-          below-add X (below-mono X (omega arith) (ok .byX-below (omega arith)))
-          (below-neg X (below-mul-0 (z .byY) (ap (λ i. quotient X K i d x y) g ∙ quotient-zero X K d x y)))
-      byY′ (suc j) f (suc i) g = let l = ok .small (omega arith) in
-          below-add X (below-mono X (omega (arith, rd)) (ok .byX-below (omega arith)))
-          (below-neg X
-          (below-mono X (omega (arith, rd))
-          (below-mul X (d - sz n (z .last)) k (below-mono X (omega (arith, rd)) (ok .byY-below (omega arith)))
-          (quotient-below X K k d x y))))
-
   -- the remainder has fewer coefficients than y
   pub remainder-small : (n d : ℕ) {x y : S} → Below X n x → Below X n y → sz n y ≡ suc d → Below X d (remainderBy X K n d x y)
   remainder-small n d {x} {y} hx hy e =
       remainder-below X K (sz n x - d) d (size-extent X K n d hy e) (below-mono X (omega arith) (size-below X K n hx))
-
-  -- the algorithm is right
-  pub euclid-ok : (fuel n : ℕ) {x y : S} → Below X n x → Below X n y → sz n y ≤ fuel → EuclidOk n x y (euclid X K fuel n x y)
-  euclid-ok zero n {x} {y} hx hy l = let e : sz n y ≡ 0 = omega arith in rw (euclid-end 0 n x y e) (done-ok n hx hy e)
-  euclid-ok (suc fuel) n {x} {y} hx hy l =
-      go
-      (λ d e. let h = remainder-small n d hx hy e in
-      euclid-ok fuel n hy (below-mono X (let l1 = size-le X K n y in omega arith) h)
-      (let l2 = size-least X K n d h in omega arith))
-      (sz n y) refl
-    where
-      go : ((d : ℕ) → (e : sz n y ≡ suc d) → EuclidOk n y (remainderBy X K n d x y) (euclid X K fuel n y (remainderBy X K n d x y)))
-          → (j : ℕ) → sz n y ≡ j → EuclidOk n x y (euclid X K (suc fuel) n x y)
-      go ih zero e = rw (euclid-end (suc fuel) n x y e) (done-ok n hx hy e)
-      go ih (suc d) e =
-          rw (euclid-round fuel n d x y e)
-          (next-ok n d hx hy e (euclid X K fuel n y (remainderBy X K n d x y)) (ih d e)
-          (λ f. euclid-end fuel n y (remainderBy X K n d x y) f))
 
   -- more fuel, or more room, changes nothing
   pub euclid-fuel : (a b n : ℕ) {x y : S} → Below X n x → Below X n y → sz n y ≤ a → sz n y ≤ b → euclid X K a n x y ≡ euclid X K b n x y
@@ -188,9 +69,9 @@ module _ {Rg : CommRing} (X : SeriesRing Rg) (K : IsField Rg) where
   euclid-fuel (suc a) zero n {x} {y} hx hy l m = let e : sz n y ≡ 0 = omega arith in euclid-end (suc a) n x y e ∙ sym (euclid-end 0 n x y e)
   euclid-fuel (suc a) (suc b) n {x} {y} hx hy l m =
       go
-      (λ d e. let h = remainder-small n d hx hy e in
-      let lr = size-least X K n d h in
-      euclid-fuel a b n hy (below-mono X (let l1 = size-le X K n y in omega arith) h) (omega arith) (omega arith))
+      (λ d e. let small = remainder-small n d hx hy e in
+      let shorter = size-least X K n d small in
+      euclid-fuel a b n hy (below-mono X (let room = size-le X K n y in omega arith) small) (omega arith) (omega arith))
       (sz n y) refl
     where
       go : ((d : ℕ) → sz n y ≡ suc d → euclid X K a n y (remainderBy X K n d x y) ≡ euclid X K b n y (remainderBy X K n d x y)) → (j : ℕ)
@@ -203,9 +84,9 @@ module _ {Rg : CommRing} (X : SeriesRing Rg) (K : IsField Rg) where
   euclid-room zero n m hx hy gx gy = refl
   euclid-room (suc a) n m {x} {y} hx hy gx gy =
       go
-      (λ d e. let h = remainder-small n d hx hy e in
-      euclid-room a n m hy (below-mono X (let l = size-le X K n y in omega arith) h) gy
-      (below-mono X (let l = size-le X K m y in let q = size-same X K n m hy gy in omega arith) h))
+      (λ d e. let small = remainder-small n d hx hy e in
+      euclid-room a n m hy (below-mono X (let room = size-le X K n y in omega arith) small) gy
+      (below-mono X (let room = size-le X K m y in let same = size-same X K n m hy gy in omega arith) small))
       (sz n y) refl
     where
       go : ((d : ℕ) → sz n y ≡ suc d → euclid X K a n y (remainderBy X K n d x y) ≡ euclid X K a m y (remainderBy X K n d x y)) → (j : ℕ)
@@ -220,10 +101,9 @@ module _ {Rg : CommRing} (X : SeriesRing Rg) (K : IsField Rg) where
   pub round-law : (n d : ℕ) {x y : S} → Below X n x → Below X n y → sz n y ≡ suc d
       → euclid X K n n x y ≡ next X K (quotientBy X K n d x y) (euclid X K n n y (remainderBy X K n d x y))
   round-law n d {x} {y} hx hy e =
-      let h = remainder-small n d hx hy e in
-      let l = size-le X K n y in
-      let lr = size-least X K n d h in
-      euclid-fuel n (suc n) n hx hy l (omega arith) ∙ euclid-round n n d x y e
+      let room = size-le X K n y in
+      let shorter = size-least X K n d (remainder-small n d hx hy e) in
+      euclid-fuel n (suc n) n hx hy room (omega arith) ∙ euclid-round n n d x y e
 
   -- cofactors from above: a loop that carries (s0, s1) and replaces it by (s1, s0 - q · s1) in each round
   -- ends with byX from (1, 0), and with byY from (0, 1)

@@ -1,11 +1,16 @@
--- Laws: Values of polynomials.
+-- Values of polynomials.
+--     eval-add, eval-mul, …           the value of a sum, a product and the like
+--     eval-more                       coefficients beyond the bound add nothing
+--     valueAt-add, valueAt-mul, …     the same where the bound is not named
+--     value-at-1, valueAt1-unique     every polynomial has one value at 1
 -- Assumes nothing.
 use mathlib.Core.Path.{_≡_, _∙_, refl, sym, ap, ap₂, subst}
 use Prim.Native.Nat.{ℕ, zero, suc, _+_}
 use native.Mathlib.Nat as N
 use Rattle.algebra.specs.RingLaws as R
-use Rattle.algebra.specs.Ring.{CommRing}
+use Rattle.algebra.specs.Ring.{CommRing, pow}
 use Rattle.algebra.specs.RingLaws.{RING}
+use Rattle.algebra.proofs.Ring.{pow-zero, pow-suc}
 use Rattle.algebra.specs.Series.{SeriesRing, C, t, tail}
 use Rattle.algebra.proofs.Series.{coeff-add, coeff-0, coeff-1-zero, coeff-C-zero, C-one, coeff-C-mul, coeff-t-mul-zero, tail-0, tail-add, tail-C-mul, tail-t-mul}
 use Rattle.algebra.specs.Polynomial.{Below, Polynomial}
@@ -130,9 +135,9 @@ module _ {Rg : CommRing} (X : SeriesRing Rg) (x : Rg .Carrier) where
   pub valueAt-⟨1-t⟩ : ValueAt X x (1ˢ +ˢ -ˢ t X) (𝟙 ⊕ ⊖ x)
   valueAt-⟨1-t⟩ = valueAt-add valueAt-1 (valueAt-neg valueAt-t)
 
-  pub valueAt-pow : (n : ℕ) {a : S} {u : Carrier} → ValueAt X x a u → ValueAt X x (R.pow (X .ring) a n) (R.pow Rg u n)
-  valueAt-pow zero {a} {u} h = rw (R.pow-zero (X .ring) a, R.pow-zero Rg u) valueAt-1
-  valueAt-pow (suc n) {a} {u} h = rw (R.pow-suc (X .ring) a n, R.pow-suc Rg u n) (valueAt-mul h (valueAt-pow n h))
+  pub valueAt-pow : (n : ℕ) {a : S} {u : Carrier} → ValueAt X x a u → ValueAt X x (pow (X .ring) a n) (pow Rg u n)
+  valueAt-pow zero {a} {u} h = rw (pow-zero (X .ring) a, pow-zero Rg u) valueAt-1
+  valueAt-pow (suc n) {a} {u} h = rw (pow-suc (X .ring) a n, pow-suc Rg u n) (valueAt-mul h (valueAt-pow n h))
 
   pub valueAt-polynomial : {s : S} {v : Carrier} → ValueAt X x s v → Polynomial X s
   valueAt-polynomial h = record { bound = h .bound; below = h .below }

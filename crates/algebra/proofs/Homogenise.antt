@@ -1,12 +1,22 @@
--- Laws: Homogenisation: from a polynomial in u to one in t, with u = t / (1-t).
+-- Laws of homogenisation.
+--     C-add, C-mul, C-neg                        constants are added, multiplied and negated as the ring's elements
+--     hom-add, hom-neg, hom-C-mul, hom-t-mul     the homogenisation of a sum, a negative, c · s and u · s
+--     hom-more                                   a degree more is a factor 1-t more
+--     hom-mul                                    the product of homogenisations is that of the product, at the sum of the degrees
+--     hom-snoc                                   by the last coefficient and the rest
+--     hom-inj, hom-eq                            hom n is injective on the polynomials of degree at most n
+--     hom-strip, hom-short                       at a degree above that of s: the factors 1-t
+--     valueAt1-hom                               at t = 1 only coefficient n is left
+--     polynomial-hom                             a homogenisation is a polynomial
 -- Assumes nothing.
 use mathlib.Core.Path.{_≡_, _∙_, refl, sym, ap, ap₂, subst}
 use Prim.Native.Nat.{ℕ, zero, suc, _+_, _-_, _≤_}
 use native.Mathlib.Nat as N
 use native.Mathlib.Omega.{arith}
 use Rattle.algebra.specs.RingLaws as R
-use Rattle.algebra.specs.Ring.{CommRing}
+use Rattle.algebra.specs.Ring.{CommRing, pow}
 use Rattle.algebra.specs.RingLaws.{RING}
+use Rattle.algebra.proofs.Ring.{pow-zero, pow-suc}
 use Rattle.algebra.specs.Series.{SeriesRing, C, t, tail}
 use Rattle.algebra.proofs.Series.{ext, coeff-add, coeff-0, coeff-1-zero, coeff-mul-zero, coeff-tail, coeff-C-zero, coeff-C-suc, coeff-t-zero, C-zero, coeff-C-mul, coeff-t-mul-zero, split, tail-0, tail-add, tail-C-mul, tail-t-mul}
 use Rattle.algebra.specs.Polynomial.{Below, Polynomial}
@@ -92,11 +102,11 @@ module _ {Rg : CommRing} (X : SeriesRing Rg) where
       right ih = ap (λ k. hom X k (t X *ˢ (tail X a *ˢ b))) (N.suc-add n m) ∙ hom-t-mul (n + m) (tail X a *ˢ b) ∙ ap (λ x. t X *ˢ x) ih
 
   -- by the last coefficient and the rest
-  pub hom-snoc : (n : ℕ) (s : S) → hom X (suc n) s ≡ ⟨1-t⟩ X *ˢ hom X n s +ˢ R.pow (X .ring) (t X) (suc n) *ˢ C X (X .coeff s (suc n))
+  pub hom-snoc : (n : ℕ) (s : S) → hom X (suc n) s ≡ ⟨1-t⟩ X *ˢ hom X n s +ˢ pow (X .ring) (t X) (suc n) *ˢ C X (X .coeff s (suc n))
   hom-snoc zero s =
       hom-suc 0 s
-      ∙ simp (hom-zero, coeff-tail) (rw (⟨1-t⟩^-suc X 0, R.pow-suc (X .ring) (t X) 0) (simp (⟨1-t⟩^-zero, R.pow-zero, RING)))
-  hom-snoc (suc n) s = hom-suc (suc n) s ∙ simp (hom-snoc n (tail X s), hom-suc n s, coeff-tail, ⟨1-t⟩^-suc, R.pow-suc) (simp RING)
+      ∙ simp (hom-zero, coeff-tail) (rw (⟨1-t⟩^-suc X 0, pow-suc (X .ring) (t X) 0) (simp (⟨1-t⟩^-zero, pow-zero, RING)))
+  hom-snoc (suc n) s = hom-suc (suc n) s ∙ simp (hom-snoc n (tail X s), hom-suc n s, coeff-tail, ⟨1-t⟩^-suc, pow-suc) (simp RING)
 
   coeff-⟨1-t⟩^ : (n : ℕ) → X .coeff (⟨1-t⟩^ X n) 0 ≡ 𝟙
   coeff-⟨1-t⟩^ zero = simp (⟨1-t⟩^-zero, coeff-1-zero)

@@ -1,4 +1,11 @@
--- Laws: The monic form of a polynomial, and what fixes the cofactors.
+-- The monic form of a polynomial, and what fixes the cofactors.
+--     monic-top, monic-degree     its last coefficient is 1, and its degree that of s
+--     monic-divides               what s divides its monic form divides
+--     zero-of-product             over a field a product is 0 only where a factor is
+--     cofactor-degree             the degree of a cofactor is the difference of the degrees
+--     cancel                      a factor that is not 0 cancels
+-- Theorem:
+--     cofactors-unique     A·y + B·x = h has one solution with B below (degree of y) - (degree of h), h a common divisor of x and y
 -- Assumes nothing.
 use mathlib.Core.Path.{_≡_, _∙_, refl, sym, ap, ap₂, subst}
 use mathlib.Core.Logic.{_⊎_, inl, inr}

@@ -1,4 +1,13 @@
--- Laws: Polynomials: formal series with a bound.
+-- Bounds of polynomials, and divisibility.
+--     below-mono, below-add, below-mul, …     a larger bound, and the bounds of sums, products and the like
+--     zero-of-below                           below 0: the zero polynomial
+--     C-of-below                              below 1: a constant
+--     drop-top                                below n + 1 with coefficient n zero: below n
+--     split-mul                               a·b = a_0·b + t · (tail a · b)
+--     polynomial-add, polynomial-mul, …       sums and products of polynomials are polynomials
+--     divides-trans, divides-mul, …           divisors of divisors, and of products
+--     top-of-product                          coefficient n + m of a product of degrees n and m at most is that of the factors'
+--                                             last
 -- Assumes nothing.
 use mathlib.Core.Path.{_≡_, _∙_, sym, ap, ap₂, subst}
 use mathlib.Core.Logic.{_⊎_, inl, inr}

@@ -1,4 +1,8 @@
--- Laws: Prime numbers, and a test by trial division that shows a number prime.
+-- A test by trial division that shows a number prime.
+--     noDivisor p n     true when none of 2, …, n + 1 divides p
+--     primeTest p b     true when 1 < p < (b + 2)² and none of 2, …, b + 1 divides p
+-- Theorem:
+--     prime-of-test     a number that passes the test is prime
 -- Assumes nothing.
 use mathlib.Core.Path.{_≡_, refl, sym, _∙_, ap, subst}
 use mathlib.Core.Bool.{Bool, true, _&&_}

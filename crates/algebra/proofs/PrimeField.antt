@@ -1,4 +1,11 @@
--- Laws: A prime p, the field Z/p and the series over it, in one record; numbers and elements of the field.
+-- Numbers and elements of the field Z/p.
+--     residue-value, value-residue, value-lt                 the numbers below p and the elements of the field, one to one
+--     residue-add, residue-mul, residue-neg, residue-mod     the residue of a sum, a product, a negative and a remainder
+--     residue-eq, residue-injective                          two numbers stand for one element where they leave the same remainder
+--                                                            by p, and only there
+--     residue-nonzero                                        a number from 1 to p - 1 does not stand for 0
+--     choose-residue-nonzero                                 C(n, k) is not 0 in the field, for n below p
+--     inverse-cancel                                         a · (1/b) · b = a
 -- Assumes nothing.
 use mathlib.Core.Path.{_≡_, sym, _∙_, ap}
 use Prim.Native.Nat.{ℕ, _+_, _*_, _-_, _%_, _≤_, _<_}

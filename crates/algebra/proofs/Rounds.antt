@@ -1,4 +1,7 @@
--- Laws: The rounds of Euclid's algorithm as a relation, which fixes their number.
+-- The rounds of Euclid's algorithm.
+-- Theorems:
+--     rounds-unique     from a pair there is one number of rounds, and one last x
+--     euclid-rounds     they are those that the function euclid counts
 -- Assumes nothing.
 use mathlib.Core.Path.{_≡_, _∙_, refl, sym, ap, subst}
 use Prim.Native.Nat.{ℕ, zero, suc, _-_, _≤_}
@@ -29,8 +32,8 @@ module _ {Rg : CommRing} (X : SeriesRing Rg) where
     rounds-unique (round xy pq hr q z) (stop e) = absurd (degree-nonzero xy e)
     rounds-unique (round {y = y} {r = r} {d = d} xy pq hr e z) (round {r = r′} {l = l} {k = k} xy′ pq′ hr′ e′ z′) =
         let same : r ≡ r′ = division-unique X K d xy pq pq′ hr (subst (λ i. Below X i r′) (degree-unique X xy′ xy) hr′) (sym e ∙ e′) .1 in
-        let b = rounds-unique z (subst (λ s. Rounds X y s k l) (sym same) z′) in
-        (ap suc (b .0), b .1)
+        let rest = rounds-unique z (subst (λ s. Rounds X y s k l) (sym same) z′) in
+        (ap suc (rest .0), rest .1)
 
     abbrev Counts : S → S → Euclid X K → Type 0
     Counts x y z = Rounds X x y (z .rounds) (z .last)
@@ -43,9 +46,9 @@ module _ {Rg : CommRing} (X : SeriesRing Rg) where
         let e : size X K n y ≡ 0 = omega arith in rw (euclid-end X K 0 n x y e) (stop (size-zero X K n hy e))
     euclid-rounds (suc fuel) n {x} {y} hx hy l =
         go
-        (λ d e. let h = remainder-small X K n d hx hy e in
-        euclid-rounds fuel n hy (below-mono X (let l1 = size-le X K n y in omega arith) h)
-        (let l2 = size-least X K n d h in omega arith))
+        (λ d e. let small = remainder-small X K n d hx hy e in
+        euclid-rounds fuel n hy (below-mono X (let room = size-le X K n y in omega arith) small)
+        (let shorter = size-least X K n d small in omega arith))
         (size X K n y) refl
       where
         go : ((d : ℕ) → size X K n y ≡ suc d → Counts y (remainderBy X K n d x y) (euclid X K fuel n y (remainderBy X K n d x y)))

@@ -1,4 +1,9 @@
--- Laws: Formal series over a commutative ring R.
+-- The coefficients of sums, products and tails of series, and equations between series that follow from them.
+--     ext                                   series with the same coefficients are equal
+--     split                                 s = s_0 + t · tail s
+--     coeff-C-mul                           coefficient n of c · s is c · s_n
+--     coeff-t-mul-zero, coeff-t-mul-suc     the coefficients of t · s
+--     tail-add, tail-C-mul, tail-t-mul      the tail of a sum, of c · s and of t · s
 -- Assumes nothing.
 use mathlib.Core.Path.{_≡_, sym, _∙_, ap}
 use Prim.Native.Nat.{ℕ, zero, suc}

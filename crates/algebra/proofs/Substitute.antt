@@ -1,4 +1,6 @@
--- Laws: Powers of 1 + u, and degree elevation.
+-- Powers of 1 + u, and degree elevation.
+--     below-pow     the n-th power of a polynomial of degree at most 1 has degree at most n
+--     elevate       degree elevation: (1+u)^j · s at degree j + n homogenises as s at degree n
 -- Assumes nothing.
 use mathlib.Core.Path.{_≡_, _∙_, sym, ap, ap₂, subst}
 use Prim.Native.Nat.{ℕ, zero, suc, _+_}
@@ -6,8 +8,9 @@ use native.Mathlib.Nat as N
 use native.Mathlib.Numerals.{add-one}
 use native.Mathlib.Omega.{arith}
 use Rattle.algebra.specs.RingLaws as R
-use Rattle.algebra.specs.Ring.{CommRing}
+use Rattle.algebra.specs.Ring.{CommRing, pow}
 use Rattle.algebra.specs.RingLaws.{RING}
+use Rattle.algebra.proofs.Ring.{pow-zero, pow-suc}
 use Rattle.algebra.specs.Series.{SeriesRing, C, t, tail}
 use Rattle.algebra.proofs.Series.{coeff-add, coeff-1-zero, coeff-1-suc, coeff-tail, coeff-t-zero, coeff-t-one, C-one}
 use Rattle.algebra.specs.Polynomial.{Below}
@@ -28,11 +31,11 @@ module _ {Rg : CommRing} (X : SeriesRing Rg) where
   unfolding ⟨1+u⟩
   below-⟨1+u⟩ = below-add X (below-mono X (omega arith) (below-1 X)) (below-t X)
 
-  pub below-pow : (n : ℕ) {U : S} → Below X 2 U → Below X (suc n) (R.pow (X .ring) U n)
-  below-pow zero {U} h = rw (R.pow-zero (X .ring) U) (below-1 X)
+  pub below-pow : (n : ℕ) {U : S} → Below X 2 U → Below X (suc n) (pow (X .ring) U n)
+  below-pow zero {U} h = rw (pow-zero (X .ring) U) (below-1 X)
   below-pow (suc n) {U} h =
-      rw (R.pow-suc (X .ring) U n)
-      (subst (λ k. Below X k (U *ˢ R.pow (X .ring) U n)) (N.add-comm 1 (suc n) ∙ add-one (suc n))
+      rw (pow-suc (X .ring) U n)
+      (subst (λ k. Below X k (U *ˢ pow (X .ring) U n)) (N.add-comm 1 (suc n) ∙ add-one (suc n))
       (below-mul X 1 (suc n) h (below-pow n h)))
 
   hom-⟨1+u⟩ : hom X 1 (⟨1+u⟩ X) ≡ 1ˢ
@@ -49,13 +52,13 @@ module _ {Rg : CommRing} (X : SeriesRing Rg) where
       c1 : X .coeff (1ˢ +ˢ t X) 1 ≡ 𝟙
       c1 = simp (coeff-add, coeff-1-suc X 0, coeff-t-one) (simp RING)
 
-  hom-pow : (n : ℕ) → hom X n (R.pow (X .ring) (⟨1+u⟩ X) n) ≡ 1ˢ
-  hom-pow zero = simp (R.pow-zero, hom-zero, coeff-1-zero, C-one)
+  hom-pow : (n : ℕ) → hom X n (pow (X .ring) (⟨1+u⟩ X) n) ≡ 1ˢ
+  hom-pow zero = simp (pow-zero, hom-zero, coeff-1-zero, C-one)
   hom-pow (suc n) =
-      ap₂ (λ k x. hom X k x) (sym (N.add-comm 1 n ∙ add-one n)) (R.pow-suc (X .ring) (⟨1+u⟩ X) n)
+      ap₂ (λ k x. hom X k x) (sym (N.add-comm 1 n ∙ add-one n)) (pow-suc (X .ring) (⟨1+u⟩ X) n)
       ∙ hom-mul X 1 n below-⟨1+u⟩ (below-pow n below-⟨1+u⟩) ∙ ap₂ (λ x y. x *ˢ y) hom-⟨1+u⟩ (hom-pow n) ∙ R.mul-one (X .ring) 1ˢ
 
   -- degree elevation: (1+u)^j · s at degree j + n is s at degree n
-  pub elevate : (n j : ℕ) {s : S} → Below X (suc n) s → hom X (j + n) (R.pow (X .ring) (⟨1+u⟩ X) j *ˢ s) ≡ hom X n s
+  pub elevate : (n j : ℕ) {s : S} → Below X (suc n) s → hom X (j + n) (pow (X .ring) (⟨1+u⟩ X) j *ˢ s) ≡ hom X n s
   elevate n j {s} h =
       hom-mul X j n (below-pow j below-⟨1+u⟩) h ∙ ap (λ x. x *ˢ hom X n s) (hom-pow j) ∙ R.one-mul (X .ring) _

@@ -1,12 +1,18 @@
--- Laws: Finite sums, of series and in a ring.
+-- Laws of finite sums, and what series are as sums.
+--     term n s k     s_k · t^k · (1-t)^(n-k)
+-- Theorems:
+--     hom-sum           the homogenisation as a sum, as document 01 writes P(t)
+--     coeff-product     coefficient n of a product is the sum of a_j · b_(n-j)
+--     valueAt-sum       the value of a sum is the sum of the values
 -- Assumes nothing.
 use mathlib.Core.Path.{_≡_, _∙_, refl, sym, ap, ap₂}
 use Prim.Native.Nat.{ℕ, zero, suc, _-_, _<_, suc-le-suc}
 use native.Mathlib.Nat as N
 use native.Mathlib.Omega.{arith}
 use Rattle.algebra.specs.RingLaws as R
-use Rattle.algebra.specs.Ring.{CommRing}
+use Rattle.algebra.specs.Ring.{CommRing, pow}
 use Rattle.algebra.specs.RingLaws.{RING}
+use Rattle.algebra.proofs.Ring.{pow-zero}
 use Rattle.algebra.specs.Series.{SeriesRing, C, t, tail}
 use Rattle.algebra.proofs.Series.{coeff-mul-zero, coeff-mul-suc, coeff-tail}
 use Rattle.algebra.specs.Evaluation.{ValueAt}
@@ -42,13 +48,13 @@ module _ {Rg : CommRing} (X : SeriesRing Rg) where
       ∙ sym (sum-suc n _)
 
   unfoldable pub term : ℕ → S → ℕ → S
-  term n s k = C X (X .coeff s k) *ˢ R.pow (X .ring) (t X) k *ˢ ⟨1-t⟩^ X (n - k)
+  term n s k = C X (X .coeff s k) *ˢ pow (X .ring) (t X) k *ˢ ⟨1-t⟩^ X (n - k)
 
   next-term : (n : ℕ) (s : S) (k : ℕ) → k < suc n → ⟨1-t⟩ X *ˢ term n s k ≡ term (suc n) s k
   unfolding term
   next-term n s k l =
-      shift (⟨1-t⟩ X) (C X (X .coeff s k)) (R.pow (X .ring) (t X) k) (⟨1-t⟩^ X (n - k))
-      ∙ ap (λ x. C X (X .coeff s k) *ˢ R.pow (X .ring) (t X) k *ˢ x) (sym (ap (⟨1-t⟩^ X) e ∙ ⟨1-t⟩^-suc X (n - k)))
+      shift (⟨1-t⟩ X) (C X (X .coeff s k)) (pow (X .ring) (t X) k) (⟨1-t⟩^ X (n - k))
+      ∙ ap (λ x. C X (X .coeff s k) *ˢ pow (X .ring) (t X) k *ˢ x) (sym (ap (⟨1-t⟩^ X) e ∙ ⟨1-t⟩^-suc X (n - k)))
     where
       e : suc n - k ≡ suc (n - k)
       e = omega arith
@@ -56,9 +62,9 @@ module _ {Rg : CommRing} (X : SeriesRing Rg) where
       shift : (a b c d : S) → a *ˢ (b *ˢ c *ˢ d) ≡ b *ˢ c *ˢ (a *ˢ d)
       shift a b c d = simp RING
 
-  last-term : (n : ℕ) (s : S) → term n s n ≡ R.pow (X .ring) (t X) n *ˢ C X (X .coeff s n)
+  last-term : (n : ℕ) (s : S) → term n s n ≡ pow (X .ring) (t X) n *ˢ C X (X .coeff s n)
   unfolding term
-  last-term n s = ap (λ k. C X (X .coeff s n) *ˢ R.pow (X .ring) (t X) n *ˢ ⟨1-t⟩^ X k) (N.sub-self n) ∙ rw (⟨1-t⟩^-zero X) (simp RING)
+  last-term n s = ap (λ k. C X (X .coeff s n) *ˢ pow (X .ring) (t X) n *ˢ ⟨1-t⟩^ X k) (N.sub-self n) ∙ rw (⟨1-t⟩^-zero X) (simp RING)
 
   -- the homogenisation as a sum, as document 01 writes P(t)
   pub hom-sum : (n : ℕ) (s : S) → hom X n s ≡ sum X (suc n) (term n s)
@@ -66,7 +72,7 @@ module _ {Rg : CommRing} (X : SeriesRing Rg) where
       hom-zero X s
       ∙ sym
       (sum-suc 0 (term 0 s) ∙ ap₂ (λ x y. x +ˢ y) (sum-zero (term 0 s)) (last-term 0 s)
-      ∙ rw (R.pow-zero (X .ring) (t X)) (simp RING))
+      ∙ rw (pow-zero (X .ring) (t X)) (simp RING))
   hom-sum (suc n) s =
       hom-snoc X n s
       ∙ ap₂ (λ x y. x +ˢ y)

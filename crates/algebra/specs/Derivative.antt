@@ -1,10 +1,11 @@
 -- The derivative of a series, and of a homogenisation.
---
--- multiple R n a         n · a, the sum of n copies of a, in the ring R
--- derivative s           the derivative: the sum of (k+1) · s_(k+1) · t^k
--- scaledDerivative n s   the sum of ((k+1) · s_(k+1) - (n-k) · s_k) · u^k: the series that homogenises at
---                        degree n-1 to the derivative of hom n s
---
+--     multiple R n a           n · a, the sum of n copies of a, in the ring R
+--     derivative s             the derivative: the sum of (k+1) · s_(k+1) · t^k
+--     scaledDerivative n s     the sum of ((k+1) · s_(k+1) - (n-k) · s_k) · u^k: the series that homogenises at degree n-1 to the
+--                              derivative of hom n s
+-- Theorems, each in the module of proofs/ that is named:
+--     derivative-hom       the derivative of hom (n+1) s is hom n of the scaled derivative (Derivative)
+--     multiple-residue     in Z/p, n · a is the residue of n times a (Multiple)
 -- Assumes nothing.
 use Prim.Native.Nat.{ℕ, zero, suc, _-_}
 use Rattle.algebra.specs.Ring.{CommRing}

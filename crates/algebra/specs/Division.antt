@@ -1,10 +1,12 @@
 -- Division with remainder, as functions that compute: k steps, each of which clears one coefficient.
---
--- digit k d x y       x_(d+k) / y_d, for y of degree d: the term digit · u^k of the quotient clears x_(d+k)
--- step k d x y        x - digit · u^k · y
--- remainder k d x y   what k steps leave of x, the first at coefficient d+k-1, the last at coefficient d
--- quotient k d x y    the sum of the terms digit · u^k of these steps
---
+--     digit k d x y         x_(d+k) / y_d, for y of degree d: the term digit · u^k of the quotient clears x_(d+k)
+--     step k d x y          x - digit · u^k · y
+--     remainder k d x y     what k steps leave of x, the first at coefficient d+k-1, the last at coefficient d
+--     quotient k d x y      the sum of the terms digit · u^k of these steps
+-- Theorems (proofs/Division):
+--     division            x = quotient · y + remainder
+--     remainder-below     with k steps for x of d + k coefficients, y of degree d, the remainder is below d
+--     division-unique     no other quotient and remainder below d have this
 -- Assumes nothing.
 use Prim.Native.Nat.{ℕ, zero, suc, _+_}
 use Rattle.algebra.specs.Ring.{CommRing, IsField}

@@ -1,15 +1,17 @@
 -- Euclid's algorithm as a function that computes, with its cofactors and its count of rounds.
---
--- Euclid                the answer on a pair (x, y): the last x, the number of rounds, and cofactors with
---                       byX · x + byY · y = last
--- quotientBy n d x y    the quotient of x by y, y of degree d, x of at most n coefficients
--- remainderBy n d x y   the remainder; x itself where y is the longer
--- done x                the answer where y is 0: no round
--- next q z              the answer on (x, y), from the answer z on (y, x - q · y)
--- euclid fuel n x y     the answer on (x, y), polynomials of at most n coefficients: a round replaces (x, y)
---                       by (y, remainder of x by y), until y is 0; fuel bounds the rounds, and size n y is enough
--- EuclidOk n x y z      z is an answer on (x, y): the identity, the common divisor and the bounds
---
+--     Euclid                  the answer on a pair (x, y): the last x, the number of rounds, and cofactors with byX · x + byY · y =
+--                             last
+--     quotientBy n d x y      the quotient of x by y, y of degree d, x of at most n coefficients
+--     remainderBy n d x y     the remainder; x itself where y is the longer
+--     done x                  the answer where y is 0: no round
+--     next q z                the answer on (x, y), from the answer z on (y, x - q · y)
+--     euclid fuel n x y       the answer on (x, y), polynomials of at most n coefficients: a round replaces (x, y) by (y, remainder
+--                             of x by y), until y is 0; fuel bounds the rounds, and size n y is enough
+-- Theorems, each in the module of proofs/ that is named:
+--     euclid-ok                    the last x divides both, the cofactors' identity holds, and the cofactors have few coefficients
+--                                  (EuclidCorrect)
+--     euclid-fuel, euclid-room     more fuel, or more room, changes nothing (Euclid)
+--     euclid-rounds                the rounds are those of the relation Rounds (Rounds)
 -- Assumes nothing.
 use Prim.Native.Nat.{ℕ, zero, suc, _-_}
 use Rattle.algebra.specs.Ring.{CommRing, IsField}

@@ -1,9 +1,10 @@
 -- Values of polynomials.
---
--- eval x n s      s_0 + s_1 · x + … + s_(n-1) · x^(n-1), by Horner's rule
--- ValueAt x s v   s is a polynomial, and s(x) = v
--- ValueAt1 s v    s is a polynomial, and s(1) = v
---
+--     eval x n s        s_0 + s_1 · x + … + s_(n-1) · x^(n-1), by Horner's rule
+--     ValueAt x s v     s is a polynomial, and s(x) = v
+--     ValueAt1 s v      s is a polynomial, and s(1) = v
+-- Theorems (proofs/Evaluation):
+--     valueAt-add, valueAt-mul, valueAt-neg, valueAt-pow     the value of a sum, a product, a negative and a power
+--     value-at-1, valueAt1-unique                            every polynomial has one value at 1
 -- Assumes nothing.
 use mathlib.Core.Path.{_≡_}
 use Prim.Native.Nat.{ℕ, zero, suc}

@@ -1,8 +1,12 @@
--- Homogenisation: from a polynomial in u to one in t, with u = t / (1-t).
---
--- hom n s   (1-t)^n · s(t/(1-t)): the sum of s_k · t^k · (1-t)^(n-k) over k from 0 to n. Of a list with
---           naive degree n and scaled form s it is the meaning, P(t).
---
+-- Homogenisation: from a polynomial in u to one in t, with u = t/(1-t).
+--     hom n s     (1-t)^n · s(t/(1-t)): the sum of s_k · t^k · (1-t)^(n-k) over k from 0 to n. Of a list with naive degree n and
+--                 scaled form s it is the meaning, P(t).
+-- Theorems (proofs/Homogenise):
+--     hom-add, hom-mul     the homogenisation of a sum, and of a product at the sum of the degrees
+--     hom-more             a degree more is a factor 1-t more
+--     hom-eq               hom n is injective on the polynomials of degree at most n
+--     valueAt1-hom         at t = 1 its value is s_n
+--     hom-sum              it is the sum above (proofs/Sum)
 -- Assumes nothing.
 use Prim.Native.Nat.{ℕ, zero, suc}
 use Rattle.algebra.specs.Ring.{CommRing}

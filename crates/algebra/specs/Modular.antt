@@ -1,4 +1,15 @@
--- Laws: The numbers modulo p, a commutative ring; for a prime p, a field.
+-- The numbers modulo p, a commutative ring, and the inverse modulo a prime p by Euclid's algorithm.
+--     ring-mod p pos         the ring Z/p, for 0 < p: its elements are the numbers below p
+--     residueMod p pos n     the element of Z/p that n stands for
+--     valueMod p pos a       the number below p that is the element a
+--     euclidMod              Euclid's steps on whole numbers, with one cofactor modulo p
+--     inverseMod p a         the inverse of a modulo p, by these steps
+--     inverse-in             the inverse in Z/p, p prime
+--     equal                  equality in Z/p is decided
+-- Theorems (specs/ModularLaws):
+--     residueMod-add, residueMod-mul, residueMod-neg     the residue of a sum, a product and a negative is that of the residues
+--     residueMod-injective                               two numbers with one residue leave the same remainder by p
+--     mul-inverse-in                                     a times its inverse is 1, for each a but 0
 -- Assumes nothing.
 use mathlib.Core.HLevel.{hedberg}
 use Prim.Native.Nat.{ℕ, zero, suc, _+_, _*_, _-_, _%_, _/_, _<_, Fin}

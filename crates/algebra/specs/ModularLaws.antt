@@ -1,4 +1,12 @@
--- Laws: The numbers modulo p, a commutative ring; for a prime p, a field.
+-- The laws of Z/p that make it a field for a prime p.
+--     valueMod-lt                                        the number that is an element is below p
+--     valueMod-residueMod, residueMod-valueMod           residue and number undo each other
+--     residueMod-eq, residueMod-injective                two numbers have one residue where they leave the same remainder by p, and
+--                                                        only there
+--     residueMod-add, residueMod-mul, residueMod-neg     the residue of a sum, a product and a negative is that of the residues
+--     euclid-inverts                                     where only 1 divides both numbers, Euclid's steps end with the inverse
+--     mul-inverse-in                                     a times its inverse is 1, for each a but 0
+--     one≢zero                                           1 is not 0
 -- Assumes nothing.
 use mathlib.Core.Path.{_≡_, refl, sym, _∙_, ap, subst}
 use mathlib.Core.Logic.{_⊎_, inl, inr}
@@ -84,7 +92,7 @@ module _ (p : ℕ) (pos : 0 < p) where
   euclid-inverts (suc k) r0 zero s0 s1 x l h0 h1 c =
       sym residueMod-one ∙ ap (residueMod p pos) (sym (c r0 (N.dvd-refl r0) (N.dvd-zero r0))) ∙ h0
   euclid-inverts (suc k) r0 (suc r1) s0 s1 x l h0 h1 c =
-      let m : r0 % suc r1 < suc r1 = N.mod-lt r0 (N.zero-lt-suc r1) in
+      let smaller : r0 % suc r1 < suc r1 = N.mod-lt r0 (N.zero-lt-suc r1) in
       euclid-inverts k (suc r1) (r0 % suc r1) s1 ((s0 + (p - (r0 / suc r1 * s1) % p)) % p) x (omega arith) h1
       (euclid-step r0 (suc r1) s0 s1 x h0 h1) (λ d a b. c d (N.dvd-mod-iff d a .0 b) a)
 
@@ -96,17 +104,17 @@ module _ (p : ℕ) (prime : Prime p) where
   unfolding inverse-in inverseMod
   mul-inverse-in a n =
       R.mul-comm (ring-mod p (pos-of p prime)) a (inverse-in p prime a)
-      ∙ sym (euclid-inverts p (pos-of p prime) p p v 0 1 a (N.le-of-lt (valueMod-lt p (pos-of p prime) a)) h0 h1 coprime)
+      ∙ sym (euclid-inverts p (pos-of p prime) p p v 0 1 a (N.le-of-lt (valueMod-lt p (pos-of p prime) a)) first second coprime)
     where
       v : ℕ
       v = valueMod p (pos-of p prime) a
 
-      h0 : residueMod p (pos-of p prime) p ≡ residueMod p (pos-of p prime) 0 ⊗ a
-      h0 =
+      first : residueMod p (pos-of p prime) p ≡ residueMod p (pos-of p prime) 0 ⊗ a
+      first =
           residueMod-eq p (pos-of p prime) p 0 (N.mod-self p ∙ sym (N.zero-mod p)) ∙ rw (residueMod-zero p (pos-of p prime)) (simp RING)
 
-      h1 : residueMod p (pos-of p prime) v ≡ residueMod p (pos-of p prime) 1 ⊗ a
-      h1 = residueMod-valueMod p (pos-of p prime) a ∙ rw (residueMod-one p (pos-of p prime)) (simp RING)
+      second : residueMod p (pos-of p prime) v ≡ residueMod p (pos-of p prime) 1 ⊗ a
+      second = residueMod-valueMod p (pos-of p prime) a ∙ rw (residueMod-one p (pos-of p prime)) (simp RING)
 
       nonzero : ¬ (v ≡ 0)
       nonzero e =
@@ -118,12 +126,12 @@ module _ (p : ℕ) (prime : Prime p) where
           go : (d ≡ 1) ⊎ (d ≡ p) → d ≡ 1
           go (inl e) = e
           go (inr e) =
-              let l : d ≤ v = N.le-of-dvd (N.pos-of-ne-zero nonzero) dv in
-              let l′ = valueMod-lt p (pos-of p prime) a in
+              let at-most : d ≤ v = N.le-of-dvd (N.pos-of-ne-zero nonzero) dv in
+              let below = valueMod-lt p (pos-of p prime) a in
               absurd (omega arith)
 
   pub one≢zero : ¬ (𝟙 ≡ 𝟘)
   one≢zero e =
-      let z : 1 % p ≡ 0 % p = residueMod-injective p (pos-of p prime) 1 0 (residueMod-one p (pos-of p prime) ∙ e ∙ sym (residueMod-zero p (pos-of p prime))) in
-      let y : _≡_ {A = ℕ} 1 0 = sym (N.mod-eq-of-lt (prime .big)) ∙ z ∙ N.zero-mod p in
+      let remainders : 1 % p ≡ 0 % p = residueMod-injective p (pos-of p prime) 1 0 (residueMod-one p (pos-of p prime) ∙ e ∙ sym (residueMod-zero p (pos-of p prime))) in
+      let equal : _≡_ {A = ℕ} 1 0 = sym (N.mod-eq-of-lt (prime .big)) ∙ remainders ∙ N.zero-mod p in
       omega arith

@@ -1,8 +1,11 @@
--- The monic form of a polynomial, and what fixes the cofactors.
---
--- topInverse n s   1 over the last coefficient that is not 0 of s, a polynomial of at most n coefficients
--- monic n s        s times that, so that its last coefficient is 1
---
+-- The monic form of a polynomial.
+--     topInverse n s     1 over the last coefficient that is not 0 of s, a polynomial of at most n coefficients
+--     monic n s          s times that, so that its last coefficient is 1
+-- Theorems (proofs/Monic):
+--     monic-top, monic-degree     the last coefficient is 1, and the degree that of s
+--     monic-divides               what s divides its monic form divides
+--     cofactors-unique            A·y + B·x = h has one solution with B below (degree of y) - (degree of h), h a common divisor of
+--                                 x and y
 -- Assumes nothing.
 use Prim.Native.Nat.{ℕ, _-_}
 use Rattle.algebra.specs.Ring.{CommRing, IsField}

@@ -1,12 +1,11 @@
--- The polynomial 1 - t, its powers, and the number of factors 1 - t of a polynomial.
---
--- ⟨1-t⟩         the polynomial 1 - t
--- ⟨1-t⟩^ n      its power (1-t)^n
--- over⟨1-t⟩ s   the series s / (1-t); coefficient k is s_0 + … + s_k
--- Factor s      s = (1-t) · rest for a polynomial rest
--- Split s       s = (1-t)^k · core with core(1) not 0: k is the exact number of factors 1-t of s,
---               for the meaning of a list its power
---
+-- The polynomial 1 - t and its powers.
+--     ⟨1-t⟩        the polynomial 1 - t
+--     ⟨1-t⟩^ n     its power (1-t)^n
+-- Theorems, each in the module of proofs/ that is named:
+--     ⟨1-t⟩^-cancel               a factor (1-t)^n cancels (OneMinusT)
+--     factor                      the factor theorem at 1: where s(1) = 0, s is 1 - t times a polynomial (Factors)
+--     split-off, split-unique     every polynomial but 0 is (1-t)^k · core with core(1) not 0, and k is one (Factors)
+--     divides-without-⟨1-t⟩       a divisor of (1-t)^N · h that is not 0 at 1 divides h (Factors)
 -- Assumes nothing.
 use Prim.Native.Nat.{ℕ}
 use Rattle.algebra.specs.Ring as R

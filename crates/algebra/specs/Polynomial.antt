@@ -1,10 +1,13 @@
 -- Polynomials: formal series with a bound.
---
--- Below n s      coefficient k of s is 0 for every k from n on
--- Polynomial s   s is a polynomial over the ring: a finite sum of terms s_k · t^k
--- Divides K L    K divides L: L = K · M for some polynomial M, so every polynomial divides 0
--- monomial c d   c · t^d
---
+--     Below n s        coefficient k of s is 0 for every k from n on
+--     Polynomial s     s is a polynomial over the ring: a finite sum of terms s_k · t^k
+--     Divides K L      K divides L: L = K · M for some polynomial M, so every polynomial divides 0
+--     monomial c d     c · t^d
+-- Theorems (proofs/Polynomial):
+--     below-mul                          the bound of a product
+--     polynomial-add, polynomial-mul     sums and products of polynomials are polynomials
+--     divides-trans, divides-mul         divisors of divisors, and of products
+--     top-of-product                     the last coefficient of a product is that of the factors' last
 -- Assumes nothing.
 use mathlib.Core.Path.{_≡_}
 use Prim.Native.Nat.{ℕ, zero, suc, _≤_}

@@ -1,9 +1,7 @@
--- Prime numbers, and a test by trial division that shows a number prime.
---
--- noDivisor p n    true when none of 2, …, n + 1 divides p
--- primeTest p b    true when 1 < p < (b + 2)² and none of 2, …, b + 1 divides p
--- Prime p          p is above 1, and only 1 and p divide it
---
+-- Prime numbers.
+--     Prime p     p is above 1, and only 1 and p divide it
+-- Theorems (proofs/Prime):
+--     prime-of-test     a number that passes a test by trial division is prime
 -- Assumes nothing.
 use mathlib.Core.Path.{_≡_}
 use mathlib.Core.Logic.{_⊎_}

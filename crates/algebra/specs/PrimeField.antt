@@ -1,14 +1,16 @@
 -- A prime p, the field Z/p and the series over it, in one record; numbers and elements of the field.
---
--- PrimeField       a prime p, with the formal series over Z/p
--- scalars F        the ring Z/p
--- scalarField F    that it is a field
--- positive F       0 < p
--- residue F n      the element of the field that the number n stands for
--- value F a        the number below p that stands for a
--- inverse F a      1 / a, where a is not 0
--- computes         stands for all that a closed computation has to open: say `unfolding computes`
---
+--     PrimeField        a prime p, with the formal series over Z/p
+--     scalars F         the ring Z/p
+--     scalarField F     that it is a field
+--     positive F        0 < p
+--     residue F n       the element of the field that the number n stands for
+--     value F a         the number below p that stands for a
+--     inverse F a       1/a, where a is not 0
+--     computes          stands for all that a closed computation has to open: say `unfolding computes`
+-- Theorems (proofs/PrimeField):
+--     residue-value, value-residue              the numbers below p and the elements of the field, one to one
+--     residue-add, residue-mul, residue-neg     the residue of a sum, a product and a negative
+--     choose-residue-nonzero                    the binomial coefficients C(n, k) are not 0 in the field, for n below p
 -- Assumes nothing.
 use mathlib.Core.Bool.{Bool, true}
 use Prim.Native.Nat.{ℕ, _<_}

@@ -1,4 +1,8 @@
--- Laws: The numbers modulo p, a commutative ring; for a prime p, a field.
+-- The operations of the ring Z/p on its elements, the numbers below p, for 0 < p.
+--     red p pos n       n modulo p
+--     add, mul, neg     sum, product and negative modulo p
+-- Theorems (specs/ResiduesLaws):
+--     add-assoc, mul-add, …     the laws of a commutative ring
 -- Assumes nothing.
 use Prim.Native.Nat.{ℕ, _+_, _*_, _-_, _%_, _<_, Fin}
 use native.Mathlib.Nat as N

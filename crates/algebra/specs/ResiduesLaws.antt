@@ -1,4 +1,10 @@
--- Laws: The numbers modulo p, a commutative ring; for a prime p, a field.
+-- The operations modulo p keep the laws of a commutative ring. Every element is n modulo p for a number n, so each law is one of
+-- numbers.
+--     mul-mod-left, mul-mod-right     a factor may be reduced first
+--     red-eq                          two numbers with one remainder by p are one element
+--     add-red, mul-red                sum and product of n and m modulo p are n + m and n · m modulo p
+--     add-assoc, …                    the laws of a commutative ring
+--     pos-of                          a prime is above 0
 -- Assumes nothing.
 use mathlib.Core.Path.{_≡_, sym, _∙_, ap, subst}
 use Prim.Native.Nat.{ℕ, _+_, _*_, _-_, _%_, _/_, _<_, Fin}

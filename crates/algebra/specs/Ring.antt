@@ -1,12 +1,13 @@
 -- Commutative rings and fields.
---
--- CommRing    a commutative ring
--- IsField R   R is a field: 1 / a for each a but 0, 1 is not 0, and equality is decided
--- pow R a n   a^n
--- RING        the rules that bring both sides of an equation of a ring to one form: `simp RING`
--- AC          associativity and commutativity
--- CANCEL      a term and its negative that do not stand side by side
---
+--     CommRing      a commutative ring
+--     IsField R     R is a field: 1/a for each a but 0, 1 is not 0, and equality is decided
+--     pow R a n     a^n
+-- Theorems (proofs/Ring):
+--     pow-add         a^(n+m) = a^n · a^m
+--     pow-mul         (a^n)^m = a^(n·m)
+--     zero-of-mul     in a field, where a·b = 0 and a is not 0, b is 0
+-- Rules for equations of a ring (specs/RingLaws):
+--     RING     they bring both sides to one form: `simp RING`
 -- Assumes nothing.
 use mathlib.Core.Path.{_≡_}
 use Prim.Native.Nat.{ℕ}

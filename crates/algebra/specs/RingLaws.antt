@@ -1,12 +1,15 @@
--- Laws: Commutative rings and fields.
+-- The laws of commutative rings that the definitions of further rings need, each over any ring, and the rules for `simp`.
+--     add-assoc, …                          the ring's own laws, as lemmas over the ring, as a ruleset takes them
+--     neg-unique                            what added to a gives 0 is -a
+--     add-left-cancel, add-right-cancel     a term on both sides cancels
+--     eq-of-sub, sub-of-eq                  a = b where a - b = 0, and conversely
+--     move                                  a = c - b where a + b = c
+--     AC                                    associativity and commutativity
+--     CANCEL                                a term and its negative that do not stand side by side
+--     RING                                  the rules that bring both sides of an equation of a ring to one form: `simp RING`
 -- Assumes nothing.
-use mathlib.Core.Path.{_≡_, refl, sym, _∙_, ap}
-use Prim.Native.Nat as ℕ·
-use Prim.Native.Nat.{ℕ}
-use native.Mathlib.Nat as N
-use native.Mathlib.Numerals.{add-one}
-use Rattle.algebra.specs.Ring.{CommRing, pow, IsField}
-unfoldable pub use Rattle.algebra.specs.Ring.{pow}
+use mathlib.Core.Path.{_≡_, sym, _∙_, ap}
+use Rattle.algebra.specs.Ring.{CommRing}
 
 module _ (R : CommRing) where
   open CommRing R using (Carrier, zero, one, neg, add as _+_, mul as _*_)
@@ -184,39 +187,3 @@ module _ (R : CommRing) where
     neg-add-cancel,
     CANCEL,
   )
-
-  pub pow-zero : (a : Carrier) → pow R a 0 ≡ one
-  unfolding pow
-  pow-zero a = refl
-
-  pub pow-suc : (a : Carrier) (n : ℕ) → pow R a (ℕ.suc n) ≡ a * pow R a n
-  unfolding pow
-  pow-suc a n = refl
-
-  pub pow-add : (a : Carrier) (n m : ℕ) → pow R a (ℕ·._+_ n m) ≡ pow R a n * pow R a m
-  pow-add a ℕ.zero m = ap (pow R a) (N.zero-add m) ∙ sym (rw pow-zero (one-mul (pow R a m)))
-  pow-add a (ℕ.suc n) m =
-      ap (pow R a) (N.suc-add n m) ∙ pow-suc a (ℕ·._+_ n m) ∙ ap (λ x. a * x) (pow-add a n m)
-      ∙ rw (pow-suc a n) (sym (mul-assoc a (pow R a n) (pow R a m)))
-
-  pub pow-next : (a : Carrier) (n : ℕ) → pow R a n * a ≡ pow R a (ℕ·._+_ n 1)
-  pow-next a n = mul-comm (pow R a n) a ∙ sym (pow-suc a n) ∙ ap (pow R a) (sym (add-one n))
-
-  pub pow-mul : (a : Carrier) (n m : ℕ) → pow R (pow R a n) m ≡ pow R a (ℕ·._*_ n m)
-  pow-mul a n ℕ.zero = pow-zero (pow R a n) ∙ sym (ap (pow R a) (N.mul-zero n) ∙ pow-zero a)
-  pow-mul a n (ℕ.suc m) =
-      pow-suc (pow R a n) m ∙ ap (λ x. pow R a n * x) (pow-mul a n m) ∙ sym (pow-add a n (ℕ·._*_ n m))
-      ∙ ap (pow R a) (N.add-comm n (ℕ·._*_ n m) ∙ sym (N.mul-suc n m))
-
-module _ (Rg : CommRing) (K : IsField Rg) where
-  open CommRing Rg using (Carrier, zero, mul as _*_)
-
-  infixl 70 _*_
-  pub mul-left-cancel : (a b c : Carrier) → ¬ (a ≡ zero) → a * b ≡ a * c → b ≡ c
-  mul-left-cancel a b c n h = sym (go b) ∙ ap (λ x. K .inv a * x) h ∙ go c
-    where
-      go : (x : Carrier) → K .inv a * (a * x) ≡ x
-      go x = sym (mul-assoc Rg (K .inv a) a x) ∙ ap (λ y. y * x) (mul-comm Rg (K .inv a) a ∙ K .mul-inv a n) ∙ one-mul Rg x
-
-  pub zero-of-mul : (a b : Carrier) → ¬ (a ≡ zero) → a * b ≡ zero → b ≡ zero
-  zero-of-mul a b na h = mul-left-cancel a b zero na (h ∙ sym (mul-zero Rg a))

@@ -1,8 +1,9 @@
--- The rounds of Euclid's algorithm as a relation, which fixes their number.
---
--- Rounds x y k l   from the pair (x, y), k rounds lead to (l, 0). A round replaces (x, y) by (y, r), where
---                  x = q · y + r for a polynomial q, and r is 0 or of lower degree than y.
---
+-- The rounds of Euclid's algorithm as a relation.
+--     Rounds x y k l     from the pair (x, y), k rounds lead to (l, 0). A round replaces (x, y) by (y, r), where x = q · y + r for
+--                        a polynomial q, and r is 0 or of lower degree than y.
+-- Theorems (proofs/Rounds):
+--     rounds-unique     from a pair there is one number of rounds, and one last l
+--     euclid-rounds     they are those of the function euclid
 -- Assumes nothing.
 use mathlib.Core.Path.{_≡_}
 use Prim.Native.Nat.{ℕ, zero, suc}

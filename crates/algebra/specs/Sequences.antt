@@ -1,4 +1,11 @@
--- Laws: Formal series over a commutative ring R.
+-- Sequences in a commutative ring R, and the operations that make them the formal series.
+--     Sequence R      a sequence of elements, from term 0 on
+--     rest f          f without its first term
+--     sadd, sneg      sum and negative, term by term
+--     szero, sone     0, 0, 0, … and 1, 0, 0, …
+--     cauchy f g      the product: term n is the sum of f_j · g_(n-j)
+-- Theorems (specs/SequencesLaws):
+--     cauchy-comm, cauchy-assoc, cauchy-add, cauchy-one     the product keeps the laws of a commutative ring
 -- Assumes nothing.
 use Prim.Native.Nat.{ℕ, zero, suc}
 use Rattle.algebra.specs.Ring.{CommRing}

@@ -1,4 +1,8 @@
--- Laws: Formal series over a commutative ring R.
+-- The product of sequences keeps the laws of a commutative ring: by induction on the term, for all sequences at once.
+--     cauchy-right                  the product by the last term of the first factor and the rest of the second
+--     cauchy-comm, cauchy-assoc     it is commutative and associative
+--     cauchy-add                    it distributes over the sum
+--     cauchy-one                    1, 0, 0, … is its unit
 -- Assumes nothing.
 use mathlib.Core.Path.{_≡_, refl, sym, _∙_, ap, ap₂}
 use Prim.Native.Nat.{ℕ, zero, suc}

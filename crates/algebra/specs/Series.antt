@@ -1,16 +1,16 @@
 -- Formal series over a commutative ring R.
---
--- cauchy f g      the product of the sequences f and g: term n is the sum of f_j · g_(n-j)
--- seriesRing R    the sequences in R, added term by term and multiplied by cauchy: a commutative ring
--- SeriesRing R    a ring whose elements, the series, are known by their coefficients in R
--- series R        the one instance, seriesRing
--- C c             the constant c
--- t               the variable
--- tail s          s without its first coefficient, divided by t
--- constantAt, variableAt   the coefficients of C c and of t
---
+--     seriesRing R               the sequences in R, added term by term and multiplied by cauchy: a commutative ring
+--     SeriesRing R               a ring whose elements, the series, are known by their coefficients in R
+--     series R                   the one instance, seriesRing
+--     C c                        the constant c
+--     t                          the variable
+--     tail s                     s without its first coefficient, divided by t
+--     constantAt, variableAt     the coefficients of C c and of t
 -- Every theorem is over any X : SeriesRing R: its ring is then a variable's, and `simp RING` finds it.
---
+-- Theorems (proofs/Series):
+--     split               s = s_0 + t · tail s
+--     coeff-C-mul         coefficient n of c · s is c · s_n
+--     coeff-t-mul-suc     coefficient n + 1 of t · s is s_n
 -- Assumes nothing.
 use mathlib.Core.Path.{_≡_, refl, _∙_, fun-ext}
 use mathlib.Core.HLevel.{Π-set}

@@ -1,7 +1,7 @@
--- Powers of 1 + u, and degree elevation.
---
--- ⟨1+u⟩   the polynomial 1 + u. With u = t/(1-t) it is 1/(1-t), so at degree 1 it homogenises to 1.
---
+-- The polynomial 1 + u.
+--     ⟨1+u⟩     the polynomial 1 + u. With u = t/(1-t) it is 1/(1-t), so at degree 1 it homogenises to 1.
+-- Theorems (proofs/Substitute):
+--     elevate     degree elevation: (1+u)^j · s at degree j + n homogenises as s at degree n
 -- Assumes nothing.
 use Rattle.algebra.specs.Ring.{CommRing}
 use Rattle.algebra.specs.Series.{SeriesRing, t}

@@ -1,9 +1,10 @@
 -- Finite sums, of series and in a ring.
---
--- sum n f       f 0 + … + f (n-1), a sum of series
--- term n s k    s_k · t^k · (1-t)^(n-k)
--- total R n f   f 0 + … + f (n-1), in the ring R
---
+--     sum n f         f 0 + … + f (n-1), a sum of series
+--     total R n f     f 0 + … + f (n-1), in the ring R
+-- Theorems (proofs/Sum):
+--     hom-sum           the homogenisation as a sum, as document 01 writes P(t)
+--     coeff-product     coefficient n of a product is the sum of a_j · b_(n-j)
+--     valueAt-sum       the value of a sum is the sum of the values
 -- Assumes nothing.
 use Prim.Native.Nat.{ℕ, zero, suc}
 use Rattle.algebra.specs.Ring.{CommRing}

@@ -1,14 +1,6 @@
--- The numbers modulo p, a commutative ring; for a prime p, a field.
---
--- ring-mod p pos       the ring Z/p, for 0 < p: its elements are the numbers below p
--- residueMod p pos n   the element of Z/p that n stands for
--- valueMod p pos a     the number below p that is the element a
--- euclidMod            Euclid's steps on whole numbers, with one cofactor modulo p
--- inverseMod p a       the inverse of a modulo p, by these steps
--- inverse-in           the inverse in Z/p, p prime
--- Zp p prime           the ring Z/p, for a prime p
--- Zp-field p prime     the field Z/p
---
+-- The numbers modulo a prime p, a field.
+--     Zp p prime           the ring Z/p
+--     Zp-field p prime     that it is a field
 -- Assumes nothing.
 use Prim.Native.Nat.{ℕ}
 use Rattle.algebra.specs.Ring.{CommRing, IsField}

@@ -23,7 +23,8 @@ use Rattle.algebra.proofs.Degree.{size-le, size-least}
 use Rattle.algebra.specs.Division.{remainder, quotient}
 use Rattle.algebra.proofs.Division.{remainder-zero, quotient-zero}
 use Rattle.algebra.specs.Euclid.{quotientBy, remainderBy, done, next, euclid}
-use Rattle.algebra.proofs.Euclid.{euclid-end, euclid-ok, round-law, remainder-small}
+use Rattle.algebra.proofs.Euclid.{euclid-end, round-law, remainder-small}
+use Rattle.algebra.proofs.EuclidCorrect.{euclid-ok}
 use Rattle.algebra.specs.PrimeField.{PrimeField, scalarField, positive, residue, inverse}
 use Rattle.algebra.proofs.PrimeField.{residue-0}
 use Rattle.field.specs.Field.{inverseOf}

@@ -22,7 +22,8 @@ use Rattle.algebra.proofs.Monic.{monic-is, cancel, cofactors-unique}
 use Rattle.algebra.specs.PrimeField.{PrimeField, scalarField}
 use Rattle.lists.specs.Degrees.{naiveDegree, significant, extent}
 use Rattle.lists.specs.Lists.{Coefficients, meaning, scaled}
-use Rattle.lists.proofs.Scaled.{naive-length, below-scaled, below-naive, meaning-hom, length-unscaled, coefficients-unscaled, scaled-unscaled, scaled-injective}
+use Rattle.lists.proofs.Scaled.{naive-length, below-scaled, below-naive, meaning-hom}
+use Rattle.lists.proofs.Unscaled.{length-unscaled, coefficients-unscaled, scaled-unscaled, scaled-injective}
 use Rattle.lists.proofs.Extents.{significant-le, significant-extent, significant-at, significant-below, significant-least, significant-zero, significant-degree}
 use Rattle.euclid_theory.specs.Gcd.{room, identityDegree, euclidOf, gcdOf, cofactorA, cofactorB}
 use Rattle.euclid_theory.proofs.Gcd.{room-left, room-right, rounds-ok, ended, size-last, scaled-gcd, degree-gcd, gcd-left, gcd-right}

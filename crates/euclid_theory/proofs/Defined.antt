@@ -19,7 +19,8 @@ use Rattle.algebra.specs.PrimeField.{PrimeField, scalars, scalarField, residue,
 use Rattle.algebra.proofs.PrimeField.{residue-1, inverse-cancel}
 use Rattle.lists.specs.Degrees.{naiveDegree, significant, extent}
 use Rattle.lists.specs.Lists.{Coefficients, word, scaled}
-use Rattle.lists.proofs.Scaled.{coefficient-last, coeff-scaled, scaled-injective}
+use Rattle.lists.proofs.Scaled.{coefficient-last, coeff-scaled}
+use Rattle.lists.proofs.Unscaled.{scaled-injective}
 use Rattle.lists.proofs.Extents.{significant-is-size}
 use Rattle.euclid_theory.specs.Gcd.{room, euclidOf, gcdOf, roundsOf}
 use Rattle.euclid_theory.proofs.Gcd.{rounds-are, scaled-gcd, length-gcd, coefficients-gcd, degree-gcd, gcd-ends}

@@ -19,7 +19,8 @@ use Rattle.algebra.proofs.Division.{division, remainder-below, quotient-below, 
 use Rattle.algebra.specs.PrimeField.{PrimeField, scalarField, residue}
 use Rattle.lists.specs.Degrees.{naiveDegree}
 use Rattle.lists.specs.Lists.{Coefficients, word, meaning, scaled}
-use Rattle.lists.proofs.Scaled.{length-naive, naive-length, coefficient-nonzero, coefficient-last, coeff-scaled, below-scaled, below-naive, meaning-hom, length-unscaled, coefficients-unscaled, scaled-unscaled, scaled-injective}
+use Rattle.lists.proofs.Scaled.{length-naive, naive-length, coefficient-nonzero, coefficient-last, coeff-scaled, below-scaled, below-naive, meaning-hom}
+use Rattle.lists.proofs.Unscaled.{length-unscaled, coefficients-unscaled, scaled-unscaled, scaled-injective}
 use Rattle.euclid_theory.specs.Division.{steps, quotientOf, remainderOf, Equation, Divisible}
 
 module _ (F : PrimeField) where

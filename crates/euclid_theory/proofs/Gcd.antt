@@ -13,7 +13,8 @@ use Rattle.algebra.proofs.Polynomial.{below-mono}
 use Rattle.algebra.specs.Degree.{Degree, size}
 use Rattle.algebra.proofs.Degree.{size-le, size-zero, size-of, size-of-0}
 use Rattle.algebra.specs.Euclid.{done}
-use Rattle.algebra.proofs.Euclid.{EuclidOk, euclid-end, euclid-ok}
+use Rattle.algebra.proofs.Euclid.{euclid-end}
+use Rattle.algebra.proofs.EuclidCorrect.{EuclidOk, euclid-ok}
 use Rattle.algebra.specs.Rounds.{Rounds}
 use Rattle.algebra.proofs.Rounds.{euclid-rounds}
 use Rattle.algebra.specs.Monic.{monic}
@@ -21,7 +22,8 @@ use Rattle.algebra.proofs.Monic.{monic-top, monic-degree, monic-divides}
 use Rattle.algebra.specs.PrimeField.{PrimeField, scalarField}
 use Rattle.lists.specs.Degrees.{naiveDegree, significant, extent}
 use Rattle.lists.specs.Lists.{Coefficients, scaled}
-use Rattle.lists.proofs.Scaled.{naive-length, below-scaled, length-unscaled, coefficients-unscaled, scaled-unscaled, last-one}
+use Rattle.lists.proofs.Scaled.{naive-length, below-scaled, last-one}
+use Rattle.lists.proofs.Unscaled.{length-unscaled, coefficients-unscaled, scaled-unscaled}
 use Rattle.lists.proofs.Extents.{significant-at}
 use Rattle.euclid_theory.specs.Gcd.{room, euclidOf, gcdOf, roundsOf}
 

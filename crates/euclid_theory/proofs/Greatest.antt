@@ -11,7 +11,7 @@ use Rattle.algebra.specs.Ring.{CommRing}
 use Rattle.algebra.specs.Polynomial.{Polynomial, Divides}
 use Rattle.algebra.proofs.Polynomial.{divides-0}
 use Rattle.algebra.specs.OneMinusT.{⟨1-t⟩^}
-use Rattle.algebra.proofs.OneMinusT.{Split, split-unique, split-nonzero}
+use Rattle.algebra.proofs.Factors.{Split, split-unique, split-nonzero}
 use Rattle.algebra.specs.Homogenise.{hom}
 use Rattle.algebra.proofs.Homogenise.{hom-0}
 use Rattle.algebra.specs.Degree.{Degree}

@@ -1,4 +1,7 @@
--- What the rows of a call on two operands give, for operands that are loose and for operands that are not.
+-- What the rows of a call on two operands give.
+--     first-loose, second-loose     operands that are loose
+--     none-loose                    operands that are not
+--     reduced                       a second operand that is not refused is below p, so the difference needs no remainder of it
 -- Assumes nothing.
 use mathlib.Core.Path.{_≡_, sym, _∙_}
 use Prim.Native.Nat.{ℕ, _+_, _-_, _%_, _≤_, _<_}

@@ -1,11 +1,12 @@
 -- Laws of the fields by their numbers.
---     p-at                                field k's p is modulus k
---     modulus-first, modulus-second, modulus-third      p by the field's number; third k: a number that is neither 0 nor 1 is 2 more than another
---     modulus-some, modulus-half, modulus-high          p is above 0, at least half of 2^16, and at most the largest, that of field 0
---     word-inverse, square-is, fourth-is                the constants are what their names say
---     longest-more, longest-some                        the longest list has more than 1 word
---     longest-fits, longest-in, longest-room            it has at most p words, and at most as many as the limit
---     longest-0, longest-full                           that of field 0 is the limit, and that of each field reaches it
+--     p-at                                             field k's p is modulus k
+--     modulus-first, modulus-second, modulus-third     p by the field's number: 0, 1, or neither
+--     third                                            a number that is neither 0 nor 1 is 2 more than another
+--     modulus-some, modulus-half, modulus-high         p is above 0, at least half of 2^16, and at most that of field 0
+--     word-inverse, square-is, fourth-is               the constants are what their names say
+--     longest-more, longest-some                       the longest list has more than 1 word
+--     longest-fits, longest-in, longest-room           it has at most p words, and at most as many as the limit
+--     longest-0, longest-full                          that of field 0 is the limit, and that of each field reaches it
 -- Assumes nothing.
 use mathlib.Core.Path.{_≡_, refl}
 use Prim.Native.Nat.{ℕ, zero, suc, _-_, _*_, _%_, _≤_, _<_}

@@ -1,4 +1,5 @@
--- The product of two words fits 32 bits, and a third word still fits beside it.
+-- Words of 16 bits.
+--     product-le     the product of two words fits 32 bits, and a third word still fits beside it
 -- Assumes nothing.
 use Prim.Native.Nat.{ℕ, _*_, _<_, _≤_}
 use native.Mathlib.Nat.{mul-le-mul}

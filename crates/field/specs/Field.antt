@@ -1,12 +1,22 @@
 -- The arithmetic of coefficients: words below p, with sum, difference, product and inverse modulo p.
---     loose               a loose word: p or more, so no coefficient
---     wordReply           what a Word answers: 0 and the word, or the refusal's number
---     sumOf, differenceOf, productOf      the sum, difference and product of two coefficients modulo p
---     IsInverse p a b     b is the inverse of a: from 1 to p - 1, a · b leaves 1 modulo p, and no other such word does
---     inverseOf           the inverse of a coefficient, as the field Z/p has it
---     inverseOrZero       the inverse of a coefficient that is not 0; else 0
---     hasInverse          some word below p is an inverse of a
---     operandRefusals, inverseRefusals    the rows of document 01's table for a call on two operands, and for the inverse
+--     loose p a                 a loose word: p or more, so no coefficient
+--     wordReply word            what a Word answers: 0 and the word, or the refusal's number
+--     sumOf p a b               the sum of two coefficients modulo p
+--     differenceOf p a b        the difference
+--     productOf p a b           the product
+--     IsInverse p a b           b is the inverse of a: from 1 to p - 1, a · b leaves 1 modulo p, and no other such word does
+--     inverseOf F a             the inverse of a coefficient, as the field Z/p has it
+--     inverseOrZero F a         the inverse of a coefficient that is not 0; else 0
+--     hasInverseBelow p a n     some word below n is an inverse of a
+--     hasInverse p a            some word below p is
+--     operandRefusals p a b     the rows of document 01's table for a call on two operands
+--     inverseRefusals p a       those for the inverse
+-- Theorems (proofs/Theorems), on words below p, for every prime field:
+--     residue-sum, residue-difference, residue-product, residue-inverse     each operation is the field's, on residues
+--     sum-lt, difference-lt, product-lt                                     each result is a coefficient
+--     inverse-is                                                            every coefficient but 0 has its inverse, and inverseOf
+--                                                                           is it
+--     has-inverse                                                           so none but 0 is refused for lack of one
 -- Assumes nothing.
 use mathlib.Core.Path.{_≡_}
 use mathlib.Core.Bool.{Bool, false, cond, not, _&&_, _||_}

@@ -1,4 +1,5 @@
--- The fields of the engine by their numbers. Every number has a field, so that what takes one is total; the calls say which numbers they take.
+-- The fields of the engine by their numbers. Every number has a field, so that what takes one is total; the calls say which numbers
+-- they take.
 --     modulus k         p of field k: 65,521, 65,519, and 65,497 for 2 and above
 --     prime-at k        p is prime, by trial division
 --     fieldAt k         field k
@@ -8,6 +9,9 @@
 --     fourth k          2^64 modulo p
 --     p, F65521         document 01's p and its field: those of field 0
 --     computes          stands for all that a closed computation over a field has to open: say `unfolding computes`
+-- Theorems (proofs/FieldsLaws):
+--     word-inverse, square-is, fourth-is     the constants are what their names say
+--     longest-fits                           no list over a field has more than p words
 -- Assumes nothing.
 use mathlib.Core.Bool.{Bool, true}
 use Prim.Native.Nat.{ℕ, zero, suc}

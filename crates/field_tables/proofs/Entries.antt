@@ -1,4 +1,8 @@
 -- The tables of factorials and of their inverses: one test over each, computed, makes its entries those of the definition.
+--     rightFactorials p l     entry 0 is 1, and each entry times the number of the next is the next
+--     rightInverses p l       the same of inverses, the other way round
+-- Theorems:
+--     factorials-hold, inverses-hold     a table that passes holds the factorials, or their inverses
 -- Assumes nothing.
 use mathlib.Core.Path.{_≡_, sym, ap, ap₂, _∙_, subst}
 use mathlib.Core.Bool.{Bool, true, _&&_}
@@ -15,7 +19,7 @@ use Rattle.algebra.specs.RingLaws.{AC}
 use Rattle.algebra.specs.PrimeField.{PrimeField, scalars, residue, inverse}
 use Rattle.algebra.proofs.PrimeField.{residue-1, residue-mul-mod, inverse-cancel′}
 use Rattle.field_tables.specs.Factorials.{factorialIn, inverseFactorialIn, Holds}
-use Rattle.field_tables.proofs.Rising.{factorial-start, factorial-next, factorial-nonzero}
+use Rattle.field_tables.proofs.FactorialLaws.{factorial-start, factorial-next, factorial-nonzero}
 
 -- a rule on each entry and the next; k counts on from entry to entry
 abbrev steps : (ℕ → ℕ → ℕ → Bool) → ℕ → List ℕ → Bool

@@ -1,4 +1,7 @@
 -- A table of inverses: one test over its entries, computed, makes it the table of the definition.
+--     rightTable p l     entry 0 is 0, k times entry k leaves 1 modulo p, and the table ends before p
+-- Theorem:
+--     table-is     a table that passes is `inverseTable`
 -- Assumes nothing.
 use mathlib.Core.Path.{_≡_, refl, sym, ap, ap₂, _∙_, subst}
 use mathlib.Core.Bool.{Bool, true, false, _&&_}
@@ -6,7 +9,7 @@ use mathlib.Core.List.{List, [], _∷_}
 use Prim.Native.Nat.{ℕ, suc, _+_, _*_, _%_, _≤_, _<_}
 use native.Mathlib.Omega.{arith}
 use lib.Dec.{T, ltb, eqb, eqb→eq, ltb→lt}
-use lib.ListN.{length, getD}
+use lib.ListN.{length}
 use mir.Facts.{and-yes}
 use Rattle.algebra.specs.PrimeField.{PrimeField}
 use Rattle.field_tables.specs.Inverses.{inversesFrom, inverseTable}

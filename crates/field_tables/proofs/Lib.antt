@@ -1,3 +1,4 @@
-pub mod Rising
+pub mod FactorialLaws
 pub mod Entries
+pub mod InverseLaws
 pub mod InverseEntries

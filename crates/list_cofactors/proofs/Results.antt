@@ -28,7 +28,7 @@ use Rattle.refusal.proofs.Answers.{result}
 use Rattle.lists.specs.declared.NaiveDegree.{NaiveDegree}
 use Rattle.lists.specs.declared.Power.{Power}
 use Rattle.lists.proofs.Tabulate.{tabulate-ext}
-use Rattle.lists.proofs.Scaled.{length-unscaled}
+use Rattle.lists.proofs.Unscaled.{length-unscaled}
 use Rattle.euclid_theory.specs.Gcd.{euclidOf, gcdOf, commonPower, cofactorA, cofactorB}
 use Rattle.lists.specs.Padded.{padded}
 use Rattle.euclid_theory.proofs.Cofactors.{cofactors-are, cofactors-only}

@@ -16,8 +16,9 @@ use Rattle.lists.specs.Lists.{binomial, scaled, unscaled}
 use Rattle.lists.specs.Operations.{product, raise}
 use Rattle.lists.specs.Words.{seriesOf}
 use Rattle.lists.proofs.Words.{coeff-seriesOf, scaledWords, length-scaledWords, seriesOf-scaledWords}
-use Rattle.lists.proofs.Products.{ones}
-use Rattle.lists.proofs.Products.{product-unscaled, raise-product}
+use Rattle.lists.proofs.Raises.{ones}
+use Rattle.lists.proofs.Products.{product-unscaled}
+use Rattle.lists.proofs.Raises.{raise-product}
 use Rattle.field_tables.specs.Factorials.{Tables}
 use Rattle.word_scaling.specs.Kernels.{weighFits, weighted}
 use Rattle.word_scaling.proofs.Weights.{scale-is, unscale-is}

@@ -20,7 +20,7 @@ use Rattle.lists.specs.Lists.{word}
 use Rattle.lists.specs.Operations.{raise, largerDegree, sumOf, differenceOf}
 use Rattle.lists.specs.Refused.{IsList}
 use Rattle.lists.proofs.Words.{value-is}
-use Rattle.lists.proofs.Products.{length-raise}
+use Rattle.lists.proofs.Raises.{length-raise}
 use Rattle.list_product.specs.Calls.{raiseRows}
 use Rattle.list_product.proofs.Judged.{raise-completes}
 use Rattle.list_sum.specs.Internal.{SumFits, combinedWords, combined}

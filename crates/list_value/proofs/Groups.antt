@@ -8,7 +8,8 @@ use native.Mathlib.Omega.{arith}
 use lib.ListN.{getD}
 use Rattle.algebra.specs.RingLaws as R
 use Rattle.algebra.specs.Ring.{CommRing, pow}
-use Rattle.algebra.specs.RingLaws.{RING, pow-zero, pow-suc, pow-add, pow-mul}
+use Rattle.algebra.specs.RingLaws.{RING}
+use Rattle.algebra.proofs.Ring.{pow-zero, pow-suc, pow-add, pow-mul}
 use Rattle.algebra.specs.Sum.{total}
 use Rattle.algebra.proofs.Sum.{total-zero, total-snoc, total-ext}
 use Rattle.algebra.specs.PrimeField.{PrimeField, scalars, residue}

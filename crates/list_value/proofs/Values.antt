@@ -10,7 +10,8 @@ use native.Mathlib.Omega.{arith}
 use lib.ListN.{length, getD}
 use Rattle.algebra.specs.RingLaws as R
 use Rattle.algebra.specs.Ring.{CommRing, pow}
-use Rattle.algebra.specs.RingLaws.{RING, pow-zero, pow-suc, pow-next}
+use Rattle.algebra.specs.RingLaws.{RING}
+use Rattle.algebra.proofs.Ring.{pow-zero, pow-suc, pow-next}
 use Rattle.algebra.specs.Sum.{total}
 use Rattle.algebra.proofs.Sum.{total-zero, total-snoc, total-ext, total-mul}
 use Rattle.algebra.specs.PrimeField.{PrimeField, positive, scalars, residue, value}

@@ -7,7 +7,7 @@ use native.Mathlib.Nat.{mod-lt}
 use native.Mathlib.Omega.{arith}
 use lib.ListN.{length, getD}
 use Rattle.algebra.specs.Ring.{CommRing, pow}
-use Rattle.algebra.specs.RingLaws.{pow-zero, pow-next}
+use Rattle.algebra.proofs.Ring.{pow-zero, pow-next}
 use Rattle.algebra.specs.PrimeField.{PrimeField, positive, scalars, residue}
 use Rattle.algebra.proofs.PrimeField.{residue-value, residue-1}
 use Rattle.lists.proofs.Tabulate.{length-tabulate, getD-tabulate}

@@ -1,4 +1,9 @@
--- Laws: Words as bytes: two bytes to a word, low byte first.
+-- Words as bytes.
+--     length-wordsOf, getD-wordsOf     the words of some bytes
+--     bytes-word                       word j of the bytes of a list, whatever follows them
+-- Theorems:
+--     words-of-bytes     the bytes of some words read back as these words
+--     bytes-words        the bytes of words of 16 bits are bytes
 -- Assumes nothing.
 use mathlib.Core.Path.{_≡_, refl, sym, _∙_, ap, ap₂}
 use mathlib.Core.List.{List, [], _∷_, _++_, append-nil}

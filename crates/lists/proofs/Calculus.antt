@@ -1,5 +1,7 @@
--- The derivative of a list means the derivative, and a list is evaluated to the value of its meaning.
---     derivative-meaning, evaluate-meaning      the theorems
+-- The derivative of a list, and its value at a word.
+-- Theorems:
+--     derivative-meaning     the derivative means the derivative of the meaning
+--     evaluate-meaning       the value at x is that of the meaning
 -- Assumes nothing.
 use mathlib.Core.Path.{_≡_, refl, sym, _∙_, ap, ap₂}
 use mathlib.Core.Bool.{cond}
@@ -24,7 +26,8 @@ use Rattle.algebra.specs.Choose.{choose}
 use Rattle.algebra.proofs.Choose.{choose-suc-suc, choose-suc}
 use Rattle.algebra.specs.Derivative as D
 use Rattle.algebra.specs.Derivative.{multiple, scaledDerivative}
-use Rattle.algebra.proofs.Derivative.{multiple-residue, coeff-scaledDerivative, derivative-C, derivative-hom}
+use Rattle.algebra.proofs.Derivative.{coeff-scaledDerivative, derivative-C, derivative-hom}
+use Rattle.algebra.proofs.Multiple.{multiple-residue}
 use Rattle.algebra.specs.PrimeField.{PrimeField, scalars, positive, residue, value}
 use Rattle.algebra.proofs.PrimeField.{residue-value, value-lt, residue-mul}
 use Rattle.lists.specs.Tabulate.{tabulate}

@@ -1,8 +1,11 @@
--- The extent and the power of a list are what document 01 says: the extent is the largest k whose word is not 0, and the power is the
--- exact number of factors 1-t of the meaning. The number of significant words is the size of the scaled form.
---     extent-largest         the extent
---     power-exact            the power
---     significant-is-size    the number of significant words
+-- The extent and the power of a list are what document 01 says, and the number of significant words is the size of the scaled form.
+--     significantIn-zero, significantIn-nonzero     the search from the top, one word on
+--     after-significant                             every word past the significant ones is 0
+--     significant-degree                            the extent is the degree of the scaled form
+-- Theorems:
+--     extent-largest          the extent is the largest k whose word is not 0
+--     power-exact             the power is the exact number of factors 1-t of the meaning
+--     significant-is-size     the number of significant words is the size of the scaled form
 -- Assumes nothing.
 use mathlib.Core.Path.{_≡_, refl, sym, _∙_, ap}
 use mathlib.Core.Bool.{cond}
@@ -16,7 +19,7 @@ use borrow.Author.Tests.{eq-eqb, ne-eqb}
 use Rattle.algebra.specs.Ring.{CommRing}
 use Rattle.algebra.specs.Polynomial.{Below}
 use Rattle.algebra.proofs.Polynomial.{below-mono, zero-of-below}
-use Rattle.algebra.proofs.OneMinusT.{Split}
+use Rattle.algebra.proofs.Factors.{Split}
 use Rattle.algebra.specs.Homogenise.{hom}
 use Rattle.algebra.proofs.Homogenise.{hom-strip, valueAt1-hom}
 use Rattle.algebra.specs.Degree.{Degree, size}

@@ -1,4 +1,6 @@
--- A list that a loop fills with the words of another list: it holds those below i.
+-- A list that a loop fills with the words of another list.
+--     Filled l i target                   l holds the words of the target below i
+--     fill-start, fill-step, fill-end     before the loop, after one more word, and at its end
 -- Assumes nothing.
 use mathlib.Core.Path.{_≡_, _∙_}
 use mathlib.Core.List.{List}

@@ -1,4 +1,7 @@
--- What a call refuses in its lists, as the chain of tests that the code makes, and what a call that refuses nothing knows of them.
+-- What a call refuses in its lists, and what a call that refuses nothing knows of them.
+--     judged                     the lowest number that applies, as the chain of tests that the code makes
+--     one-listed, two-listed     the lists of a call that refuses nothing have 1 to `most` words, each below p
+--     one-passes                 such a list is not refused
 -- Assumes nothing.
 use mathlib.Core.Path.{_≡_, sym, _∙_}
 use mathlib.Core.Bool.{false}
@@ -23,23 +26,23 @@ module _ (p most : ℕ) (big : 0 < p) where
   listed : (c : List ℕ) → wrongLength most c ≡ false → hasLoose p c ≡ false → IsList p most c
   unfolding wrongLength
   listed c e l =
-      let h = or-false (eqb (length c) 0) (ltb most (length c)) e in
-      let z = eqb-false (length c) 0 (h .0) in
-      record { some = omega arith; short = ltb-false most (length c) (h .1); words = none-loose p c big l }
+      let tests = or-false (eqb (length c) 0) (ltb most (length c)) e in
+      let words = eqb-false (length c) 0 (tests .0) in
+      record { some = omega arith; short = ltb-false most (length c) (tests .1); words = none-loose p c big l }
 
   pub one-listed : (f : List ℕ) → lowest (listRefusals p most (f ∷ [])) ≡ Done → IsList p most f
   one-listed f e =
-      let h = refuse-done (anyOf (wrongLength most) (f ∷ [])) _ _ (sym (judged p most (f ∷ [])) ∙ e) in
-      let l = refuse-done (anyOf (hasLoose p) (f ∷ [])) _ _ (h .1) in
-      listed f (or-false (wrongLength most f) false (h .0) .0) (or-false (hasLoose p f) false (l .0) .0)
+      let lengths = refuse-done (anyOf (wrongLength most) (f ∷ [])) _ _ (sym (judged p most (f ∷ [])) ∙ e) in
+      let words = refuse-done (anyOf (hasLoose p) (f ∷ [])) _ _ (lengths .1) in
+      listed f (or-false (wrongLength most f) false (lengths .0) .0) (or-false (hasLoose p f) false (words .0) .0)
 
   pub two-listed : (f g : List ℕ) → lowest (listRefusals p most (f ∷ g ∷ [])) ≡ Done → IsList p most f × IsList p most g
   two-listed f g e =
-      let h = refuse-done (anyOf (wrongLength most) (f ∷ g ∷ [])) _ _ (sym (judged p most (f ∷ g ∷ [])) ∙ e) in
-      let l = refuse-done (anyOf (hasLoose p) (f ∷ g ∷ [])) _ _ (h .1) in
-      let hf = or-false (wrongLength most f) (anyOf (wrongLength most) (g ∷ [])) (h .0) in
-      let lf = or-false (hasLoose p f) (anyOf (hasLoose p) (g ∷ [])) (l .0) in
-      (listed f (hf .0) (lf .0), listed g (or-false (wrongLength most g) false (hf .1) .0) (or-false (hasLoose p g) false (lf .1) .0))
+      let lengths = refuse-done (anyOf (wrongLength most) (f ∷ g ∷ [])) _ _ (sym (judged p most (f ∷ g ∷ [])) ∙ e) in
+      let words = refuse-done (anyOf (hasLoose p) (f ∷ g ∷ [])) _ _ (lengths .1) in
+      let first-length = or-false (wrongLength most f) (anyOf (wrongLength most) (g ∷ [])) (lengths .0) in
+      let first-words = or-false (hasLoose p f) (anyOf (hasLoose p) (g ∷ [])) (words .0) in
+      (listed f (first-length .0) (first-words .0), listed g (or-false (wrongLength most g) false (first-length .1) .0) (or-false (hasLoose p g) false (first-words .1) .0))
 
 -- a list that no call refuses passes
 module _ (p most : ℕ) (c : List ℕ) (l : IsList p most c) where

@@ -1,5 +1,8 @@
--- The loop that takes the largest word of a list, one word on: the largest word so far and the words that are left tell whether the list
--- has a loose word.
+-- The loop that takes the largest word of a list: the largest word so far and the words that are left tell whether the list has a
+-- loose word.
+--     looseFrom c m i                 m or a word of c from i on is loose
+--     loose-start, loose-end          before the loop and at its end
+--     loose-larger, loose-smaller     one word on
 -- Assumes nothing.
 use mathlib.Core.Path.{_≡_}
 use mathlib.Core.Bool as bool

@@ -1,4 +1,6 @@
--- A list followed by zeros: its length, and its words one by one.
+-- A list followed by zeros.
+--     length-padded, getD-padded     its length, and its words one by one
+--     padded-is                      n words that agree with c, and with 0 past its end, are c followed by zeros
 -- Assumes nothing.
 use mathlib.Core.Path.{_≡_, sym, _∙_}
 use mathlib.Core.List.{List}

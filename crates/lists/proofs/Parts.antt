@@ -1,4 +1,6 @@
--- The length of a part of an array, and the words of a list with zeros after it.
+-- Parts of arrays.
+--     prefix-length       the length of the first k words
+--     getD-then-zeros     the words of a list with zeros after it
 -- Assumes nothing.
 use mathlib.Core.Path.{_≡_, sym, _∙_, ap}
 use mathlib.Core.List.{List, _++_}

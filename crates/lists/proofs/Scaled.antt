@@ -1,8 +1,15 @@
--- Laws of the scaled form of a list, and of the list that has a given scaled form. At naive degree n the meaning is the scaled form
--- homogenised, so a list is known by its length with its scaled form, or with its meaning.
---     meaning-hom                              the meaning is the scaled form, homogenised
---     scaled-unscaled, unscaled-scaled         the list of a scaled form, and the scaled form of a list, each undo the other
---     scaled-injective, meaning-injective      two lists of one length with one scaled form, or with one meaning, are equal word for word
+-- The scaled form of a list: at naive degree n the meaning is the scaled form homogenised.
+--     length-naive, naive-length                a list of n + 1 words has naive degree n
+--     coefficients, coefficients-listed         when words are coefficients; those of a list that no call refuses are
+--     binomial-nonzero, binomial-above          no binomial coefficient of a list of at most p words is 0 in the field; past the
+--                                               list they are
+--     coefficient-zero, coefficient-nonzero     a coefficient of the scaled form is 0 where its word is, and only there
+--     coefficient-last, last-one                the last coefficient is the last word, so a list whose scaled form ends in 1 ends
+--                                               in 1
+--     coeff-scaled, below-scaled                the coefficients of the scaled form, and its bound
+-- Theorems:
+--     meaning-hom            the meaning is the scaled form, homogenised at the naive degree
+--     polynomial-meaning     the meaning is a polynomial
 -- Assumes nothing.
 use mathlib.Core.Path.{_≡_, sym, _∙_, ap, ap₂, subst}
 use mathlib.Core.List.{List, [], _∷_}
@@ -10,24 +17,23 @@ use Prim.Native.Nat.{ℕ, suc, _-_, _≤_, _<_, zero-le}
 use native.Mathlib.Decide.{decLt}
 use native.Mathlib.Omega.{arith}
 use lib.ListN.{getD, length, List·getD-eq-default}
-use lib.Seq.{ext-getD}
 use Rattle.algebra.specs.RingLaws as R
 use Rattle.algebra.specs.Ring.{CommRing, pow}
+use Rattle.algebra.proofs.Ring.{zero-of-mul}
 use Rattle.algebra.specs.Series.{C, t}
-use Rattle.algebra.proofs.Series.{coeff-mk, ext, C-zero}
+use Rattle.algebra.proofs.Series.{coeff-mk, C-zero}
 use Rattle.algebra.specs.Polynomial.{Below, Polynomial}
 use Rattle.algebra.proofs.Polynomial.{below-mono}
 use Rattle.algebra.specs.OneMinusT.{⟨1-t⟩^}
 use Rattle.algebra.specs.Homogenise.{hom}
-use Rattle.algebra.proofs.Homogenise.{hom-zero, hom-eq, polynomial-hom}
+use Rattle.algebra.proofs.Homogenise.{hom-zero, polynomial-hom}
 use Rattle.algebra.proofs.Sum.{sum-zero, sum-ext, term, hom-sum}
 use Rattle.algebra.proofs.Choose.{choose-above, choose-self}
-use Rattle.algebra.specs.PrimeField.{PrimeField, scalars, scalarField, positive, residue, value, inverse}
-use Rattle.algebra.proofs.PrimeField.{residue-value, value-residue, value-lt, residue-0, residue-1, residue-nonzero, choose-residue-nonzero, inverse-cancel, inverse-cancel′}
-use Rattle.lists.proofs.Tabulate.{length-tabulate, getD-tabulate}
+use Rattle.algebra.specs.PrimeField.{PrimeField, scalars, scalarField, positive, residue, value}
+use Rattle.algebra.proofs.PrimeField.{value-residue, residue-0, residue-1, residue-nonzero, choose-residue-nonzero}
 use Rattle.lists.specs.Degrees.{naiveDegree}
 use Rattle.lists.specs.Refused.{IsList}
-use Rattle.lists.specs.Lists.{Coefficients, word, binomial, scaledCoefficient, meaning, scaled, unscaled}
+use Rattle.lists.specs.Lists.{Coefficients, word, binomial, scaledCoefficient, meaning, scaled}
 
 pub length-naive : (c : List ℕ) → 0 < length c → length c ≡ suc (naiveDegree c)
 unfolding naiveDegree
@@ -71,7 +77,7 @@ module _ (F : PrimeField) where
       ap (λ x. residue F x ⊗ binomial F (naiveDegree c) k) e ∙ ap (λ x. x ⊗ binomial F (naiveDegree c) k) (residue-0 F)
       ∙ R.zero-mul (scalars F) _
 
-  coefficient-out : (c : List ℕ) (k : ℕ) → length c ≤ k → scaledCoefficient F c k ≡ 𝟘
+  pub coefficient-out : (c : List ℕ) (k : ℕ) → length c ≤ k → scaledCoefficient F c k ≡ 𝟘
   coefficient-out c k l = coefficient-zero c k (List·getD-eq-default c 0 l)
 
   -- and only there
@@ -80,7 +86,7 @@ module _ (F : PrimeField) where
   coefficient-nonzero c k g l h e =
       let s = g .short in
       binomial-nonzero (length c - 1) k (omega arith) (omega arith)
-      (R.zero-of-mul (scalars F) (scalarField F) (residue F (getD c k 0)) (binomial F (length c - 1) k) (residue-nonzero F (getD c k 0) (g .below k) h) e)
+      (zero-of-mul (scalars F) (scalarField F) (residue F (getD c k 0)) (binomial F (length c - 1) k) (residue-nonzero F (getD c k 0) (g .below k) h) e)
 
   -- the last coefficient is the last word
   pub coefficient-last : (c : List ℕ) → scaledCoefficient F c (naiveDegree c) ≡ word F c (naiveDegree c)
@@ -137,71 +143,3 @@ module _ (F : PrimeField) where
   pub polynomial-meaning : (c : List ℕ) → Polynomial (F .series) (meaning F c)
   polynomial-meaning c =
       subst (λ s. Polynomial (F .series) s) (sym (meaning-hom c)) (polynomial-hom (F .series) (naiveDegree c) (scaled F c))
-
-  pub length-unscaled : (n : ℕ) (s : S) → length (unscaled F n s) ≡ n
-  unfolding unscaled
-  length-unscaled n s = length-tabulate n _
-
-  pub getD-unscaled : (n : ℕ) (s : S) (k : ℕ) → k < n
-      → getD (unscaled F n s) k 0 ≡ value F (F .series .coeff s k ⊗ inverse F (binomial F (n - 1) k))
-  unfolding unscaled
-  getD-unscaled n s k l = getD-tabulate n _ k l
-
-  pub coefficients-unscaled : (n : ℕ) (s : S) → n ≤ F .p → Coefficients F (unscaled F n s)
-  coefficients-unscaled n s l =
-      coefficients (rw (length-unscaled n s) l)
-      (λ k j. rw (getD-unscaled n s k (rw (length-unscaled n s) at j)) (value-lt F _))
-
-  pub scaled-unscaled : (n : ℕ) {s : S} → n ≤ F .p → Below (F .series) n s → scaled F (unscaled F n s) ≡ s
-  unfolding scaledCoefficient word naiveDegree
-  scaled-unscaled n {s} l h = ext (F .series) _ _ λ k. coeff-scaled (unscaled F n s) k ∙ go k (decLt k n)
-    where
-      go : (k : ℕ) → Dec (k < n) → scaledCoefficient F (unscaled F n s) k ≡ F .series .coeff s k
-      go k (yes j) =
-          ap₂ (λ x m. residue F x ⊗ binomial F (m - 1) k) (getD-unscaled n s k j) (length-unscaled n s)
-          ∙ ap (λ x. x ⊗ binomial F (n - 1) k) (residue-value F _)
-          ∙ inverse-cancel F (F .series .coeff s k) (binomial F (n - 1) k) (binomial-nonzero (n - 1) k (omega arith) (omega arith))
-      go k (no j) =
-          coefficient-out (unscaled F n s) k (let e = length-unscaled n s in omega arith) ∙ sym (h .at k (omega arith))
-
-  word-back : (c : List ℕ) (k : ℕ) → Coefficients F c → k < length c
-      → scaledCoefficient F c k ⊗ inverse F (binomial F (length c - 1) k) ≡ residue F (getD c k 0)
-  unfolding scaledCoefficient word naiveDegree
-  word-back c k g l =
-      let s = g .short in
-      inverse-cancel′ F (residue F (getD c k 0)) (binomial F (length c - 1) k) (binomial-nonzero (length c - 1) k (omega arith) (omega arith))
-
-  pub unscaled-scaled : (c : List ℕ) → Coefficients F c → unscaled F (length c) (scaled F c) ≡ c
-  unscaled-scaled c g =
-      ext-getD 0 _ _ (length-unscaled (length c) (scaled F c)) λ k l. same k (rw (length-unscaled (length c) (scaled F c)) at l)
-    where
-      same : (k : ℕ) → k < length c → getD (unscaled F (length c) (scaled F c)) k 0 ≡ getD c k 0
-      same k l =
-          getD-unscaled (length c) (scaled F c) k l
-          ∙ ap (λ x. value F (x ⊗ inverse F (binomial F (length c - 1) k))) (coeff-scaled c k)
-          ∙ ap (value F) (word-back c k g l) ∙ value-residue F (getD c k 0) (g .below k)
-
-  -- two lists of one length with one scaled form are equal
-  pub scaled-injective : (c c′ : List ℕ) → Coefficients F c → Coefficients F c′ → length c ≡ length c′
-      → scaled F c ≡ scaled F c′ → c ≡ c′
-  scaled-injective c c′ g g′ l e = sym (unscaled-scaled c g) ∙ ap₂ (unscaled F) l e ∙ unscaled-scaled c′ g′
-
-  -- two lists of one naive degree with one meaning are equal word for word
-  pub meaning-injective : (c c′ : List ℕ) → Coefficients F c → Coefficients F c′ → length c ≡ length c′
-      → meaning F c ≡ meaning F c′ → c ≡ c′
-  meaning-injective c c′ g g′ l e = scaled-injective c c′ g g′ l (hom-eq (F .series) (naiveDegree c) (below-naive c) bound same)
-    where
-      d : naiveDegree c ≡ naiveDegree c′
-      d = unfold naiveDegree in ap (λ n. n - 1) l
-
-      bound : Below (F .series) (suc (naiveDegree c)) (scaled F c′)
-      bound = rw d (below-naive c′)
-
-      same : hom (F .series) (naiveDegree c) (scaled F c) ≡ hom (F .series) (naiveDegree c) (scaled F c′)
-      same = sym (meaning-hom c) ∙ e ∙ meaning-hom c′ ∙ ap (λ n. hom (F .series) n (scaled F c′)) (sym d)
-
-  -- a list of n + 1 words means its scaled form, homogenised at n
-  pub meaning-unscaled : (n : ℕ) {s : S} → n < F .p → Below (F .series) (suc n) s → meaning F (unscaled F (suc n) s) ≡ hom (F .series) n s
-  meaning-unscaled n {s} l h =
-      meaning-hom _
-      ∙ ap₂ (hom (F .series)) (naive-length (unscaled F (suc n) s) n (length-unscaled (suc n) s)) (scaled-unscaled (suc n) l h)

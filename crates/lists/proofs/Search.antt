@@ -1,4 +1,6 @@
--- A list in which no loose word is found, and the search from the top for the last word that is not 0, one word on.
+-- Searches in a list, one word on.
+--     none-loose, tight                                      no loose word is found where each word is below p, and only there
+--     significant-here, significant-on, significant-none     the search from the top for the last word that is not 0
 -- Assumes nothing.
 use mathlib.Core.Path.{_≡_, refl, sym, ap, _∙_}
 use mathlib.Core.Bool.{false}

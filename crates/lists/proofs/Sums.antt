@@ -1,6 +1,7 @@
--- The sum and the difference of two lists mean the sum and the difference.
---     sum-meaning, difference-meaning      the theorems
--- Both come from one argument: the list of f plus s times g, s being 1 or -1.
+-- The sum and the difference of two lists, by one argument: the list of f plus s times g, s being 1 or -1.
+-- Theorems:
+--     sum-meaning            the sum means the sum
+--     difference-meaning     the difference means the difference
 -- Assumes nothing.
 use mathlib.Core.Path.{_≡_, sym, _∙_, ap, ap₂}
 use mathlib.Core.List.{List}
@@ -23,7 +24,7 @@ use Rattle.lists.specs.Degrees.{naiveDegree}
 use Rattle.lists.specs.Lists.{Coefficients, word, binomial, meaning, scaled}
 use Rattle.lists.specs.Operations.{raise, largerDegree, sumOf, differenceOf}
 use Rattle.lists.proofs.Scaled.{naive-length, coefficients, coeff-scaled-at, meaning-hom-at}
-use Rattle.lists.proofs.Products.{length-raise, naive-raise, raise-meaning}
+use Rattle.lists.proofs.Raises.{length-raise, naive-raise, raise-meaning}
 
 module _ (F : PrimeField) where
   open CommRing (scalars F) using (Carrier as K, zero as 𝟘, one as 𝟙, neg as ⊖_, add as _⊕_, mul as _⊗_)

@@ -1,4 +1,7 @@
--- Laws: A list given by a rule.
+-- Laws of a list given by a rule.
+--     length-tabulate, getD-tabulate     its length and its words
+--     tabulated                          a list of n words that follows the rule is the tabulated one
+--     tabulate-ext                       two rules that agree below n
 -- Assumes nothing.
 use mathlib.Core.Path.{_≡_, refl, sym, _∙_, ap}
 use mathlib.Core.List.{List}

@@ -1,5 +1,7 @@
 -- The top zeros removed: the same scaled form at the least naive degree, so the meaning loses its factors 1-t.
---     trim-scaled, trim-meaning      the theorems
+-- Theorems:
+--     trim-scaled      the scaled form is the same
+--     trim-meaning     the meaning is (1-t)^power times that of the trimmed list
 -- Assumes nothing.
 use mathlib.Core.Path.{_≡_, sym, _∙_, ap, ap₂}
 use mathlib.Core.List.{List}
@@ -14,7 +16,8 @@ use Rattle.algebra.specs.PrimeField.{PrimeField}
 use Rattle.lists.specs.Degrees.{naiveDegree, significant, extent, power}
 use Rattle.lists.specs.Lists.{Coefficients, meaning, scaled}
 use Rattle.lists.specs.Operations.{trim}
-use Rattle.lists.proofs.Scaled.{meaning-hom, length-unscaled, coefficients-unscaled, scaled-unscaled}
+use Rattle.lists.proofs.Scaled.{meaning-hom}
+use Rattle.lists.proofs.Unscaled.{length-unscaled, coefficients-unscaled, scaled-unscaled}
 use Rattle.lists.proofs.Extents.{significant-le, significant-extent, significant-below, significant-degree}
 
 module _ (F : PrimeField) where

@@ -1,4 +1,11 @@
--- Laws: Words that stand for series: what the loops of the engine need.
+-- Words that stand for series: what the loops of the engine need.
+--     scaledWords c     the coefficients of a list's scaled form, as words
+--     Carries buf s     the words are below p, and word k stands for coefficient k of the series
+-- Theorems:
+--     value-is                                 a word below p is the one that stands for its element
+--     seriesOf-carries, carries-seriesOf       words carry the series that they stand for, and no other
+--     seriesOf-scaledWords, carries-scaled     the words of a scaled form stand for it
+--     carries-zero, carries-nonzero            a coefficient is 0 where its word is, and only there
 -- Assumes nothing.
 use mathlib.Core.Path.{_≡_, sym, _∙_, ap}
 use mathlib.Core.List.{List}

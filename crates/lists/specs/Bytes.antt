@@ -1,15 +1,15 @@
 -- Words as bytes: two bytes to a word, low byte first.
---     byteValues      the number of values of a byte
---     Bytes           every number of a list is a byte
---     wordAt          the word at a place of some bytes
---     wordsAt         n words that stand one after the other from a place on
---     oddBytes        the number of bytes is odd, so they are no words
---     wordCount       the number of whole words
---     wordsOf         the words of some bytes
---     bytesOf         the bytes of some words
--- Theorems:
---     words-of-bytes  the bytes of some words read back as these words
---     bytes-words     the bytes of words of 16 bits are bytes
+--     byteValues         the number of values of a byte
+--     Bytes s            every number of a list is a byte
+--     wordAt s at        the word at a place of some bytes
+--     wordsAt s at n     n words that stand one after the other from a place on
+--     oddBytes s         the number of bytes is odd, so they are no words
+--     wordCount s        the number of whole words
+--     wordsOf s          the words of some bytes
+--     bytesOf words      the bytes of some words
+-- Theorems (proofs/Bytes):
+--     words-of-bytes     the bytes of some words read back as these words
+--     bytes-words        the bytes of words of 16 bits are bytes
 -- Assumes nothing.
 use mathlib.Core.Bool.{Bool}
 use mathlib.Core.List.{List, [], _∷_}

@@ -1,9 +1,14 @@
 -- The two counters of a list of words c_0 to c_n: its naive degree and its extent. They are never confused: the code has a struct
 -- for each.
---     naiveDegree       document 01's naive degree, n
---     significant       the number of words up to the last one that is not 0: the extent plus 1, and 0 for a zero list
---     extent            document 01's extent of a list that is not zero: the largest k with c_k not 0
---     power             document 01's power of a list that is not zero: n minus the extent
+--     naiveDegree c         document 01's naive degree, n
+--     significantIn n c     the number of words up to the last one that is not 0, among the first n
+--     significant c         the same among all: the extent plus 1, and 0 for a zero list
+--     extent c              document 01's extent of a list that is not zero: the largest k with c_k not 0
+--     power c               document 01's power of a list that is not zero: n minus the extent
+-- Theorems (proofs/Extents):
+--     extent-largest          the extent is the largest k whose word is not 0
+--     power-exact             the power is the exact number of factors 1-t of the meaning
+--     significant-is-size     the number of significant words is the size of the scaled form
 -- Assumes nothing.
 use mathlib.Core.Bool.{cond}
 use mathlib.Core.List.{List}

@@ -1,11 +1,16 @@
 -- Lists of words and what they mean. A list has n + 1 words c_0 to c_n, c_0 first.
---     Coefficients      at most p words (so that no binomial coefficient of the list is 0 in the field), each below p
---     word              c_k as an element of the field
---     binomial          the binomial coefficient C(n,k) as an element of the field
---     coefficient       c_k · C(n,k)
---     meaning           document 01's P(t), the sum of c_k · C(n,k) · t^k · (1-t)^(n-k)
---     scaled            document 01's scaled form S, the sum of c_k · C(n,k) · u^k
---     unscaled n s      the list of n words whose scaled form is s
+--     Coefficients c            at most p words (so that no binomial coefficient of the list is 0 in the field), each below p
+--     word c k                  c_k as an element of the field
+--     binomial n k              the binomial coefficient C(n,k) as an element of the field
+--     scaledCoefficient c k     c_k · C(n,k)
+--     meaning c                 document 01's P(t), the sum of c_k · C(n,k) · t^k · (1-t)^(n-k)
+--     scaled c                  document 01's scaled form S, the sum of c_k · C(n,k) · u^k
+--     unscaled n s              the list of n words whose scaled form is s
+-- Theorems, each in the module of proofs/ that is named:
+--     meaning-hom                          the meaning is the scaled form, homogenised at the naive degree (Scaled)
+--     scaled-unscaled, unscaled-scaled     the list of a scaled form, and the scaled form of a list, undo each other (Unscaled)
+--     scaled-injective                     two lists of one length with one scaled form are equal (Unscaled)
+--     meaning-injective                    two lists of one naive degree with one meaning are equal word for word (Unscaled)
 -- Assumes nothing.
 use mathlib.Core.List.{List}
 use Prim.Native.Nat.{ℕ, _-_, _≤_, _<_}

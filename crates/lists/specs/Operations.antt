@@ -1,11 +1,20 @@
--- The operations on lists, by document 01 and the formulas of document 002 that it names.
---     product          formula (6): word k is the sum over j of C(d,j) · C(e,k-j) / C(d+e,k) · f_j · g_(k-j)
---     raise            formula (4): word k is the sum over j of C(d,j) · C(n-d,k-j) / C(n,k) · f_j
---     sumOf            word by word, the shorter list raised first
---     differenceOf     the same with differences
---     trim             the top zeros removed: the same scaled form, naive degree equal to the extent
---     derivative       n(c_(k+1) - c_k), of n words, and [0] for n = 0
---     evaluate         the value P(x) at a word x
+-- The operations on lists, by document 01 and the formulas of document 002 that it names. Of each operation f, fAt is the rule of
+-- its words.
+--     product f g          formula (6): word k is the sum over j of C(d,j) · C(e,k-j) / C(d+e,k) · f_j · g_(k-j)
+--     raise n f            formula (4): word k is the sum over j of C(d,j) · C(n-d,k-j) / C(n,k) · f_j
+--     largerDegree f g     the larger of two naive degrees
+--     sumOf f g            word by word, the shorter list raised first
+--     differenceOf f g     the same with differences
+--     trim f               the top zeros removed: the same scaled form, naive degree equal to the extent
+--     derivative c         n(c_(k+1) - c_k), of n words, and [0] for n = 0
+--     evaluate c x         the value P(x) at a word x
+-- Theorems, each in the module of proofs/ that is named:
+--     product-meaning                     the product means the product (Products)
+--     raise-meaning                       the raised list means the same (Raises)
+--     sum-meaning, difference-meaning     the sum and the difference mean the sum and the difference (Sums)
+--     trim-meaning                        the meaning is (1-t)^power times that of the trimmed list (Trims)
+--     derivative-meaning                  the derivative means the derivative (Calculus)
+--     evaluate-meaning                    the value of a list at x is the value of its meaning (Calculus)
 -- Assumes nothing.
 use mathlib.Core.Bool.{cond}
 use mathlib.Core.List.{List, [], _∷_}

@@ -1,5 +1,7 @@
 -- A list in a longer slice.
 --     padded n c     the words of c, then zeros, up to n words: "zeros after word w"
+-- Theorems (proofs/Padded):
+--     padded-is     n words that agree with c, and with 0 past its end, are these
 -- Assumes nothing.
 use mathlib.Core.List.{List, _++_}
 use Prim.Native.Nat.{ℕ, _-_}

@@ -1,9 +1,13 @@
 -- What a call refuses in the lists that it is handed, whatever it does with them.
---     wrongLength      refusal 4, length: the list has 0 words, or more than the limit
---     hasLoose         refusal 5, loose word: a word of the list is p or more
---     anyOf            the test holds of a list among several
---     listRefusals     the rows of document 01's table for the lists that a call is handed
---     Listed           a list that no call refuses: 1 to `most` words, each below p
+--     wrongLength most c      refusal 4, length: the list has 0 words, or more than the limit
+--     hasLoose p c            refusal 5, loose word: a word of the list is p or more
+--     anyOf test lists        the test holds of a list among several
+--     listRefusals p most     the rows of document 01's table for the lists that a call is handed
+--     IsList p most c         a list that no call refuses: 1 to `most` words, each below p
+-- Theorems (proofs/Judged):
+--     judged                     the lowest number that applies, as the chain of tests that the code makes
+--     one-listed, two-listed     the lists of a call that refuses nothing are such lists
+--     one-passes                 such a list is not refused
 -- Assumes nothing.
 use mathlib.Core.Bool.{Bool, false, _||_}
 use mathlib.Core.List.{List, [], _∷_}

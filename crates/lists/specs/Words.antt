@@ -1,9 +1,9 @@
--- Words that stand for series: what the loops of the engine need.
---     seriesOf          the series whose coefficient k is word k
---     scaledWords       the coefficients of a list's scaled form, as words
---     Carries           the words are below p, and word k stands for coefficient k of the series
---     Low n             the same as far as word n - 1
---     ZeroFrom n        from word n on every word is 0
+-- Words that stand for series.
+--     ZeroFrom n buf     from word n on every word is 0
+--     seriesOf l         the series whose coefficient k is word k
+--     Low n buf s        the words are below p, and the first n stand for the coefficients of s
+-- Theorems (proofs/Words):
+--     seriesOf-scaledWords     the words of a list's scaled form stand for it
 -- Assumes nothing.
 use mathlib.Core.Path.{_≡_}
 use mathlib.Core.List.{List}

@@ -1,8 +1,8 @@
 -- What a call answers and writes that does as its judge found.
---     number-range     the numbers are 1 to 11
---     number-is        the number of a reply is that of its outcome
---     result, kept     what a slice holds afterwards, where the judge found Done and where it found a refusal
---     done, refused    the same with the answer, of a call that hands back no value
+--     number-range      the numbers are 1 to 11
+--     number-is         the number of a reply is that of its outcome
+--     result, kept      what a slice holds afterwards, where the judge found Done and where it found a refusal
+--     done, refused     the same with the answer, of a call that hands back no value
 -- Assumes nothing.
 use mathlib.Core.Path.{_≡_, refl, sym, _∙_, ap}
 use mathlib.Core.List.{List, []}

@@ -1,9 +1,13 @@
--- A call tests its conditions one after the other, lowest number first, and refuses at the first that applies: that is the
--- lowest number that applies.
---     refuse       refused where the test holds, else what comes after
---     first        the first row that applies
---     ascending    no row has a lower number than the row before it: computed, since the numbers are known
---     or-else      the outcome of the first rows where they refuse, else that of the later ones
+-- A call tests its conditions one after the other, lowest number first, and refuses at the first that applies: that is the lowest
+-- number that applies.
+--     refuse test why next     refused where the test holds, else what comes after
+--     first rows               the first row that applies
+--     ascending rows           no row has a lower number than the row before it: computed, since the numbers are known
+--     or-else o next           the outcome of the first rows where they refuse, else that of the later ones
+-- Theorems:
+--     first-is                      of ascending rows the first that applies is the lowest
+--     first-then                    the same where one test answers several rows
+--     refuse-done, or-else-done     a call that completes: no test held
 -- Assumes nothing.
 use mathlib.Core.Path.{_≡_, refl, sym, _∙_, ap}
 use mathlib.Core.Bool.{Bool, true, false, cond, _&&_, _||_}

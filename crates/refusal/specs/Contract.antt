@@ -1,4 +1,5 @@
 -- How the contract of a call reads. A call `x` is lent slices; it judges what it is given, and works only where nothing is refused.
+--     Lent        a lent slice: its words when the call is made, and when it returns
 --     given s     the words of a lent slice when the call is made
 --     final s     its words when the call returns
 -- In specs/Calls of the call's crate, k being the number of a field (0 is document 01's) and the further arguments what the call is given:

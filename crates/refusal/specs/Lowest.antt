@@ -1,9 +1,12 @@
 -- Which refusal a call gives: the lowest number that applies.
---     Condition       a row of document 01's table for one call: the refusal, and whether it applies to the call's inputs
---     _given-when_    the row of a refusal and its test
---     lowest          the refusal with the lowest number among the rows that apply; Done where none does
---     Applies         the refusal stands in a row that applies
---     IsLowest        what `lowest` is to be; `lowest-is` shows that it is
+--     Condition               a row of document 01's table for one call: the refusal, and whether it applies to the call's inputs
+--     why given-when test     the row of a refusal and its test
+--     lower why o             the lower of a refusal and of what the other rows give
+--     lowest rows             the refusal with the lowest number among the rows that apply; Done where none does
+--     Applies why rows        the refusal stands in a row that applies
+--     IsLowest rows o         o is a refusal that applies, and none with a lower number does; or it is Done, and none applies
+-- Theorem:
+--     lowest-is     `lowest` is the lowest
 -- Assumes nothing.
 use mathlib.Core.Path.{_≡_, refl, ap}
 use mathlib.Core.Bool.{Bool, true, false, cond}

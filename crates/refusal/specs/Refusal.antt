@@ -1,10 +1,13 @@
 -- The refusals of document 01's table, and what a caller learns from an answer.
---     number            document 01's number of a refusal
---     outcomeNumber     the same of an outcome: 0 when the call completes
---     Reply             what an answer says: its number, 0 when the call completes, and the values that it carries
---     reply             the reply of an outcome with the values of a completed call: a refused call carries none
---     outcomeReply      the reply of an Outcome, the answer of a call that hands back no value
---     written           what a lent slice holds afterwards: the result, or, refused, what it held before
+--     number why            document 01's number of a refusal
+--     outcomeNumber o       the same of an outcome: 0 when the call completes
+--     Reply                 what an answer says: its number, 0 when the call completes, and the values that it carries
+--     reply o values        the reply of an outcome with the values of a completed call: a refused call carries none
+--     outcomeReply o        the reply of an Outcome, the answer of a call that hands back no value
+--     written o new old     what a lent slice holds afterwards: the result, or, refused, what it held before
+-- Theorems (proofs/Answers):
+--     number-range     the numbers are 1 to 11
+--     number-is        the number of a reply is that of its outcome
 -- Assumes nothing.
 use mathlib.Core.List.{List, []}
 use Prim.Native.Nat.{ℕ}

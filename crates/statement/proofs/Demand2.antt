@@ -27,8 +27,10 @@ use Rattle.lists.specs.Degrees.{naiveDegree, significant}
 use Rattle.lists.specs.Refused.{listRefusals}
 use Rattle.lists.specs.Lists.{Coefficients, meaning}
 use Rattle.lists.specs.Operations.{product, raise, largerDegree, sumOf, differenceOf, trim, derivative, evaluate}
-use Rattle.lists.proofs.Scaled.{length-naive, coefficients-listed, scaled-injective, meaning-injective}
-use Rattle.lists.proofs.Products.{length-product, coefficients-product, product-meaning, length-raise, coefficients-raise, raise-meaning}
+use Rattle.lists.proofs.Scaled.{length-naive, coefficients-listed}
+use Rattle.lists.proofs.Unscaled.{scaled-injective, meaning-injective}
+use Rattle.lists.proofs.Products.{length-product, coefficients-product, product-meaning}
+use Rattle.lists.proofs.Raises.{length-raise, coefficients-raise, raise-meaning}
 use Rattle.lists.proofs.Sums.{length-sum, coefficients-sum, sum-meaning, length-difference, coefficients-difference, difference-meaning}
 use Rattle.lists.proofs.Extents.{extent-largest, after-significant}
 use Rattle.lists.proofs.Trims.{length-trim, coefficients-trim, trim-scaled}

@@ -35,7 +35,6 @@ use Rattle.statement.specs.Meant.{IsExtent, TheWord, TheValue, TheList, 
 
 module _ (F : PrimeField) where
   open CommRing (scalars F) using (neg as ⊖_, add as _⊕_, mul as _⊗_)
-
   open CommRing (F .series .ring) using (neg as -ˢ_, add as _+ˢ_, mul as _*ˢ_)
 
   infixl 65 _⊕_

@@ -22,7 +22,6 @@ pub record IsExtent (c : List ℕ) (e : ℕ) : Type 0 where
 
 module _ (F : PrimeField) where
   open CommRing (scalars F) using (Carrier as K)
-
   open CommRing (F .series .ring) using (Carrier as S)
 
   pub record TheWord (x : K) (w : ℕ) : Type 0 where

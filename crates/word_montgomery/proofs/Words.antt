@@ -1,14 +1,17 @@
 -- Words of 16 bits modulo p.
---     remainder              what is below p and differs by multiples of p is the remainder
---     high-below             the high half of a product with a number below p is below p
---     sub-less, sub-more     a difference modulo p, where it goes below 0 and where it does not
---     below-zero, not-below  the same by differences that wrap
+--     same                      numbers that differ by multiples of p leave the same remainder
+--     remainder                 what is below p and differs by multiples of p is the remainder
+--     high-below                the high half of a product with a number below p is below p
+--     sub-less, sub-more        a difference modulo p, where it goes below 0 and where it does not
+--     below-zero, not-below     the same by differences that wrap
 -- Assumes nothing.
-use mathlib.Core.Path.{_≡_, sym, _∙_}
+use mathlib.Core.Path.{_≡_, sym, _∙_, ap}
 use Prim.Native.Nat.{ℕ, _+_, _-_, _*_, _/_, _%_, _<_, _≤_}
-use native.Mathlib.Nat.{mod-eq-of-lt, mul-le-mul, lt-trans}
+use native.Mathlib.Nat.{mod-eq-of-lt, mul-le-mul, lt-trans, add-mul-mod-self-left}
 use native.Mathlib.Omega.{arith}
-use Rattle.word_montgomery.specs.Montgomery.{same}
+
+pub same : (p a b u v : ℕ) → a + p * u ≡ b + p * v → a % p ≡ b % p
+same p a b u v e = sym (add-mul-mod-self-left a p u) ∙ ap (λ x. x % p) e ∙ add-mul-mod-self-left b p v
 
 pub high-below : {p g : ℕ} (y : ℕ) → y < 65536 → g ≤ p → 0 < p → y * g / 65536 < p
 high-below {p} {g} y ly lg pos = omega (arith, mul-le-mul {n₁ = y} {m₁ = g} {n₂ = 65535} {m₂ = p} (omega arith) lg)

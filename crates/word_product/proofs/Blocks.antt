@@ -1,4 +1,8 @@
 -- The blocks of the buffers: a block that was lent, the blocks that are done, and where a block stands.
+--     part-placed                           a part that was lent and came back as a sum of rows
+--     blocks-start, blocks-next             no block is done, and one more
+--     block-at, block-end, length-block     the words of a block
+--     block-fits                            block t ends where block t + 1 begins
 -- Assumes nothing.
 use mathlib.Core.Path.{_≡_, sym, ap, _∙_}
 use mathlib.Core.List.{List, _++_}

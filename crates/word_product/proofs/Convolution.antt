@@ -1,4 +1,8 @@
 -- The product in whole numbers, reduced, is the product of the series.
+--     length-remainders, getD-remainders     the first n words, reduced
+-- Theorems:
+--     convolution-is     the words of the product in whole numbers, reduced, are those of the product of the series
+--     convolve-is        what is written where the lengths fit
 -- Assumes nothing.
 use mathlib.Core.Path.{_≡_, sym, ap, ap₂, _∙_}
 use mathlib.Core.Bool.{cond}
@@ -20,9 +24,8 @@ use Rattle.lists.specs.Words.{seriesOf}
 use Rattle.lists.proofs.Words.{coeff-seriesOf, value-is}
 use Rattle.word_product.specs.Convolution.{convolveFits, convolution}
 use Rattle.word_product.specs.Rows.{rowSum, behind, Whole, remainders}
-use Rattle.word_product.proofs.Sums.{sum-more}
+use Rattle.word_product.proofs.Sums.{sum-more, all-rows}
 use Rattle.word_product.proofs.Halves.{behind-lead, behind-at}
-use Rattle.word_product.proofs.Whole.{all-rows}
 
 pub length-remainders : (p n : ℕ) (s : List ℕ) → length (remainders p n s) ≡ n
 unfolding remainders
@@ -58,7 +61,7 @@ module _ (F : PrimeField) where
         go (yes l) =
             sum-more a (behind b) k (suc k) (length a) l
             (λ j p q. ap (λ y. getD a j 0 * y) (behind-lead b (k + 7 - j) (omega arith)) ∙ mul-zero _)
-        go (no l) = sym (all-rows a b k (suc k) (omega arith))
+        go (no l) = sym (all-rows a (behind b) k (suc k) (omega arith))
 
     coefficient-is : (k : ℕ) → residue F (rowSum a (behind b) k (length a)) ≡ F .series .coeff (F .series .ring .mul (seriesOf F a) (seriesOf F b)) k
     unfolding term

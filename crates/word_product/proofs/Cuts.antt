@@ -1,4 +1,6 @@
 -- The number of groups of a half, and the numbers that `halving` compares.
+--     cut-few     three halves fit the room
+--     small       the products of the comparison are at most 2^32
 -- Assumes nothing.
 use Prim.Native.Nat.{ℕ, _*_, _≤_, _<_}
 use native.Mathlib.Decide.{decLt}

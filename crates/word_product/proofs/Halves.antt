@@ -1,4 +1,11 @@
 -- Karatsuba's product in whole numbers: the sums of the rows of the halves make those of the whole.
+--     Products s                                          s holds the three products, one after the other
+--     behind-lead, behind-at, behind-end, behind-word     the words of a list behind 7 zeros
+--     whole-low, whole-mid, whole-high                    the words of the whole product by those of the halves
+--     cross-end                                           from word 2 h on a0 b1 + a1 b0 is 0
+-- Theorems:
+--     join-is     the three products, joined, are the product of the whole factors
+--     enough      what is taken away is there
 -- Assumes nothing.
 use mathlib.Core.Path.{_≡_, refl, sym, ap, ap₂, subst, _∙_}
 use mathlib.Core.List.{List}
@@ -10,8 +17,7 @@ use lib.ListN.{length, getD, replicate, List·getD-append, List·getD-eq-default
 use lib.Seq.{getD-append-add}
 use Rattle.word_product.specs.Rows.{rowSum, behind}
 use Rattle.word_product.specs.Halves.{FirstHalves, SecondHalves, crossAt, Joined, Enough}
-use Rattle.word_product.proofs.Sums.{split, sum-more, sum-past, sum-ext}
-use Rattle.word_product.proofs.Sums.{zeros-are}
+use Rattle.word_product.proofs.Sums.{split, sum-more, sum-past, sum-ext, zeros-are}
 
 -- the product of two sums
 four : (x y u v : ℕ) → (x + y) * (u + v) ≡ x * u + y * v + (x * v + y * u)
@@ -40,6 +46,13 @@ module _ (b : List ℕ) where
   pub behind-end : (k : ℕ) → length b + 7 ≤ k → getD (behind b) k 0 ≡ 0
   behind-end k l =
       ap (λ j. getD (behind b) j 0) (split 7 k (omega arith)) ∙ behind-at (k - 7) ∙ List·getD-eq-default b 0 (omega arith)
+
+  pub behind-word : ((k : ℕ) → getD b k 0 < 65536) → (k : ℕ) → getD (behind b) k 0 < 65536
+  behind-word small k = go (decLt k 7)
+    where
+      go : Dec (k < 7) → getD (behind b) k 0 < 65536
+      go (yes l) = omega (arith, behind-lead k l)
+      go (no l) = omega (arith, ap (λ i. getD (behind b) i 0) (split 7 k (omega arith)), behind-at (k - 7), small (k - 7))
 
 module _ (h : ℕ) (a b x0 x1 x2 y0 y1 y2 : List ℕ) (f : FirstHalves h a x0 x1 x2) (g : SecondHalves h b y0 y1 y2) where
   -- the rows of the lower half come first; those of the upper half begin at word h

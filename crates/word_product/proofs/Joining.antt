@@ -1,4 +1,8 @@
 -- The loops of Karatsuba's product: the sums of halves, the three products joined. Each reads words that it has not written yet.
+--     sum-fits, sum-turn                       the sum of two halves: no overflow, and one word on
+--     cross-fits, cross-enough, cross-turn     a0 b1 + a1 b0 from the three products: no overflow either way, and one word on
+--     join-fits, join-turn                     its words added to the product: no overflow, and one word on
+--     joined                                   both loops together
 -- Assumes nothing.
 use mathlib.Core.Path.{ap, ap₂, _∙_}
 use mathlib.Core.List.{List}

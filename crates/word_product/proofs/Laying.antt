@@ -1,4 +1,7 @@
 -- The factors in their buffers, whole and as halves.
+--     shifted-is                      a whole list behind d zeros
+--     first-halves, second-halves     the halves of a factor and their sum, as three blocks
+--     laid-whole, laid-halves         both factors
 -- Assumes nothing.
 use mathlib.Core.Path.{_≡_, sym, ap, ap₂, _∙_}
 use mathlib.Core.List.{List}

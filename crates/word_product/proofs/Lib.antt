@@ -1,9 +1,11 @@
 pub mod Sums
 pub mod Rows
-pub mod Joining
 pub mod Blocks
 pub mod Halves
+pub mod Joining
 pub mod Cuts
 pub mod Laying
+pub mod OneProduct
+pub mod ThreeProducts
 pub mod Whole
 pub mod Convolution

@@ -1,12 +1,16 @@
--- Sums of rows: one row more, rows that add nothing, and how large a sum becomes.
+-- Sums of rows.
+--     sum-none, sum-next               no row, and one more
+--     sum-more, sum-past, all-rows     rows that add nothing: those that are 0 at a word, and those beyond the first factor
+--     sum-le                           how large a sum becomes
+--     sum-ext                          factors with the same words have the same sums
 -- Assumes nothing.
 use mathlib.Core.Path.{_≡_, refl, ap, ap₂, _∙_}
 use mathlib.Core.List.{List}
 use Prim.Native.Nat.{ℕ, zero, suc, _+_, _-_, _*_, _≤_, _<_, zero-le}
-use native.Mathlib.Nat.{add-zero, add-suc, mul-zero, mul-le-mul}
+use native.Mathlib.Nat.{add-zero, add-suc, mul-zero, zero-mul, mul-le-mul}
 use native.Mathlib.Numerals.{add-one}
 use native.Mathlib.Omega.{arith}
-use lib.ListN.{getD, replicate}
+use lib.ListN.{length, getD, replicate, List·getD-eq-default}
 use Rattle.lists.specs.Words.{ZeroFrom}
 use Rattle.word_product.specs.Rows.{Factors, rowSum}
 
@@ -46,6 +50,11 @@ module _ (a b : List ℕ) (k : ℕ) where
   pub sum-past : (e n : ℕ) → ((j : ℕ) → e ≤ j → getD b j 0 ≡ 0) → e + n ≤ k + 8 → rowSum a b k n ≡ 0
   sum-past e n h l =
       sum-more 0 n (omega arith) (λ j p q. ap (λ x. getD a j 0 * x) (h (k + 7 - j) (omega arith)) ∙ mul-zero _) ∙ sum-none
+
+-- rows beyond the first factor add nothing
+pub all-rows : (a b : List ℕ) (k n : ℕ) → length a ≤ n → rowSum a b k n ≡ rowSum a b k (length a)
+all-rows a b k n l =
+    sum-more a b k (length a) n l (λ j p q. ap (λ x. x * getD b (k + 7 - j) 0) (List·getD-eq-default a 0 p) ∙ zero-mul _)
 
 -- sums whose words are the same
 pub sum-ext : (a b x y : List ℕ) (k n : ℕ) → ((j : ℕ) → j < n → getD x j 0 ≡ getD a j 0) → ((j : ℕ) → j ≤ k + 7 → getD y j 0 ≡ getD b j 0)

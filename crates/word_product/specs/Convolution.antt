@@ -1,6 +1,9 @@
 -- The product of two series on words, and the lengths that fit.
---     convolveFits     the slices' lengths fit; where they do not, nothing is written
---     convolution      the words of the product of two series that two lists of words are
+--     convolveFits most a b out     the slices' lengths fit; where they do not, nothing is written
+--     convolution F a b             the words of the product of two series that two lists of words are
+-- Theorems (proofs/Convolution):
+--     convolution-is         the product in whole numbers, reduced, is this
+--     length-convolution     it has one word less than both lists together
 -- Assumes nothing.
 use mathlib.Core.Bool.{Bool, _&&_}
 use mathlib.Core.List.{List}

@@ -1,15 +1,19 @@
 -- Karatsuba's product: three products of halves instead of four. Both factors are cut after h words, into a0, a1 and b0, b1; then
 -- a0 b1 + a1 b0 is (a0 + a1) (b0 + b1) less a0 b0 and a1 b1.
---     Halving        h = 8 g fits two factors of n and m words, and three blocks of h + 15 fit room + 16 words; where g is 0 they are not cut
---     FirstHalves    x0, x1: the halves of the first factor; x2: their sum
---     SecondHalves   y0, y1: the halves of the second factor, each behind 7 zeros; y2: their sum
---     Laid           the factors in their buffers: whole, or as three blocks
---     sumAt          word k of the sum of the first two blocks of d words
---     crossAt        word k of a0 b1 + a1 b0, from the three products as blocks of 2 h words
---     joinAt         word h + k with word k of a0 b1 + a1 b0 added
---     Joined         s with a0 b1 + a1 b0 added from word h on
---     Enough         what crossAt takes away is there
---     Small          each of the first n words is below 2^63
+--     Halving room n m g     h = 8 g fits two factors of n and m words, and three blocks of h + 15 fit room + 16 words; where g is
+--                            0 they are not cut
+--     FirstHalves            x0, x1: the halves of the first factor; x2: their sum
+--     SecondHalves           y0, y1: the halves of the second factor, each behind 7 zeros; y2: their sum
+--     Laid g a b x y         the factors in their buffers: whole, or as three blocks
+--     sumAt d s k            word k of the sum of the first two blocks of d words
+--     crossAt h s k          word k of a0 b1 + a1 b0, from the three products as blocks of 2 h words
+--     joinAt h s k           word h + k with word k of a0 b1 + a1 b0 added
+--     Joined h s new         s with a0 b1 + a1 b0 added from word h on
+--     Enough h s             what crossAt takes away is there
+--     Small n s              each of the first n words is below 2^63
+-- Theorems (proofs/Halves):
+--     join-is     the three products, joined, are the product of the whole factors
+--     enough      what is taken away is there
 -- Assumes nothing.
 use mathlib.Core.Path.{_≡_}
 use mathlib.Core.List.{List}

@@ -1,16 +1,21 @@
--- A product by rows, in buffers: row j is word j of the first factor times the second. The second factor stands behind 7 zeros, so that
--- eight rows have one range of words. A buffer may hold several factors, or several sums, one after the other: its blocks.
---     Shifted       d zeros, the words of a list, then zeros
---     Factors       the two factors in their buffers: words of 17 bits, at most 2^16 in the first, so that no sum passes 50 bits
---     Strip         what stands before the second factor, and from m on behind it, is 0
---     rowSum        word k of the sum of the first n rows
---     Summed        each word of s is that of the sum of the first n rows
---     block         block t of those of n words
---     Blocks        so many blocks of 8 g rows, of second factors of v + 1 words, and of their sums, in three buffers
---     Multiplied    the first t blocks of s are the sums of their rows, the rest is 0
---     behind        a list behind 7 zeros
---     Whole         s begins with the words of the product of two lists, in whole numbers
---     remainders    the first n words of s, reduced
+-- A product by rows, in buffers: row j is word j of the first factor times the second. The second factor stands behind 7 zeros, so
+-- that eight rows have one range of words. A buffer may hold several factors, or several sums, one after the other: its blocks.
+--     Shifted d l s        d zeros, the words of a list, then zeros
+--     Factors a b          the two factors in their buffers: words of 17 bits, at most 2^16 in the first, so that no sum passes 50
+--                          bits
+--     Strip m b            what stands before the second factor, and from m on behind it, is 0
+--     rowSum a b k n       word k of the sum of the first n rows
+--     Summed a b s n       each word of s is that of the sum of the first n rows
+--     block n t l          block t of those of n words
+--     Blocks               so many blocks of 8 g rows, of second factors of v + 1 words, and of their sums, in three buffers
+--     Multiplied           the first t blocks of s are the sums of their rows, the rest is 0
+--     behind b             a list behind 7 zeros
+--     Whole a b s          s begins with the words of the product of two lists, in whole numbers
+--     remainders p n s     the first n words of s, reduced
+-- Theorems, each in the module of proofs/ that is named:
+--     summed-is       what `add_rows` adds up are the rows (Rows)
+--     blocks-next     one block more (Blocks)
+--     whole-is        what the loops have made in the end is the product (Whole)
 -- Assumes nothing.
 use mathlib.Core.Path.{_≡_}
 use mathlib.Core.List.{List, _++_}

@@ -1,4 +1,4 @@
-// The product of two scaled forms, in whole numbers, reduced once for each word. It is formed by rows (crate `wide_rows`): those of the whole
+// The product of two scaled forms, in whole numbers, reduced once for each word. It is formed by rows (crate `word_product_rows`): those of the whole
 // factors or, where that is quicker, those of their halves, three products instead of four (Karatsuba). a0, a1 and b0, b1 are the halves.
 ghost use mathlib.Core.Path.{_≡_};
 ghost use mathlib.Core.Bool.{cond};

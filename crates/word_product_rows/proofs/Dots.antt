@@ -1,4 +1,6 @@
--- Sums of products: one more, and how large they become.
+-- Sums of products.
+--     dot-none, dot-next     no product, and one more
+--     dot-le                 how large a sum becomes: eight products fit 64 bits
 -- Assumes nothing.
 use mathlib.Core.Path.{_≡_, refl, ap, _∙_}
 use mathlib.Core.List.{List}

@@ -1,4 +1,9 @@
 -- The loop over groups of eight rows.
+--     Grown g s                                  s has the first g groups
+--     grown-within, grown-below, grown-above     a word where the next group reaches it, and on both sides where it does not
+--     groups-start, groups-next, groups-end      before the loop, one group on, and at its end
+--     rows-added                                 what is written where the rows fit
+--     word-added                                 a word of the new sum
 -- Assumes nothing.
 use mathlib.Core.Path.{_≡_, refl, sym, ap, ap₂, _∙_}
 use mathlib.Core.Bool.{cond}

@@ -1,4 +1,5 @@
 -- A loop that writes f to the words from d on, one after the other.
+--     place-start, place-step, place-end     before the loop, after one more word, and at its end
 -- Assumes nothing.
 use mathlib.Core.Path.{_≡_, refl, sym, _∙_}
 use mathlib.Core.List.{List}

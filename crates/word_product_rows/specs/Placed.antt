@@ -1,5 +1,7 @@
 -- What a loop does that writes one word after the other.
---     Placed     n words from d on are f, the others what they were
+--     Placed d n f old new     n words from d on are f, the others what they were
+-- Theorems (proofs/Placing):
+--     place-start, place-step, place-end     before the loop, after one more word, and at its end
 -- Assumes nothing.
 use mathlib.Core.Path.{_≡_}
 use mathlib.Core.List.{List}

@@ -1,11 +1,14 @@
--- A product by rows, added to a sum: row j is word j of x times y, from word j on. Rows come in groups of eight; y begins and ends with 7
--- words that are 0 where the rows are to be whole.
---     dot         the sum of n products: words of x from i on, times words of y from z + 7 on backwards
---     gainAt      word i + z of s with the eight rows from i on
---     grown       word k of a sum, w at first, with the first g groups: a group reaches as far as y has eight words
---     withRows    s with all groups of x
---     rowsFit     s has room for the last group
--- Of the words of x the low 24 bits count, of those of y the low 32, so that eight products fit 64 bits; sums are modulo 2^64.
+-- A product by rows, added to a sum: row j is word j of x times y, from word j on. Rows come in groups of eight; y begins and ends
+-- with 7 words that are 0 where the rows are to be whole. Of the words of x the low 24 bits count, of those of y the low 32, so
+-- that eight products fit 64 bits; sums are modulo 2^64.
+--     dot x y i z n        the sum of n products: words of x from i on, times words of y from z + 7 on backwards
+--     gainAt x y s i z     word i + z of s with the eight rows from i on
+--     grown x y k w g      word k of a sum, w at first, with the first g groups: a group reaches as far as y has eight words
+--     withRows x y s       s with all groups of x
+--     rowsFit x y s        s has room for the last group
+-- Theorems (proofs/Groups):
+--     groups-start, groups-next, groups-end     the loop over the groups: before it, one group on, and at its end
+--     word-added                                a word of the new sum
 -- Assumes nothing.
 use mathlib.Core.Bool.{Bool, cond, _&&_}
 use mathlib.Core.List.{List}

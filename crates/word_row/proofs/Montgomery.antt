@@ -1,10 +1,11 @@
 -- Montgomery's products on words: the difference of two high halves is a product modulo p.
---     once                   one subtraction of p reduces a word
---     product-halves         with the constants of m, the high half of y · g less that of (y · s modulo 2^16) · p is m · y
---     added                  the word that a row's turn stores
---     square-factor          the constants of 2^16 itself
---     lifted-factor          those of m, from a product with them
---     factor-below           g is below p
+--     once               one subtraction of p reduces a word
+--     product-halves     with the constants of m, the high half of y · g less that of (y · s modulo 2^16) · p is m · y
+--     added              the word that a row's turn stores
+--     square-factor      the constants of 2^16 itself
+--     lifted-factor      those of m, from a product with them
+--     factor-below       g is below p
+--     modulus-at         the constants of a field
 -- Assumes nothing.
 use mathlib.Core.Path.{_≡_, sym, ap, _∙_}
 use Prim.Native.Nat.{ℕ, _+_, _-_, _*_, _/_, _%_, _<_, _≤_}
@@ -12,8 +13,7 @@ use native.Mathlib.Nat.{mod-lt, mod-add-div, mod-add-mod, add-mod-mod, mul-comm,
 use native.Mathlib.Omega.{arith}
 use Rattle.field.specs.Fields.{modulus, wordInverse, square}
 use Rattle.field.proofs.FieldsLaws.{modulus-half, word-inverse, square-is}
-use Rattle.word_montgomery.specs.Montgomery.{same}
-use Rattle.word_montgomery.proofs.Words.{remainder}
+use Rattle.word_montgomery.proofs.Words.{remainder, same}
 use Rattle.word_row.specs.Montgomery.{Modulus, Factor}
 
 pub once : (a p : ℕ) → p ≤ a → a < p + p → a - p ≡ a % p
@@ -43,10 +43,10 @@ product-halves {p} {e} {m} {g} {s} y h t f lt eh et =
     let k = p * e / 65536 in
     let a = m * 65536 / p in
     let l = y * s % 65536 in
-    let d = differ p e k m g a s (g * e / 65536) y l (y * s / 65536) h t (y * g % 65536) (l * p % 65536)
+    let equation = differ p e k m g a s (g * e / 65536) y l (y * s / 65536) h t (y * g % 65536) (l * p % 65536)
     (omega (arith, f .inverse)) (omega (arith, f .lifted, mod-add-div (m * 65536) p)) (omega (arith, f .side)) (omega arith)
     (omega (arith, eh)) (omega (arith, et)) (omega arith) (omega arith) in
-    same p (h + (p - t)) (m * y) (e * (m * y + t)) (1 + (e * h + k * (a * y + l))) (omega (arith, d))
+    same p (h + (p - t)) (m * y) (e * (m * y + t)) (1 + (e * h + k * (a * y + l))) (omega (arith, equation))
 
 pub added : {p e m g s : ℕ} (x y h t a r : ℕ) → Factor p e m g s → h < p → t < p → h ≡ y * g / 65536 → t ≡ y * s % 65536 * p / 65536
     → a ≡ (x % p + (p - t)) % p → r ≡ (a + (p - (p - h))) % p → r ≡ (x + m * y) % p

@@ -1,8 +1,11 @@
 -- A row on words, for every input.
---     rowAt             word i of x + m · y modulo p, where y reaches; else word i of x
---     row               the words of x + m · y
---     Partway           the words of x below i are those of the row, and the rest is as it was
---     rowFrom           the words of x + m · u^k · y: the row step from word k on
+--     rowAt p x m y i           word i of x + m · y modulo p, where y reaches; else word i of x
+--     row p x m y               the words of x + m · y
+--     Partway p old m y x i     the words of x below i are those of the row, and the rest is as it was
+--     rowFrom p k x m y         the words of x + m · u^k · y: the row step from word k on
+-- Theorems (proofs/RowWords):
+--     row-within, row-beyond                     a word of a row, where y reaches and where it does not
+--     rowFrom-low, rowFrom-at, rowFrom-above     a word of the row step from word k on
 -- Assumes nothing.
 use mathlib.Core.Path.{_≡_}
 use mathlib.Core.Bool.{cond}

@@ -1,4 +1,8 @@
 -- Montgomery's products as products in the field.
+--     Constants p e u w     e is 1/p modulo 2^16, u is 1/2^16 modulo p, and w is 2^64 modulo p
+--     part-of k             1/2^16 modulo p of field k
+--     constants             field k has these constants
+--     product-of-four       the product of four words, by Montgomery's products of each and the one before
 -- Assumes nothing.
 use mathlib.Core.Path.{_≡_, refl, sym, ap, _∙_, subst}
 use Prim.Native.Nat.{ℕ, zero, suc, _*_, _%_}
@@ -9,7 +13,8 @@ use Rattle.algebra.specs.RingLaws.{AC}
 use Rattle.algebra.specs.PrimeField.{PrimeField, scalars, positive, residue}
 use Rattle.algebra.proofs.PrimeField.{residue-1, residue-mul, residue-eq, residue-injective}
 use Rattle.field.specs.Fields.{modulus, wordInverse, fourth}
-use Rattle.word_montgomery.specs.Montgomery.{montgomery, montgomery-rule, montgomery-below}
+use Rattle.word_montgomery.specs.Montgomery.{montgomery}
+use Rattle.word_montgomery.proofs.Montgomery.{montgomery-rule, montgomery-below}
 
 -- e is 1/p modulo 2^16, u is 1/2^16 modulo p, and w is 2^64 modulo p
 pub record Constants (p e u w : ℕ) : Type 0 where

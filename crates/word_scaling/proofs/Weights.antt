@@ -1,9 +1,13 @@
--- Binomial coefficients and their inverses by factorials, and the words that the factorials make of a list and of a scaled form.
+-- Binomial coefficients by factorials, and the words that the factorials make of a list and of a scaled form.
+--     factorial-quotient       n! / (k! (n-k)!) = C(n,k)
+--     inverse-quotient         its inverse
+--     unscaled-is              the words of a scaled form, weighed, are the list that has it
+--     scale-is, unscale-is     what is written where the lengths fit
 -- Assumes nothing.
 use mathlib.Core.Path.{_≡_, refl, sym, ap, _∙_}
 use mathlib.Core.Bool.{true, cond}
 use mathlib.Core.List.{List}
-use Prim.Native.Nat.{ℕ, zero, suc, _+_, _-_, _*_, _%_, _≤_, _<_}
+use Prim.Native.Nat.{ℕ, zero, _+_, _-_, _*_, _%_, _≤_, _<_}
 use native.Mathlib.Nat.{mod-lt}
 use native.Mathlib.Omega.{arith}
 use lib.ListN.{length, getD}
@@ -11,17 +15,18 @@ use borrow.Author.Tests.{le-leb}
 use Rattle.algebra.specs.RingLaws as R
 use Rattle.algebra.specs.Ring.{CommRing}
 use Rattle.algebra.specs.RingLaws.{AC, RING}
+use Rattle.algebra.proofs.Ring.{mul-left-cancel}
 use Rattle.algebra.specs.Choose.{choose}
 use Rattle.algebra.specs.PrimeField.{PrimeField, scalars, scalarField, positive, residue, value, inverse}
-use Rattle.algebra.proofs.PrimeField.{residue-1, residue-mul, residue-mul-mod, residue-nonzero, inverse-cancel′}
+use Rattle.algebra.proofs.PrimeField.{residue-mul, residue-mul-mod, inverse-cancel′}
 use Rattle.lists.specs.Degrees.{naiveDegree}
 use Rattle.lists.proofs.Tabulate.{length-tabulate, getD-tabulate, tabulate-ext}
 use Rattle.lists.specs.Lists.{word, binomial, scaledCoefficient, unscaled}
 use Rattle.lists.proofs.Scaled.{binomial-nonzero}
 use Rattle.lists.specs.Words.{seriesOf}
 use Rattle.lists.proofs.Words.{coeff-seriesOf, scaledWords, value-is}
-use Rattle.field_tables.specs.Factorials.{factorial, choose-factorials, factorialIn, inverseFactorialIn, Tables}
-use Rattle.field_tables.proofs.Rising.{factorial-nonzero}
+use Rattle.field_tables.specs.Factorials.{factorial, factorialIn, inverseFactorialIn, Tables}
+use Rattle.field_tables.proofs.FactorialLaws.{choose-factorials, factorial-nonzero}
 use Rattle.word_scaling.specs.Kernels.{weightedAt, weighted, weighFits}
 
 module _ (F : PrimeField) where
@@ -52,7 +57,7 @@ module _ (F : PrimeField) where
     pub inverse-quotient : inverseFactorialIn F n ⊗ factorialIn F k ⊗ factorialIn F (n - k) ≡ inverse F (binomial F n k)
     unfolding inverseFactorialIn
     inverse-quotient =
-        R.mul-left-cancel (scalars F) (scalarField F) (binomial F n k) _ _ some
+        mul-left-cancel (scalars F) (scalarField F) (binomial F n k) _ _ some
         (regroup (binomial F n k) (inverse F (factorialIn F n)) (factorialIn F k) (factorialIn F (n - k))
         ∙ ap (λ x. 𝟙 ⊗ x ⊗ inverse F (factorialIn F n)) (binomial-factorials n k l)
         ∙ inverse-cancel′ F 𝟙 (factorialIn F n) (factorial-nonzero F n h)

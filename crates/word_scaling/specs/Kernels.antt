@@ -1,7 +1,10 @@
 -- Words weighed with the entries of two tables.
---     weighted p whole part n x            the first n words of x: word k times entry n - 1 of whole, entry k of part and entry
---                                          n - 1 - k of part, modulo p
---     weighFits                            the words and both tables are as long as the result; else nothing is written
+--     weightedAt                    word k of x times entry n - 1 of whole, entry k of part and entry n - 1 - k of part, modulo p
+--     weighted p whole part n x     the first n words of x, weighed so
+--     weighFits                     the words and both tables are as long as the result; else nothing is written
+-- Theorems (proofs/Weights):
+--     scale-is, unscale-is     with the tables of factorials and of their inverses these are the words of a list's scaled form, and
+--                              of the list of a scaled form
 -- Assumes nothing.
 use mathlib.Core.Bool.{Bool, _&&_}
 use mathlib.Core.List.{List}

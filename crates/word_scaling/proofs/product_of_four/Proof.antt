@@ -6,7 +6,8 @@ use native.Mathlib.Nat.{mod-lt}
 use native.Mathlib.Omega.{arith}
 use Rattle.field.specs.Fields.{modulus, fieldAt}
 use Rattle.field.proofs.FieldsLaws.{modulus-some, p-at, fourth-is}
-use Rattle.word_montgomery.specs.Montgomery.{montgomery, montgomery-below}
+use Rattle.word_montgomery.specs.Montgomery.{montgomery}
+use Rattle.word_montgomery.proofs.Montgomery.{montgomery-below}
 use Rattle.word_scaling.proofs.Products.{constants-of, product-of-four}
 use borrow.Author.Needs.{needs}
 use Rattle.word_scaling.proofs.product_of_four.Statement.{statement}

@@ -47,7 +47,7 @@ pub struct Answer {
 type In = *const u8;
 type Out = *mut u8;
 
-#[link(name = "host", kind = "static")]
+#[link(name = "bernstein", kind = "static")]
 unsafe extern "C" {
     fn bernstein_product(f: In, f_len: usize, g: In, g_len: usize, out: Out, out_len: usize) -> u8;
     fn bernstein_division(g: In, g_len: usize, f: In, f_len: usize, q: Out, q_len: usize, r: Out, r_len: usize) -> u8;

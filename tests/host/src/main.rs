@@ -5,22 +5,22 @@ mod calls;
 mod compare;
 mod engine;
 mod field;
-mod json;
 mod lent;
 mod model;
 mod poly;
 mod public;
 mod random;
 mod report;
+mod vectors;
 
 use calls::{Name, PublicCall};
 use compare::{call_fault, gcd_results, report_fault};
 use engine::{Call, Operation};
-use json::Value;
 use model::{Gcd, List, MAX_WORDS};
 use public::Done;
 use random::Random;
 use std::{collections::BTreeMap, fs, process::exit};
+use vectors::Vector;
 
 const CALLS: usize = 10_000;
 const ALBUMS: usize = 1_500;
@@ -443,34 +443,25 @@ fn compare_tables(tally: &mut Tally) {
 
 /// The sums that the source documents print, where document 01 has the operation.
 fn compare_vectors(tally: &mut Tally) {
-    let vectors = json::parse(include_str!("../vectors.json"));
-    let mut compared = 0;
-    let mut skipped: BTreeMap<&str, usize> = BTreeMap::new();
-    for vector in vectors.array() {
-        if compare_vector(tally, vector) {
-            compared += 1;
-        } else {
-            *skipped.entry(vector.field("operation").text()).or_default() += 1;
-        }
-    }
-    let skipped: Vec<String> = skipped.iter().map(|(operation, count)| format!("{operation} ({count})")).collect();
-    println!("vectors of the source documents: {compared} compared with the model and the engine");
-    println!("  skipped, as document 01 has no such operation: {}", skipped.join(", "));
+    let vectors = vectors::parse(include_str!("../vectors.txt"));
+    let (skipped, kept): (Vec<&Vector>, _) = vectors.iter().partition(|vector| NOT_IN_DOCUMENT_01.contains(&vector.operation));
+    kept.iter().for_each(|vector| compare_vector(tally, vector));
+    println!("vectors of the source documents: {} compared with the model and the engine", kept.len());
+    println!("  skipped, as document 01 has no such operation: {} ({})", skipped.len(), NOT_IN_DOCUMENT_01.join(", "));
 }
 
-/// Whether document 01 has the operation.
-fn compare_vector(tally: &mut Tally, vector: &Value) -> bool {
-    let (inputs, expected) = (vector.field("inputs"), vector.field("expected"));
-    let place = vector.field("place").text();
-    let input = |name| inputs.field(name).list();
-    let list = |name: &str| expected.field(name).list();
-    let number = |name| expected.field(name).number() as usize;
+const NOT_IN_DOCUMENT_01: [&str; 2] = ["ordinary division", "relations of three"];
+
+fn compare_vector(tally: &mut Tally, vector: &Vector) {
+    let place = vector.place;
+    let input = |name| vector.input(name);
+    let list = |name| vector.result(name);
     let gcd = || {
-        let gcd = Gcd { h: list("h"), c: number("c"), rounds: number("rounds") };
-        assert_eq!(gcd.h.len() - 1, number("w"), "{place}");
+        let gcd = Gcd { h: list("h"), c: vector.result_number("c"), rounds: vector.result_number("rounds") };
+        assert_eq!(gcd.h.len() - 1, vector.result_number("w"), "{place}");
         gcd
     };
-    let (call, printed) = match vector.field("operation").text() {
+    let (call, printed) = match vector.operation {
         "product" => {
             let call = Call::fitting(Operation::Product, &input("f"), &input("g"));
             compare_results(tally, place, &call, &[list("list")]);
@@ -487,24 +478,18 @@ fn compare_vector(tally: &mut Tally, vector: &Value) -> bool {
             (on_lists(Name::Gcd, &[&input("f"), &input("g")], &[]), gcd_of(gcd(), &[]))
         }
         "gcd of an album" => {
-            let lists: Vec<List> = inputs.field("lists").array().iter().map(Value::list).collect();
-            let album = album::written(&lists);
+            let album = album::written(&vector.inputs("list"));
             compare_report(tally, &album, usize::MAX);
             (public::fitting(Name::GcdOfAlbum, &[], &album, &[]), gcd_of(gcd(), &[]))
         }
-        "raise" => {
-            let n = inputs.field("n").number() as usize;
-            (on_lists(Name::Raise, &[&input("f")], &[n]), lists_of(&[&list("list")]))
-        }
+        "raise" => (on_lists(Name::Raise, &[&input("f")], &[vector.input_number("n")]), lists_of(&[&list("list")])),
         "sum" => (on_lists(Name::Sum, &[&input("f"), &input("g")], &[]), lists_of(&[&list("list")])),
         "remove top zeros" => (on_lists(Name::Trim, &[&input("f")], &[]), lists_of(&[&list("list")])),
         "derivative" => (on_lists(Name::Derivative, &[&input("f")], &[]), lists_of(&[&list("list")])),
         "evaluation" => {
-            let t = inputs.field("t").number() as usize;
-            (on_lists(Name::Evaluate, &[&input("f")], &[t]), value_of(number("value")))
+            (on_lists(Name::Evaluate, &[&input("f")], &[vector.input_number("t")]), value_of(vector.result_number("value")))
         }
-        _ => return false,
+        operation => panic!("{place}: no operation {operation}"),
     };
     compare_printed(tally, place, &call, printed);
-    true
 }

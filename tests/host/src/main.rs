@@ -78,6 +78,7 @@ fn main() {
     compare_edges(&mut tally);
     compare_tables(&mut tally);
     compare_vectors(&mut tally);
+    compare_examples(&mut tally);
     for said in [compare::try_broken_copies(&mut Random(4)), public::try_broken_copies(&mut Random(5))] {
         match said {
             Ok(said) => println!("the comparer notices: {said}"),
@@ -493,3 +494,22 @@ fn compare_vector(tally: &mut Tally, vector: &Vector) {
     };
     compare_printed(tally, place, &call, printed);
 }
+
+/// Compares what the programs of examples/ print, in C and in Python, with the model's results on the same lists. The division is P4.
+fn compare_examples(tally: &mut Tally) {
+    let [f, g] = [[3, 5, 1], [4, 0, 7]].map(|list| model::multiply(&[1, 2], &list));
+    let results = |call: &Call| compare::expected(call).results.iter().map(|r| album::words(r)).collect::<Vec<List>>();
+    let gcd = results(&Call::fitting(Operation::Gcd, &f, &g));
+    let division = results(&Call::fitting(Operation::Division, &[3, 4], &[2]));
+    let line = |name: &str, words: &[u32]| words.iter().fold(name.to_string(), |line, word| format!("{line} {word}")) + "\n";
+    let h = &gcd[0][..=gcd[1][0] as usize];
+    let text = line("w c rounds", &gcd[1]) + &line("h", h) + &line("q", &division[0]);
+    let printed = fs::read_to_string(EXAMPLES).unwrap_or_else(|error| format!("{EXAMPLES}: {error}"));
+    if printed != text.repeat(2) {
+        tally.fault("examples/run", &format!("it printed {printed:?}, and not twice {text:?}"));
+    }
+    println!("examples/run: what its two programs print compared with the model");
+}
+
+/// Where tests/host/run puts what examples/run prints.
+const EXAMPLES: &str = "target/comparer/examples.txt";

@@ -79,6 +79,7 @@ fn main() {
     compare_tables(&mut tally);
     compare_vectors(&mut tally);
     compare_examples(&mut tally);
+    compare_messages(&mut tally);
     for said in [compare::try_broken_copies(&mut Random(4)), public::try_broken_copies(&mut Random(5))] {
         match said {
             Ok(said) => println!("the comparer notices: {said}"),
@@ -513,3 +514,20 @@ fn compare_examples(tally: &mut Tally) {
 
 /// Where tests/host/run puts what examples/run prints.
 const EXAMPLES: &str = "target/comparer/examples.txt";
+
+/// What `report` says when it is given arguments, and when its output cannot be written.
+fn compare_messages(tally: &mut Tally) {
+    for arguments in [&["--help"][..], &["samples/example.album"], &["a", "b"]] {
+        let [out, said] = engine::report_with(arguments);
+        let said = String::from_utf8_lossy(&said);
+        if !out.is_empty() || said.lines().count() != 3 || !said.starts_with("report <FILE ") {
+            tally.fault(&format!("report {arguments:?}"), &format!("it says {said:?}, and not in three lines how it is run"));
+        }
+    }
+    let full = fs::File::options().write(true).open("/dev/full").expect("the device /dev/full");
+    let said = engine::report_to(full);
+    if said != b"report: standard output cannot be written\n" {
+        tally.fault("report >/dev/full", &format!("it says {:?}", String::from_utf8_lossy(&said)));
+    }
+    println!("report: what it says to arguments, and where its output cannot be written");
+}

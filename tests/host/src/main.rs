@@ -209,6 +209,10 @@ fn compare_albums(tally: &mut Tally) {
     tally.print_numbers("report", &[0, 1, 2, 5, 9], 30);
     println!("  of the albums {} were written in small pieces, and {} are those of samples/", in_pieces.len(), samples.len());
     tally.check("the example of document 01", report::text(&example()) == "lists 2\n0 1 1 0\n1 2 2 0\ngcd 1 0\n0 1\n");
+    // the second example of docs/FORMAT.md
+    let second = [2, 2, 7, 0, 3, 0x0D, 0, 0, 0, 0xF9, 0x7F, 0, 0, 0, 0, 0xA1, 0xAA, 0, 0, 0, 0];
+    compare_report(tally, &second, usize::MAX);
+    tally.check("docs/FORMAT.md", report::text(&second) == "lists 2\n0 2 1 1\n1 3 1 2\ngcd 2 1\n0 1\n");
 }
 
 /// The albums of the repository's folder samples/.

@@ -14,8 +14,10 @@ ghost use Rattle.list_derivative.specs.Calls.{derivativeRows, derivativeAnswer,
 ghost use Rattle.list_value.specs.Calls.{evaluateRows, evaluateAnswer};
 ghost use Rattle.list_division.specs.Calls.{divideRows, divideAnswer, quotientWritten, remainderWritten, DividesSo};
 ghost use Rattle.list_gcd.specs.Calls.{gcdReply, gcdRows, gcdAnswer, gcdWritten, Greatest};
+ghost use Rattle.list_cofactors.specs.Calls.{cofactorRows, cofactorAnswer, cofactorGcd, cofactorsWrittenA, cofactorsWrittenB};
 ghost use Rattle.statement.specs.Demand1.{Demand1, slice};
 ghost use Rattle.statement.specs.Demand2Calls.{ProductSo, RaiseSo, SumSo, DifferenceSo, TrimSo, DerivativeSo, ExtentSo, ValueSo};
+ghost use Rattle.statement.specs.Demand3Calls.{CofactorsOf};
 use field::Word;
 use list_extent::Found;
 use list_gcd::Gcd;
@@ -119,4 +121,17 @@ pub fn gcd_of(f: &[u16], g: &[u16], h: &mut [u16]) -> Gcd
     ensures demand3 { λ r. ⌜ Greatest F65521 (given f) (given g) (final h) r ⌝ }
 {
     list_gcd::gcd_over(0, f, g, h)
+}
+
+// The GCD of f and g with its cofactors: a·f + b·g = (1-t)^(m-w)·h.
+pub fn find_cofactors(f: &[u16], g: &[u16], h: &mut [u16], a: &mut [u16], b: &mut [u16]) -> Gcd
+    ensures answer { λ r. ⌜ gcdReply r ≡ cofactorAnswer 0 (given f) (given g) (given h) (given a) (given b) ⌝ }
+    ensures gcd { λ _. ⌜ final h ≡ cofactorGcd 0 (given f) (given g) (given h) (given a) (given b) ⌝ }
+    ensures cofactor_a { λ _. ⌜ final a ≡ cofactorsWrittenA 0 (given f) (given g) (given h) (given a) (given b) ⌝ }
+    ensures cofactor_b { λ _. ⌜ final b ≡ cofactorsWrittenB 0 (given f) (given g) (given h) (given a) (given b) ⌝ }
+    ensures demand1 { λ r. ⌜ Demand1 (cofactorRows p maxWords (given f) (given g) (given h) (given a) (given b)) (gcdReply r .number) (slice h ∷ slice a ∷ slice b ∷ []) ⌝ }
+    ensures greatest { λ r. ⌜ Greatest F65521 (given f) (given g) (final h) r ⌝ }
+    ensures demand3 { λ r. ⌜ CofactorsOf F65521 (given f) (given g) (final h) (final a) (final b) (gcdReply r) ⌝ }
+{
+    list_cofactors::cofactors_over(0, f, g, h, a, b)
 }

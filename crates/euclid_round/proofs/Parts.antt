@@ -106,6 +106,12 @@ front n x {m} e = go (decLe n (length x))
       none m (omega arith) ∙ sym (none n (omega arith)),
     )
 
+pub record Rounded (k : ℕ) (x y q : List ℕ) (steps left : ℕ) (x′ q′ : List ℕ) : Type 0 where
+  pub steps-made : steps ≡ stepsMade k x y q
+  pub count : left ≡ significant x′
+  pub words : x′ ≡ wordsLeft k x y q
+  pub quotient : q′ ≡ quotientLeft k x y q
+
 module _ (k nx ny : ℕ) (x y q : List ℕ) where
   -- what `shorten` makes of its slices
   abbrev pub Shorten : (steps left : ℕ) → (x′ q′ : List ℕ) → Type 0
@@ -136,14 +142,8 @@ module _ (k nx ny : ℕ) (x y q : List ℕ) where
       all : mx ≡ min nx (length (z ++ drop mx x))
       all = rw (length-append, length-drop) (omega arith)
 
-  pub record Rounded (steps left : ℕ) (x′ q′ : List ℕ) : Type 0 where
-    pub steps-made : steps ≡ stepsMade k x y q
-    pub count : left ≡ significant x′
-    pub words : x′ ≡ wordsLeft k x y q
-    pub quotient : q′ ≡ quotientLeft k x y q
-
   pub shortened : {steps left : ℕ} {x′ q′ : List ℕ} → nx ≡ significant x → ny ≡ significant y → length x′ ≡ length x
-      → Shorten steps left x′ q′ → Rounded steps left x′ q′
+      → Shorten steps left x′ q′ → Rounded k x y q steps left x′ q′
   shortened {x′ = x′} ex ey same s =
       record {
         steps-made = s .0 ∙ ap₂ (λ b n. cond b n 0) fits (steps-part nx ny x y lx ly);

@@ -3,10 +3,11 @@
 ghost use mathlib.Core.Path.{_≡_};
 ghost use mathlib.Core.List.{[]};
 ghost use Rattle.field.specs.Fields.{p, F65521};
-ghost use Rattle.field.specs.Field.{wordReply, operandRefusals};
+ghost use Rattle.field.specs.Field.{wordReply, operandRefusals, inverseRefusals};
 ghost use Rattle.field.specs.Calls.{wordSumAnswer, wordDifferenceAnswer, wordProductAnswer};
+ghost use Rattle.field_inverse.specs.Calls.{inverseAnswer};
 ghost use Rattle.statement.specs.Demand1.{Demand1};
-ghost use Rattle.statement.specs.Demand2Calls.{WordSumSo, WordDifferenceSo, WordProductSo};
+ghost use Rattle.statement.specs.Demand2Calls.{WordSumSo, WordDifferenceSo, WordProductSo, InverseSo};
 use field::Word;
 
 // The sum of two coefficients.
@@ -34,4 +35,14 @@ pub fn product(a: u16, b: u16) -> Word
     ensures demand2 { λ r. ⌜ WordProductSo F65521 a b (wordReply r) ⌝ }
 {
     field::product_over(0, a, b)
+}
+
+// The inverse of a coefficient that is not 0.
+pub fn inverse(a: u16) -> Word
+    ensures answer { λ r. ⌜ wordReply r ≡ inverseAnswer 0 a ⌝ }
+    ensures demand1 { λ r. ⌜ Demand1 (inverseRefusals p a) (wordReply r .number) [] ⌝ }
+    ensures demand2 { λ r. ⌜ InverseSo F65521 a (wordReply r) ⌝ }
+{
+    let inverses = field_tables::inverses(0);
+    field_inverse::inverse_over(0, &inverses, a)
 }

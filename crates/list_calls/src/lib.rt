@@ -12,10 +12,15 @@ ghost use Rattle.list_sum.specs.Calls.{sumRows, sumAnswer, sumWritten, differen
 ghost use Rattle.list_extent.specs.Calls.{extentReply, extentRows, extentAnswer, trimRows, trimAnswer, trimWritten};
 ghost use Rattle.list_derivative.specs.Calls.{derivativeRows, derivativeAnswer, derivativeWritten};
 ghost use Rattle.list_value.specs.Calls.{evaluateRows, evaluateAnswer};
+ghost use Rattle.list_division.specs.Calls.{divideRows, divideAnswer, quotientWritten, remainderWritten, DividesSo};
+ghost use Rattle.list_gcd.specs.Calls.{gcdReply, gcdRows, gcdAnswer, gcdWritten, Greatest};
+ghost use Rattle.list_cofactors.specs.Calls.{cofactorRows, cofactorAnswer, cofactorGcd, cofactorsWrittenA, cofactorsWrittenB};
 ghost use Rattle.statement.specs.Demand1.{Demand1, slice};
 ghost use Rattle.statement.specs.Demand2Calls.{ProductSo, RaiseSo, SumSo, DifferenceSo, TrimSo, DerivativeSo, ExtentSo, ValueSo};
+ghost use Rattle.statement.specs.Demand3Calls.{CofactorsOf};
 use field::Word;
 use list_extent::Found;
+use list_gcd::Gcd;
 use lists::NaiveDegree;
 use refusal::Outcome;
 
@@ -95,4 +100,38 @@ pub fn evaluate(f: &[u16], x: u16) -> Word
     ensures demand2 { λ r. ⌜ ValueSo F65521 (given f) x (wordReply r) ⌝ }
 {
     list_value::evaluate_over(0, f, x)
+}
+
+// g divided by f: the quotient goes to q, the remainder to r.
+pub fn divide(g: &[u16], f: &[u16], q: &mut [u16], r: &mut [u16]) -> Outcome
+    ensures answer { λ a. ⌜ outcomeReply a ≡ divideAnswer 0 (given g) (given f) (given q) (given r) ⌝ }
+    ensures quotient { λ _. ⌜ final q ≡ quotientWritten 0 (given g) (given f) (given q) (given r) ⌝ }
+    ensures remainder { λ _. ⌜ final r ≡ remainderWritten 0 (given g) (given f) (given q) (given r) ⌝ }
+    ensures demand1 { λ a. ⌜ Demand1 (divideRows p maxWords (given g) (given f) (given q) (given r)) (outcomeReply a .number) (slice q ∷ slice r ∷ []) ⌝ }
+    ensures demand3 { λ a. ⌜ (a ≡ Outcome.Done → DividesSo F65521 (given g) (given f) (final q) (final r)) ⌝ }
+{
+    list_division::divide_over(0, g, f, q, r)
+}
+
+// The GCD of f and g: h goes to a slice of as many words as the longest list has, zeros after word w.
+pub fn gcd_of(f: &[u16], g: &[u16], h: &mut [u16]) -> Gcd
+    ensures answer { λ r. ⌜ gcdReply r ≡ gcdAnswer 0 (given f) (given g) (given h) ⌝ }
+    ensures writes { λ _. ⌜ final h ≡ gcdWritten 0 (given f) (given g) (given h) ⌝ }
+    ensures demand1 { λ r. ⌜ Demand1 (gcdRows p maxWords (given f) (given g) (given h)) (gcdReply r .number) (slice h ∷ []) ⌝ }
+    ensures demand3 { λ r. ⌜ Greatest F65521 (given f) (given g) (final h) r ⌝ }
+{
+    list_gcd::gcd_over(0, f, g, h)
+}
+
+// The GCD of f and g with its cofactors: a·f + b·g = (1-t)^(m-w)·h.
+pub fn find_cofactors(f: &[u16], g: &[u16], h: &mut [u16], a: &mut [u16], b: &mut [u16]) -> Gcd
+    ensures answer { λ r. ⌜ gcdReply r ≡ cofactorAnswer 0 (given f) (given g) (given h) (given a) (given b) ⌝ }
+    ensures gcd { λ _. ⌜ final h ≡ cofactorGcd 0 (given f) (given g) (given h) (given a) (given b) ⌝ }
+    ensures cofactor_a { λ _. ⌜ final a ≡ cofactorsWrittenA 0 (given f) (given g) (given h) (given a) (given b) ⌝ }
+    ensures cofactor_b { λ _. ⌜ final b ≡ cofactorsWrittenB 0 (given f) (given g) (given h) (given a) (given b) ⌝ }
+    ensures demand1 { λ r. ⌜ Demand1 (cofactorRows p maxWords (given f) (given g) (given h) (given a) (given b)) (gcdReply r .number) (slice h ∷ slice a ∷ slice b ∷ []) ⌝ }
+    ensures greatest { λ r. ⌜ Greatest F65521 (given f) (given g) (final h) r ⌝ }
+    ensures demand3 { λ r. ⌜ CofactorsOf F65521 (given f) (given g) (final h) (final a) (final b) (gcdReply r) ⌝ }
+{
+    list_cofactors::cofactors_over(0, f, g, h, a, b)
 }

@@ -1,6 +1,6 @@
 pub mod Parts
 pub mod Rounds
 pub mod Start
-pub mod Turns
+pub mod OneRound
 pub mod Slices
 pub mod Results

@@ -20,10 +20,8 @@ use Rattle.lists.proofs.Words.{coeff-seriesOf}
 use Rattle.field_tables.specs.Factorials.{Tables}
 use Rattle.euclid_round.specs.Round.{multiplied, writeFits, writtenWords, writtenList}
 use Rattle.euclid_round.proofs.Written.{write-is}
-use Rattle.list_gcd.specs.Internal.{euclidOn}
 use Rattle.algebra.specs.Monic.{topInverse}
 use Rattle.refusal.specs.Refusal.{reply, written}
-use Rattle.refusal.specs.Lowest.{lowest}
 use Rattle.refusal.specs.declared.Outcome.{Outcome}
 use Rattle.refusal.specs.declared.Outcome.the-variants.{Done}
 use Rattle.refusal.proofs.Answers.{result}
@@ -41,14 +39,12 @@ use Rattle.list_gcd.specs.declared.Gcd.{Gcd}
 use Rattle.list_gcd.specs.declared.Rounds.{Rounds}
 use Rattle.list_gcd.specs.declared.Gcd.the-variants as G
 use Rattle.list_gcd.specs.Calls.{gcdReply, gcdValues, Greatest}
-use Rattle.list_gcd.specs.Internal.{Ready}
-use Rattle.list_gcd.proofs.Ready.{ready}
-use Rattle.list_gcd.specs.Internal.{gcdDone}
+use Rattle.list_gcd.specs.Internal.{Ready, euclidOn, gcdDone}
 use Rattle.list_gcd.proofs.Finish.{gcd-done, ready-euclid, ready-count, ready-last, last-inverse, gcd-written, answered}
-use Rattle.list_cofactors.specs.Calls.{cofactorRows, CofactorsSo, Cofactors}
-use Rattle.list_cofactors.specs.Internal.{wrongSlices, Slices, partX, partS, partT, Started, Ends, timesList, lastInverse, overLast, Found, LastRow, Wrote, Results}
+use Rattle.list_cofactors.specs.Calls.{CofactorsSo, Cofactors}
+use Rattle.list_cofactors.specs.Internal.{Slices, partX, partS, partT, Started, Ends, timesList, lastInverse, overLast, LastRowOf, NonzeroRow, Wrote, Results}
 use Rattle.list_cofactors.proofs.Parts.{rest, rest-is}
-use Rattle.list_cofactors.proofs.Slices.{slices, few-a, few-b}
+use Rattle.list_cofactors.proofs.Slices.{few-a, few-b}
 
 -- a list that fills its slice
 padded-whole : (c : List ℕ) (n : ℕ) → length c ≡ n → padded n c ≡ c
@@ -64,12 +60,12 @@ module _ (F : PrimeField) where
 
   infixl 70 _⊗_
   infixl 70 _*ˢ_
-  pub last-row : {n : ℕ} {f g row : List ℕ} {rounds : ℕ} → Found F n f g row rounds → LastRow F n row
-  last-row e = record { size = e .size; buffer = e .gcd .buffer; some = let l = e .gcd .size in omega arith }
+  pub nonzero-row : {n : ℕ} {f g row : List ℕ} {rounds : ℕ} → LastRowOf F n f g row rounds → NonzeroRow F n row
+  nonzero-row e = record { size = e .size; buffer = e .gcd .buffer; some = let l = e .gcd .size in omega arith }
 
   -- the rounds on rows are those of the definition
   pub found : (n : ℕ) (f g : List ℕ) {u v row : List ℕ} {rounds : ℕ} → Ready F n f g → Started F n n u (scaled F g)
-      → Started F n (n + n) v (scaled F f) → Ends F n u v row rounds → Found F n f g row rounds
+      → Started F n (n + n) v (scaled F f) → Ends F n u v row rounds → LastRowOf F n f g row rounds
   found n f g {u} {v} {row} r su sv e =
       record {
         size = e .size;
@@ -78,8 +74,8 @@ module _ (F : PrimeField) where
         inverse =
             ap (λ s. topInverse (F .series) (scalarField F) n s) (e .last .series ∙ ap (λ z. z .last) same)
             ∙ sym (topInverse-room F n f g (r .short-f) (r .short-g));
-        left = rw (ap (λ z. z .byX) is) at (e .left);
-        right = rw (ap (λ z. z .byY) is) at (e .right);
+        low-s = rw (ap (λ z. z .byX) is) at (e .low-s);
+        low-t = rw (ap (λ z. z .byY) is) at (e .low-t);
       }
     where
       same : euclidOn F n (partX n u) (partX n v) ≡ euclid (F .series) (scalarField F) n n (scaled F g) (scaled F f)
@@ -107,18 +103,18 @@ module _ (F : PrimeField) where
 
   -- what is written from the row is what the definitions name
   pub results : (n : ℕ) → 1 < n → (f g h a b : List ℕ) {row h′ a′ b′ : List ℕ} {w : NaiveDegree} {c : Power} {rounds : Rounds} → Ready F n f g → Slices n f g h a b
-      → Found F n f g row (rounds .0) → Wrote F n row (length a) (length b) (w .0) h′ a′ b′ → c .0 ≡ commonPower (f ∷ g ∷ [])
+      → LastRowOf F n f g row (rounds .0) → Wrote F n row (length a) (length b) (w .0) h′ a′ b′ → c .0 ≡ commonPower (f ∷ g ∷ [])
       → Results F n f g (G.Done w c rounds) h′ a′ b′
   results n more f g h a b {row} {w = w} r sl e o ec =
       record {
         answer = gcd-done F f g _ _ _ degree ec (e .count);
         gcd = o .gcd ∙ ap (padded n) (e .gcd .list);
-        left =
-            o .left ∙ ap (λ k. overLast F n (partX n row) k (partT n row)) (sl .size-a)
-            ∙ (unfold cofactorA in cofactor-is n _ (partX n row) (partT n row) _ _ (few-a f g n (r .short-g) more) (e .inverse) (e .right));
-        right =
-            o .right ∙ ap (λ k. overLast F n (partX n row) k (partS n row)) (sl .size-b)
-            ∙ (unfold cofactorB in cofactor-is n _ (partX n row) (partS n row) _ _ (few-b f g n (r .short-f) more) (e .inverse) (e .left));
+        cofactor-a =
+            o .cofactor-a ∙ ap (λ k. overLast F n (partX n row) k (partT n row)) (sl .size-a)
+            ∙ (unfold cofactorA in cofactor-is n _ (partX n row) (partT n row) _ _ (few-a f g n (r .short-g) more) (e .inverse) (e .low-t));
+        cofactor-b =
+            o .cofactor-b ∙ ap (λ k. overLast F n (partX n row) k (partS n row)) (sl .size-b)
+            ∙ (unfold cofactorB in cofactor-is n _ (partX n row) (partS n row) _ _ (few-b f g n (r .short-f) more) (e .inverse) (e .low-s));
       }
     where
       degree : w .0 ≡ naiveDegree (gcdOf F f g)
@@ -143,7 +139,7 @@ module _ (F : PrimeField) where
       ∙ ap₂ (λ k l. writtenList F k m l out) ew ef ∙ padded-whole _ (length out) (length-unscaled F (length out) _)
 
   -- h, and the inverse for all three
-  module _ (n : ℕ) (row : List ℕ) (l : LastRow F n row) where
+  module _ (n : ℕ) (row : List ℕ) (l : NonzeroRow F n row) where
     last-at : getD row (significant (partX n row) - 1) 0 ≡ getD (partX n row) (significant (partX n row) - 1) 0
     last-at =
         let h = significant-le (partX n row) in
@@ -175,18 +171,11 @@ module _ (F : PrimeField) where
             gcd =
                 gcd-written F n (partX n row) (l .buffer) (l .some) at short whole part t h k m eh ek inverse-is
                 (subst (λ x. (form′ ≡ cond (writeFits k whole part x h) (multiplied p m x) x) × (h′ ≡ cond (writeFits k whole part x h) (writtenWords p whole part k m x h) h)) ef qh);
-            left = qa ∙ ap₂ (λ c l. timesList F na c (drop n l)) residue-is (rest-is n row);
-            right = qb ∙ ap₂ (λ c l. timesList F nb c (take n l)) residue-is (rest-is n row);
+            cofactor-a = qa ∙ ap₂ (λ c l. timesList F na c (drop n l)) residue-is (rest-is n row);
+            cofactor-b = qb ∙ ap₂ (λ c l. timesList F nb c (take n l)) residue-is (rest-is n row);
           }
 
   -- what a call knows that refuses nothing
-  pub cofactors-ready : (most : ℕ) → most ≤ F .p → (f g h a b : List ℕ) → lowest (cofactorRows (F .p) most f g h a b) ≡ Done
-      → Ready F most f g × Slices most f g h a b
-  unfolding cofactorRows
-  cofactors-ready most big f g h a b e =
-      let r = ready F most big f g (wrongSlices most f g h a b) e in
-      (r .0, slices most f g h a b (r .1))
-
   -- what a call answers, and what it leaves in the slices
   pub cofactors-answered : (n : ℕ) (f g h a b : List ℕ) {found : Outcome} {r : Gcd} {h′ a′ b′ : List ℕ} → found ≡ Done → Ready F n f g
       → Results F n f g r h′ a′ b′
@@ -197,10 +186,10 @@ module _ (F : PrimeField) where
       let z = answered F n f g h e y (o .answer) (o .gcd) in (
         z .0,
         z .1,
-        result (cofactorA F f g) a e (o .left),
-        result (cofactorB F f g) b e (o .right),
+        result (cofactorA F f g) a e (o .cofactor-a),
+        result (cofactorB F f g) b e (o .cofactor-b),
         z .2,
-        rw (o .answer, o .left, o .right) so,
+        rw (o .answer, o .cofactor-a, o .cofactor-b) so,
       )
     where
       so : CofactorsSo F f g (cofactorA F f g) (cofactorB F f g)

@@ -2,7 +2,6 @@
 --     Carries-on     the rounds go on after one more
 -- Assumes nothing.
 use mathlib.Core.Path.{_≡_, sym, _∙_, ap, subst}
-use mathlib.Core.Bool.{cond}
 use mathlib.Core.List.{List}
 use Prim.Native.Nat.{ℕ, zero, suc, _+_, _-_, _≤_, _<_}
 use native.Mathlib.Omega.{arith}
@@ -17,12 +16,10 @@ use Rattle.lists.proofs.Words.{zero-later}
 use Rattle.word_division.proofs.Steps.{less-product-low, length-lessProduct}
 use Rattle.word_division.proofs.Cut.{lessProduct-zero}
 use Rattle.euclid_round.specs.Round.{roundSteps, remaining, quotientWords}
-use Rattle.euclid_round.proofs.Turns.{end-euclid, round-fits, round-euclid, round-quotient, length-remaining, length-quotientWords}
-use Rattle.list_gcd.specs.Internal.{Buffer, euclidOn}
-use Rattle.list_gcd.proofs.Alternating as T
-use Rattle.list_gcd.specs.Internal.{Led}
-use Rattle.list_gcd.proofs.Alternating.{LedOn, led-count, led-last}
-use Rattle.list_cofactors.specs.Internal.{partX, partS, partT, reach, Short, Cut, lessQuotient, turned, Leads, roundsOn, Carried, Ends}
+use Rattle.euclid_round.proofs.Turns.{end-euclid, round-euclid, round-quotient, length-remaining, length-quotientWords}
+use Rattle.list_gcd.specs.Internal.{Buffer, euclidOn, Led}
+use Rattle.list_gcd.proofs.Alternating.{LedOn, led-remaining, led-count, led-last}
+use Rattle.list_cofactors.specs.Internal.{partX, partS, partT, reach, Short, Cut, lessQuotient, remainingRow, Leads, roundsOn, Carried, Ends}
 use Rattle.list_cofactors.proofs.Parts.{length-partS, length-partT, joined-x, joined-s, joined-t, joined-length}
 
 module _ (F : PrimeField) (n : ℕ) where
@@ -74,21 +71,21 @@ module _ (F : PrimeField) (n : ℕ) where
     long-t : length left-t ≡ n
     long-t = length-less (partX n u) (partX n v) bu bv some (partT n u) (partT n v) ∙ length-partT n u eu
 
-    pub turned-x : partX n (turned F n u v) ≡ left-x
-    unfolding turned
-    turned-x = joined-x n left-x left-s left-t long-x long-s
+    pub row-x : partX n (remainingRow F n u v) ≡ left-x
+    unfolding remainingRow
+    row-x = joined-x n left-x left-s left-t long-x long-s
 
-    turned-s : partS n (turned F n u v) ≡ left-s
-    unfolding turned
-    turned-s = joined-s n left-x left-s left-t long-x long-s
+    row-s : partS n (remainingRow F n u v) ≡ left-s
+    unfolding remainingRow
+    row-s = joined-s n left-x left-s left-t long-x long-s
 
-    turned-t : partT n (turned F n u v) ≡ left-t
-    unfolding turned
-    turned-t = joined-t n left-x left-s left-t long-x long-s
+    row-t : partT n (remainingRow F n u v) ≡ left-t
+    unfolding remainingRow
+    row-t = joined-t n left-x left-s left-t long-x long-s
 
-    turned-length : length (turned F n u v) ≡ n + (n + n)
-    unfolding turned
-    turned-length = joined-length n left-x left-s left-t long-x long-s long-t
+    row-length : length (remainingRow F n u v) ≡ n + (n + n)
+    unfolding remainingRow
+    row-length = joined-length n left-x left-s left-t long-x long-s long-t
 
   -- a round leaves short cofactors: the quotient has at most as many words more than 1 as x loses
   module _ (u v : List ℕ) (eu : length u ≡ n + (n + n)) (bu : Buffer F n (partX n u)) (bv : Buffer F n (partX n v)) (some : 0 < significant (partX n v)) where
@@ -103,15 +100,15 @@ module _ (F : PrimeField) (n : ℕ) where
         fits : reach F n u v + (length (quotientWords F (partX n u) (partX n v)) - 1) ≤ suc n - significant (partX n v)
         fits = omega (arith, steps, significant-le (partX n u), significant-le (partX n v), bu .size, bv .size)
 
-    turned-short : Short F n (reach F n u v) u → Short F n (reach F n u v) v → Short F n (suc n - significant (partX n v)) (turned F n u v)
-    turned-short su sv =
+    row-short : Short F n (reach F n u v) u → Short F n (reach F n u v) v → Short F n (suc n - significant (partX n v)) (remainingRow F n u v)
+    row-short su sv =
         record {
-          left = rw (turned-s u v eu bu bv some) (less-short (partS n u) (partS n v) (su .left) (sv .left));
-          right = rw (turned-t u v eu bu bv some) (less-short (partT n u) (partT n v) (su .right) (sv .right));
+          part-s = rw (row-s u v eu bu bv some) (less-short (partS n u) (partS n v) (su .part-s) (sv .part-s));
+          part-t = rw (row-t u v eu bu bv some) (less-short (partT n u) (partT n v) (su .part-t) (sv .part-t));
         }
 
   short-later : {c d : ℕ} {u : List ℕ} → c ≤ d → Short F n c u → Short F n d u
-  short-later l s = record { left = zero-later l (s .left); right = zero-later l (s .right) }
+  short-later l s = record { part-s = zero-later l (s .part-s); part-t = zero-later l (s .part-t) }
 
   -- where no round is left, s is the cofactor
   leads-end : (x y : List ℕ) → Buffer F n x → Buffer F n y → significant y ≡ 0 → {s s′ : List ℕ} {c : S}
@@ -131,13 +128,13 @@ module _ (F : PrimeField) (n : ℕ) where
         size = c .size-u;
         count = led-count F n _ _ _ _ _ (c .led) none;
         last = led-last F n _ _ _ _ _ (c .led) none;
-        left = leads-end (partX n u) (partX n v) (c .led .left) (c .led .right) none (c .left);
-        right = leads-end (partX n u) (partX n v) (c .led .left) (c .led .right) none (c .right);
+        low-s = leads-end (partX n u) (partX n v) (c .led .buffer-x) (c .led .buffer-y) none (c .leads-s);
+        low-t = leads-end (partX n u) (partX n v) (c .led .buffer-x) (c .led .buffer-y) none (c .leads-t);
       }
 
   -- what the next round needs of the cofactors
   pub carried-cut : (u₀ v₀ u v : List ℕ) (rounds : ℕ) → Carried F n u₀ v₀ u v rounds → Cut F n u v
-  carried-cut u₀ v₀ u v rounds c = record { left = c .left .low .below; right = c .right .low .below; short = c .short-v }
+  carried-cut u₀ v₀ u v rounds c = record { part-s = c .leads-s .low .below; part-t = c .leads-t .low .below; short = c .short-v }
 
   pub record Carries-on (u₀ v₀ v u′ : List ℕ) (rounds : ℕ) : Type 0 where
     pub next : Carried F n u₀ v₀ v u′ (rounds + 1)
@@ -146,18 +143,18 @@ module _ (F : PrimeField) (n : ℕ) where
 
   -- a round made
   pub carried-round : (u₀ v₀ u v : List ℕ) (rounds : ℕ) {u′ : List ℕ} → Buffer F n (partX n u₀) → Buffer F n (partX n v₀)
-      → Carried F n u₀ v₀ u v rounds → 0 < significant (partX n v) → u′ ≡ turned F n u v → Carries-on u₀ v₀ v u′ rounds
+      → Carried F n u₀ v₀ u v rounds → 0 < significant (partX n v) → u′ ≡ remainingRow F n u v → Carries-on u₀ v₀ v u′ rounds
   carried-round u₀ v₀ u v rounds {u′} bu bv c some e =
       subst (λ w. Carries-on u₀ v₀ v w rounds) (sym e)
       (record {
         next = record {
           size-u = c .size-v;
-          size-v = turned-length u v (c .size-u) bx by some;
+          size-v = row-length u v (c .size-u) bx by some;
           led = subst (λ w. Led F n (partX n u₀) (partX n v₀) y w (rounds + 1)) (sym is-x) (step .next);
           short-u = short-later (omega (arith, less)) (c .short-v);
-          short-v = short-later (omega (arith, less)) (turned-short u v (c .size-u) bx by some (c .short-u) (c .short-v));
-          left = leads (turned-s u v (c .size-u) bx by some) (leads-round x y bx by some (length-partS n u (c .size-u)) (length-partS n v (c .size-v)) (c .left));
-          right = leads (turned-t u v (c .size-u) bx by some) (leads-round x y bx by some (length-partT n u (c .size-u)) (length-partT n v (c .size-v)) (c .right));
+          short-v = short-later (omega (arith, less)) (row-short u v (c .size-u) bx by some (c .short-u) (c .short-v));
+          leads-s = leads (row-s u v (c .size-u) bx by some) (leads-round x y bx by some (length-partS n u (c .size-u)) (length-partS n v (c .size-v)) (c .leads-s));
+          leads-t = leads (row-t u v (c .size-u) bx by some) (leads-round x y bx by some (length-partT n u (c .size-u)) (length-partT n v (c .size-v)) (c .leads-t));
         };
         smaller = less;
         few = step .few;
@@ -170,23 +167,20 @@ module _ (F : PrimeField) (n : ℕ) where
       y = partX n v
 
       bx : Buffer F n x
-      bx = c .led .left
+      bx = c .led .buffer-x
 
       by : Buffer F n y
-      by = c .led .right
+      by = c .led .buffer-y
 
-      step : LedOn F n (partX n u₀) (partX n v₀) x y (remaining F x y) rounds
-      step =
-          T.turn F n _ _ x y x rounds bu bv (c .led) some (let l = bx .size in omega arith)
-          (sym (ap (λ b. cond b (remaining F x y) x)
-          (round-fits F n x y (bx .below) (by .below) (bx .size) (by .size) some x (let l = bx .size in omega arith))))
+      step : LedOn F n (partX n u₀) (partX n v₀) y (remaining F x y) rounds
+      step = led-remaining F n _ _ x y rounds (c .led) some bu bv
 
-      is-x : partX n (turned F n u v) ≡ remaining F x y
-      is-x = turned-x u v (c .size-u) bx by some
+      is-x : partX n (remainingRow F n u v) ≡ remaining F x y
+      is-x = row-x u v (c .size-u) bx by some
 
-      less : significant (partX n (turned F n u v)) < significant y
+      less : significant (partX n (remainingRow F n u v)) < significant y
       less = rw is-x (step .smaller)
 
       leads : {s s′ s″ : List ℕ} {k : S} → s″ ≡ s′ → Leads F n (euclidOn F n y (remaining F x y)) s s′ k
-          → Leads F n (roundsOn F n v (turned F n u v)) s s″ k
+          → Leads F n (roundsOn F n v (remainingRow F n u v)) s s″ k
       leads {s} {s′} {s″} {k} q l = rw (is-x, q) l

@@ -1,28 +1,32 @@
--- The lengths of the result slices, as the code finds and tests them.
+-- The lengths of the result slices, as the code finds them, and the tests of the call's judge.
+-- Theorems:
+--     few-a, few-b                                      a and b have no more words than the longest list
+--     words-short, words-long                           their numbers of words by cases on the lengths of the lists
+--     refused-gcd, misfit-a, misfit-b, none-refused     the judge's tests are the rows of the table
+--     cofactors-ready                                   what a call knows that refuses nothing
 -- Assumes nothing.
-use mathlib.Core.Path.{_≡_, sym, _∙_, ap, refl}
-use mathlib.Core.Bool.{true, Bool, false, not, _||_}
+use mathlib.Core.Path.{_≡_, sym, _∙_, ap}
+use mathlib.Core.Bool.{not}
 use mathlib.Core.List.{List}
 use Prim.Native.Nat.{ℕ, suc, _+_, _-_, _≤_, _<_, max}
 use native.Mathlib.Omega.{arith}
 use lib.Dec.{eqb}
 use lib.ListN.{length}
-use borrow.Author.Tests.{eqb-true, eq-eqb, ne-eqb}
+use borrow.Author.Tests.{eqb-true, eq-eqb, ne-eqb, not-false}
+use Rattle.algebra.specs.PrimeField.{PrimeField}
+use Rattle.refusal.specs.Lowest.{lowest}
+use Rattle.refusal.specs.declared.Refusal.{Refusal}
+use Rattle.refusal.specs.declared.Refusal.the-variants.{Misfit}
+use Rattle.refusal.specs.declared.Outcome.the-variants.{Done, Refused}
+use Rattle.refusal.proofs.First.{refuse, or-else, first-then, refuse-done, or-else-done}
 use Rattle.lists.specs.Degrees.{naiveDegree}
+use Rattle.lists.specs.Refused.{listRefusals}
 use Rattle.euclid_theory.specs.Gcd.{identityDegree}
-use Rattle.list_cofactors.specs.Internal.{wrongSlices, Slices}
-
-none-wrong : (a b c : Bool) → (not a || not b || not c) ≡ false → (a ≡ true) × (b ≡ true) × (c ≡ true)
-none-wrong true true true e = (refl, refl, refl)
-none-wrong true true false e = (refl, refl, cc)
-none-wrong true false c e = (refl, cc, cc)
-none-wrong false b c e = (cc, cc, cc)
-
-pub slices : (n : ℕ) (f g h a b : List ℕ) → wrongSlices n f g h a b ≡ false → Slices n f g h a b
-slices n f g h a b e =
-    let w = none-wrong (eqb (length h) n) (eqb (length a) (suc (identityDegree f g - naiveDegree f)))
-    (eqb (length b) (suc (identityDegree f g - naiveDegree g))) e in
-    record { size-h = eqb-true _ _ (w .0); size-a = eqb-true _ _ (w .1); size-b = eqb-true _ _ (w .2) }
+use Rattle.list_gcd.specs.Calls.{gcdRows}
+use Rattle.list_gcd.specs.Internal.{Ready}
+use Rattle.list_gcd.proofs.Ready.{gcd-ready}
+use Rattle.list_cofactors.specs.Calls.{cofactorRows}
+use Rattle.list_cofactors.specs.Internal.{Slices}
 
 identity-comm : (f g : List ℕ) → identityDegree f g ≡ identityDegree g f
 unfolding identityDegree
@@ -58,16 +62,59 @@ pub words-long : (f g : List ℕ) (r : ℕ) → 2 ≤ length f → r ≡ max (le
 unfolding identityDegree naiveDegree
 words-long f g r l e = words-high (length f - 1) (length g - 1) r (omega arith) e
 
--- the tests of the slices, one after the other
-module _ (n : ℕ) (f g h a b : List ℕ) where
-  pub wrong-h : ¬ (length h ≡ n) → true ≡ wrongSlices n f g h a b
-  wrong-h w = rw (ne-eqb (length h) n w)
+-- the tests of the judge, one after the other
+module _ (p most : ℕ) (f g h a b : List ℕ) where
+  rows-judged : lowest (cofactorRows p most f g h a b)
+      ≡ or-else (lowest (gcdRows p most f g h))
+      (refuse (not (eqb (length a) (suc (identityDegree f g - naiveDegree f)))) Misfit
+      (refuse (not (eqb (length b) (suc (identityDegree f g - naiveDegree g)))) Misfit Done))
+  unfolding cofactorRows gcdRows listRefusals
+  rows-judged = first-then (gcdRows p most f g h) _ tt
 
-  pub wrong-a : (k : ℕ) → length h ≡ n → k ≡ suc (identityDegree f g - naiveDegree f) → ¬ (length a ≡ k) → true ≡ wrongSlices n f g h a b
-  wrong-a k e q w = rw (eq-eqb (length h) n e, ne-eqb (length a) (suc (identityDegree f g - naiveDegree f)) (λ i. w (i ∙ sym q)))
+  pub refused-gcd : {why : Refusal} → lowest (gcdRows p most f g h) ≡ Refused why → Refused why ≡ lowest (cofactorRows p most f g h a b)
+  refused-gcd e = sym (rows-judged ∙ simp e)
 
-  pub wrong-b : (k j : ℕ) → length h ≡ n → k ≡ suc (identityDegree f g - naiveDegree f) → length a ≡ k
-      → j ≡ suc (identityDegree g f - naiveDegree g) → not (eqb (length b) j) ≡ wrongSlices n f g h a b
-  wrong-b k j e q i r =
-      ap (λ m. not (eqb (length b) m)) (r ∙ ap (λ m. suc (m - naiveDegree g)) (identity-comm g f))
-      ∙ rw (eq-eqb (length h) n e, eq-eqb (length a) (suc (identityDegree f g - naiveDegree f)) (i ∙ q))
+  -- na and nb as the code finds them
+  module _ {na : ℕ} (e : lowest (gcdRows p most f g h) ≡ Done) (ea : na ≡ suc (identityDegree f g - naiveDegree f)) where
+    pub misfit-a : ¬ (length a ≡ na) → Refused Misfit ≡ lowest (cofactorRows p most f g h a b)
+    misfit-a w = sym (rows-judged ∙ simp (e, ne-eqb (length a) (suc (identityDegree f g - naiveDegree f)) (λ i. w (i ∙ sym ea))))
+
+    module _ {nb : ℕ} (fa : length a ≡ na) (eb : nb ≡ suc (identityDegree g f - naiveDegree g)) where
+      size-b : nb ≡ suc (identityDegree f g - naiveDegree g)
+      size-b = eb ∙ ap (λ m. suc (m - naiveDegree g)) (identity-comm g f)
+
+      pub misfit-b : ¬ (length b ≡ nb) → Refused Misfit ≡ lowest (cofactorRows p most f g h a b)
+      misfit-b w =
+          sym
+          (rows-judged
+          ∙ simp (
+            e,
+            eq-eqb (length a) (suc (identityDegree f g - naiveDegree f)) (fa ∙ ea),
+            ne-eqb (length b) (suc (identityDegree f g - naiveDegree g)) (λ i. w (i ∙ sym size-b)),
+          ))
+
+      pub none-refused : length b ≡ nb → Done ≡ lowest (cofactorRows p most f g h a b)
+      none-refused fb =
+          sym
+          (rows-judged
+          ∙ simp (
+            e,
+            eq-eqb (length a) (suc (identityDegree f g - naiveDegree f)) (fa ∙ ea),
+            eq-eqb (length b) (suc (identityDegree f g - naiveDegree g)) (fb ∙ size-b),
+          ))
+
+-- what a call knows that refuses nothing
+pub cofactors-ready : (F : PrimeField) (most : ℕ) → most ≤ F .p → (f g h a b : List ℕ) → lowest (cofactorRows (F .p) most f g h a b) ≡ Done
+    → Ready F most f g × Slices most f g h a b
+cofactors-ready F most big f g h a b e =
+    let tests = or-else-done (lowest (gcdRows (F .p) most f g h)) _ (sym (rows-judged (F .p) most f g h a b) ∙ e) in
+    let of-a = refuse-done (not (eqb (length a) (suc (identityDegree f g - naiveDegree f)))) _ _ (tests .1) in
+    let of-b = refuse-done (not (eqb (length b) (suc (identityDegree f g - naiveDegree g)))) _ _ (of-a .1) in
+    let of-gcd = gcd-ready F most big f g h (tests .0) in (
+      of-gcd .0,
+      record {
+        size-h = of-gcd .1;
+        size-a = eqb-true _ _ (not-false _ (of-a .0));
+        size-b = eqb-true _ _ (not-false _ (of-b .0));
+      },
+    )

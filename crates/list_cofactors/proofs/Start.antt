@@ -83,11 +83,11 @@ module _ (F : PrimeField) (n : ℕ) where
     zero-tv : (k : ℕ) → getD (partT n v) (suc k) 0 ≡ 0
     zero-tv k = getD-partT v (suc k) ∙ sv .zeros (n + (n + suc k)) (omega arith) (λ e. omega arith)
 
-    left-u : Low F n (partS n u) 1ˢ
-    left-u = low-one (partS n u) (getD-partS u 0 some ∙ ap (λ i. getD u i 0) first ∙ su .here) zero-su
+    one-u : Low F n (partS n u) 1ˢ
+    one-u = low-one (partS n u) (getD-partS u 0 some ∙ ap (λ i. getD u i 0) first ∙ su .here) zero-su
 
-    right-v : Low F n (partT n v) 1ˢ
-    right-v = low-one (partT n v) (getD-partT v 0 ∙ ap (λ i. getD v (n + i) 0) first ∙ sv .here) zero-tv
+    one-v : Low F n (partT n v) 1ˢ
+    one-v = low-one (partT n v) (getD-partT v 0 ∙ ap (λ i. getD v (n + i) 0) first ∙ sv .here) zero-tv
 
     at-least-1 : 1 ≤ reach F n u v
     at-least-1 =
@@ -104,10 +104,10 @@ module _ (F : PrimeField) (n : ℕ) where
           size-u = su .size;
           size-v = sv .size;
           led = led-start F n (partX n u) (partX n v) (su .holds .buffer) (sv .holds .buffer);
-          short-u = record { left = after-1 (partS n u) zero-su; right = record { at = λ k l. zero-tu k } };
-          short-v = record { left = record { at = λ k l. zero-sv k }; right = after-1 (partT n v) zero-tv };
-          left = record { of = 1ˢ; of′ = 0ˢ; low = left-u; low′ = low-zero (partS n v) zero-sv; sum = keep (roundsOn F n u v .byX) (roundsOn F n u v .byY) };
-          right = record { of = 0ˢ; of′ = 1ˢ; low = low-zero (partT n u) zero-tu; low′ = right-v; sum = pass (roundsOn F n u v .byX) (roundsOn F n u v .byY) };
+          short-u = record { part-s = after-1 (partS n u) zero-su; part-t = record { at = λ k l. zero-tu k } };
+          short-v = record { part-s = record { at = λ k l. zero-sv k }; part-t = after-1 (partT n v) zero-tv };
+          leads-s = record { of = 1ˢ; of′ = 0ˢ; low = one-u; low′ = low-zero (partS n v) zero-sv; sum = keep (roundsOn F n u v .byX) (roundsOn F n u v .byY) };
+          leads-t = record { of = 0ˢ; of′ = 1ˢ; low = low-zero (partT n u) zero-tu; low′ = one-v; sum = pass (roundsOn F n u v .byX) (roundsOn F n u v .byY) };
         }
       where
         keep : (x y : S) → x *ˢ 1ˢ +ˢ y *ˢ 0ˢ ≡ x

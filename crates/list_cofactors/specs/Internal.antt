@@ -1,28 +1,26 @@
 -- What the functions behind the cofactors need and do. A row has three parts of n words, as in an augmented matrix: x and its cofactors s
 -- and t.
---     wrongSlices n         whether a result slice has not the length of its result, h having n words; Slices: none of them
+--     Slices n              each result slice has the length of its result, h having n words
 --     partX, partS, partT   the parts of a row
 --     Started n one row s   a row with the words of s, zeros after it but for a 1 at word `one`
 --     reach n u v           no cofactor in the rows u, v has more words: those that the parts x have lost, and 1
 --     Short c u             both cofactors in the row u are 0 from word c on
 --     Cut u v               what a round needs of the cofactors: those of u are words below p, those of v have at most `reach` words
---     turned n u v          what a round leaves of the row u: u less q times v, part by part, q being the quotient of the parts x
+--     remainingRow n u v    what a round leaves of the row u: u less q times v, part by part, q being the quotient of the parts x
 --     Leads z s s′ c        s and s′ stand for series that lead to the cofactor c: with the cofactors of the rounds z that are left they
 --                           give c. The words are cut off at n
 --     Carried               the rounds have led from the rows u₀, v₀ to u, v
 --     Ends                  the row holds the last x of the rounds from u₀, v₀, with its cofactors
---     Found f g row         the row holds the last x of f and g, with its cofactors
---     LastRow               a row whose x is not zero
+--     LastRowOf f g row     the row holds the last x of f and g, with its cofactors
+--     NonzeroRow            a row whose x is not zero
 --     timesList             the list of so many words whose scaled form is m times the words of a buffer
 --     overLast n x          the same with 1 over the last word of x for m
 --     Wrote row             what is written from the row of the last x
 --     Results n f g         what is answered and written, h having n words
 -- Assumes nothing.
 use mathlib.Core.Path.{_≡_}
-use mathlib.Core.Bool.{Bool, not, _||_}
 use mathlib.Core.List.{List, _++_}
 use Prim.Native.Nat.{ℕ, suc, max, _+_, _-_, _≤_, _<_}
-use lib.Dec.{eqb}
 use lib.ListN.{getD, length, take, drop}
 use Rattle.algebra.specs.Ring.{CommRing}
 use Rattle.algebra.specs.Series.{C}
@@ -33,18 +31,11 @@ use Rattle.lists.specs.Lists.{unscaled}
 use Rattle.lists.specs.Words.{seriesOf, Low, ZeroFrom}
 use Rattle.word_division.specs.Reduction.{lessProduct}
 use Rattle.euclid_round.specs.Round.{remaining, quotientWords}
-use Rattle.list_gcd.specs.Internal.{Buffer, Holds, euclidOn, monicList}
-use Rattle.list_gcd.specs.Internal.{Led}
 use Rattle.algebra.specs.Monic.{topInverse}
 use Rattle.euclid_theory.specs.Gcd.{room, identityDegree, euclidOf, gcdOf, roundsOf, cofactorA, cofactorB}
 use Rattle.lists.specs.Padded.{padded}
 use Rattle.list_gcd.specs.declared.Gcd.{Gcd}
-use Rattle.list_gcd.specs.Internal.{LastOf, gcdDone}
-
-abbrev pub wrongSlices : ℕ → (f g h a b : List ℕ) → Bool
-wrongSlices n f g h a b =
-    not (eqb (length h) n) || not (eqb (length a) (suc (identityDegree f g - naiveDegree f)))
-    || not (eqb (length b) (suc (identityDegree f g - naiveDegree g)))
+use Rattle.list_gcd.specs.Internal.{Buffer, Holds, euclidOn, monicList, Led, LastOf, gcdDone}
 
 pub record Slices (n : ℕ) (f g h a b : List ℕ) : Type 0 where
   pub size-h : length h ≡ n
@@ -75,20 +66,20 @@ module _ (F : PrimeField) (n : ℕ) where
   reach u v = suc n - max (significant (partX n u)) (significant (partX n v))
 
   pub record Short (c : ℕ) (u : List ℕ) : Type 0 where
-    pub left : ZeroFrom c (partS n u)
-    pub right : ZeroFrom c (partT n u)
+    pub part-s : ZeroFrom c (partS n u)
+    pub part-t : ZeroFrom c (partT n u)
 
   pub record Cut (u v : List ℕ) : Type 0 where
-    pub left : (k : ℕ) → getD (partS n u) k 0 < F .p
-    pub right : (k : ℕ) → getD (partT n u) k 0 < F .p
+    pub part-s : (k : ℕ) → getD (partS n u) k 0 < F .p
+    pub part-t : (k : ℕ) → getD (partT n u) k 0 < F .p
     pub short : Short (reach u v) v
 
   -- what is left of the words s of u, t being those of v
   unfoldable pub lessQuotient : (x y s t : List ℕ) → List ℕ
   lessQuotient x y s t = lessProduct (F .p) s (quotientWords F x y) t
 
-  unfoldable pub turned : (u v : List ℕ) → List ℕ
-  turned u v =
+  unfoldable pub remainingRow : (u v : List ℕ) → List ℕ
+  remainingRow u v =
       remaining F (partX n u) (partX n v)
       ++ (lessQuotient (partX n u) (partX n v) (partS n u) (partS n v) ++ lessQuotient (partX n u) (partX n v) (partT n u) (partT n v))
 
@@ -109,15 +100,15 @@ module _ (F : PrimeField) (n : ℕ) where
     pub led : Led F n (partX n u₀) (partX n v₀) (partX n u) (partX n v) rounds
     pub short-u : Short (reach u v) u
     pub short-v : Short (reach u v) v
-    pub left : Leads (roundsOn u v) (partS n u) (partS n v) (roundsOn u₀ v₀ .byX)
-    pub right : Leads (roundsOn u v) (partT n u) (partT n v) (roundsOn u₀ v₀ .byY)
+    pub leads-s : Leads (roundsOn u v) (partS n u) (partS n v) (roundsOn u₀ v₀ .byX)
+    pub leads-t : Leads (roundsOn u v) (partT n u) (partT n v) (roundsOn u₀ v₀ .byY)
 
   pub record Ends (u₀ v₀ row : List ℕ) (rounds : ℕ) : Type 0 where
     pub size : length row ≡ n + (n + n)
     pub count : rounds ≡ roundsOn u₀ v₀ .rounds
     pub last : Holds F n (partX n row) (roundsOn u₀ v₀ .last)
-    pub left : Low F n (partS n row) (roundsOn u₀ v₀ .byX)
-    pub right : Low F n (partT n row) (roundsOn u₀ v₀ .byY)
+    pub low-s : Low F n (partS n row) (roundsOn u₀ v₀ .byX)
+    pub low-t : Low F n (partT n row) (roundsOn u₀ v₀ .byY)
 
 module _ (F : PrimeField) where
   open CommRing (scalars F) using (Carrier as K)
@@ -134,15 +125,15 @@ module _ (F : PrimeField) where
   unfoldable pub overLast : (n : ℕ) (x : List ℕ) (words : ℕ) → List ℕ → List ℕ
   overLast n x words form = timesList words (lastInverse n x) form
 
-  pub record Found (n : ℕ) (f g row : List ℕ) (rounds : ℕ) : Type 0 where
+  pub record LastRowOf (n : ℕ) (f g row : List ℕ) (rounds : ℕ) : Type 0 where
     pub size : length row ≡ n + (n + n)
     pub count : rounds ≡ roundsOf F f g
     pub gcd : LastOf F n f g (partX n row)
     pub inverse : lastInverse n (partX n row) ≡ topInverse (F .series) (scalarField F) (room f g) (euclidOf F f g .last)
-    pub left : Low F n (partS n row) (euclidOf F f g .byX)
-    pub right : Low F n (partT n row) (euclidOf F f g .byY)
+    pub low-s : Low F n (partS n row) (euclidOf F f g .byX)
+    pub low-t : Low F n (partT n row) (euclidOf F f g .byY)
 
-  pub record LastRow (n : ℕ) (row : List ℕ) : Type 0 where
+  pub record NonzeroRow (n : ℕ) (row : List ℕ) : Type 0 where
     pub size : length row ≡ n + (n + n)
     pub buffer : Buffer F n (partX n row)
     pub some : 0 < significant (partX n row)
@@ -150,11 +141,11 @@ module _ (F : PrimeField) where
   pub record Wrote (n : ℕ) (row : List ℕ) (na nb w : ℕ) (h a b : List ℕ) : Type 0 where
     pub degree : w + 1 ≡ significant (partX n row)
     pub gcd : h ≡ padded n (monicList F n (seriesOf F (partX n row)))
-    pub left : a ≡ overLast n (partX n row) na (partT n row)
-    pub right : b ≡ overLast n (partX n row) nb (partS n row)
+    pub cofactor-a : a ≡ overLast n (partX n row) na (partT n row)
+    pub cofactor-b : b ≡ overLast n (partX n row) nb (partS n row)
 
   pub record Results (n : ℕ) (f g : List ℕ) (r : Gcd) (h a b : List ℕ) : Type 0 where
     pub answer : r ≡ gcdDone F f g
     pub gcd : h ≡ padded n (gcdOf F f g)
-    pub left : a ≡ cofactorA F f g
-    pub right : b ≡ cofactorB F f g
+    pub cofactor-a : a ≡ cofactorA F f g
+    pub cofactor-b : b ≡ cofactorB F f g

@@ -6,41 +6,28 @@ ghost use Prim.Native.Nat.{ℕ, suc, max, _+_, _-_, _<_, _≤_};
 ghost use lib.ListN.{length, getD, take, drop};
 ghost use Rattle.refusal.specs.Contract.{given, final};
 ghost use Rattle.algebra.specs.PrimeField.{residue};
-ghost use Rattle.field.specs.Fields.{F65521, p, modulus, fieldAt, longest};
+ghost use Rattle.refusal.specs.Contract.{given, final};
 ghost use Rattle.refusal.specs.Limits.{maxWords};
-ghost use Rattle.refusal.specs.Refusal.{reply, written};
 ghost use Rattle.refusal.specs.Lowest.{lowest};
+ghost use Rattle.field.specs.Fields.{modulus, fieldAt, longest};
+ghost use Rattle.field_tables.specs.Factorials.{Tables};
 ghost use Rattle.lists.specs.Degrees.{naiveDegree, significant};
 ghost use Rattle.lists.specs.Lists.{scaled};
 ghost use Rattle.word_division.specs.Reduction.{lessProduct};
-ghost use Rattle.field_tables.specs.Factorials.{Tables};
-ghost use Rattle.euclid_theory.specs.Gcd.{gcdOf, identityDegree, cofactorA, cofactorB};
-ghost use Rattle.lists.specs.Padded.{padded};
-ghost use Rattle.list_gcd.specs.Calls.{gcdReply, gcdValues, Greatest};
-ghost use Rattle.list_gcd.specs.Internal.{Buffer};
-ghost use Rattle.list_gcd.specs.Internal.{Ready};
-ghost use Rattle.list_cofactors.specs.Calls.{cofactorRows, cofactorRefusals, Cofactors};
-ghost use Rattle.list_cofactors.specs.Internal.{partX, turned, Started, Cut, Carried, Ends};
-ghost use Rattle.list_cofactors.specs.Internal.{wrongSlices, timesList, Found, LastRow, Wrote, Slices, Results};
+ghost use Rattle.euclid_theory.specs.Gcd.{identityDegree};
+ghost use Rattle.list_gcd.specs.Calls.{gcdReply, Greatest};
+ghost use Rattle.list_gcd.specs.Internal.{Ready, Buffer};
+ghost use Rattle.list_cofactors.specs.Calls.{cofactorRows, cofactorAnswer, cofactorGcd, cofactorsWrittenA, cofactorsWrittenB, Cofactors};
+ghost use Rattle.list_cofactors.specs.Internal.{partX, remainingRow, Started, Cut, Carried, Ends};
+ghost use Rattle.list_cofactors.specs.Internal.{timesList, LastRowOf, NonzeroRow, Wrote, Slices, Results};
+use list_gcd::Ended;
 use list_gcd::Gcd;
 use list_gcd::Rounds;
 use lists::NaiveDegree;
 use refusal::Outcome;
 use refusal::Refusal;
 
-// The GCD of f and g with its cofactors: a·f + b·g = (1-t)^(m-w)·h.
-pub fn find_cofactors(f: &[u16], g: &[u16], h: &mut [u16], a: &mut [u16], b: &mut [u16]) -> Gcd
-    ensures answer { λ r. ⌜ gcdReply r ≡ reply (lowest (cofactorRefusals p (given f) (given g) (given h) (given a) (given b))) (gcdValues F65521 (given f) (given g)) ⌝ }
-    ensures gcd { λ _. ⌜ final h ≡ written (lowest (cofactorRefusals p (given f) (given g) (given h) (given a) (given b))) (padded maxWords (gcdOf F65521 (given f) (given g))) (given h) ⌝ }
-    ensures left { λ _. ⌜ final a ≡ written (lowest (cofactorRefusals p (given f) (given g) (given h) (given a) (given b))) (cofactorA F65521 (given f) (given g)) (given a) ⌝ }
-    ensures right { λ _. ⌜ final b ≡ written (lowest (cofactorRefusals p (given f) (given g) (given h) (given a) (given b))) (cofactorB F65521 (given f) (given g)) (given b) ⌝ }
-    ensures greatest { λ r. ⌜ Greatest F65521 (given f) (given g) (final h) r ⌝ }
-    ensures identity { λ r. ⌜ Cofactors F65521 (given f) (given g) (final a) (final b) r ⌝ }
-{
-    cofactors_over(0, f, g, h, a, b)
-}
-
-// The same over a field: h goes to a slice of as many words as the longest list has.
+// The GCD of f and g over a field with its cofactors: a·f + b·g = (1-t)^(m-w)·h. h goes to a slice of as many words as the longest list has.
 pub fn cofactors_over(
     field: u8,
     f: &[u16],
@@ -49,10 +36,10 @@ pub fn cofactors_over(
     a: &mut [u16],
     b: &mut [u16],
 ) -> Gcd
-    ensures answer { λ r. ⌜ gcdReply r ≡ reply (lowest (cofactorRows (modulus field) (longest field) (given f) (given g) (given h) (given a) (given b))) (gcdValues (fieldAt field) (given f) (given g)) ⌝ }
-    ensures gcd { λ _. ⌜ final h ≡ written (lowest (cofactorRows (modulus field) (longest field) (given f) (given g) (given h) (given a) (given b))) (padded (longest field) (gcdOf (fieldAt field) (given f) (given g))) (given h) ⌝ }
-    ensures left { λ _. ⌜ final a ≡ written (lowest (cofactorRows (modulus field) (longest field) (given f) (given g) (given h) (given a) (given b))) (cofactorA (fieldAt field) (given f) (given g)) (given a) ⌝ }
-    ensures right { λ _. ⌜ final b ≡ written (lowest (cofactorRows (modulus field) (longest field) (given f) (given g) (given h) (given a) (given b))) (cofactorB (fieldAt field) (given f) (given g)) (given b) ⌝ }
+    ensures answer { λ r. ⌜ gcdReply r ≡ cofactorAnswer field (given f) (given g) (given h) (given a) (given b) ⌝ }
+    ensures gcd { λ _. ⌜ final h ≡ cofactorGcd field (given f) (given g) (given h) (given a) (given b) ⌝ }
+    ensures cofactor_a { λ _. ⌜ final a ≡ cofactorsWrittenA field (given f) (given g) (given h) (given a) (given b) ⌝ }
+    ensures cofactor_b { λ _. ⌜ final b ≡ cofactorsWrittenB field (given f) (given g) (given h) (given a) (given b) ⌝ }
     ensures greatest { λ r. ⌜ Greatest (fieldAt field) (given f) (given g) (final h) r ⌝ }
     ensures identity { λ r. ⌜ Cofactors (fieldAt field) (given f) (given g) (final a) (final b) r ⌝ }
 {
@@ -79,30 +66,17 @@ fn cofactor_words(list: &[u16], other: &[u16]) -> usize
     other.len() - 1
 }
 
-// Whether a result slice has not the length of its result.
-fn wrong_slices(field: u8, f: &[u16], g: &[u16], h: &[u16], a: &[u16], b: &[u16]) -> bool
-    ensures { λ r. ⌜ r ≡ wrongSlices (longest field) (given f) (given g) (given h) (given a) (given b) ⌝ }
-{
-    if h.len() != field::longest_of(field) {
-        return true;
-    }
-    if a.len() != cofactor_words(f, g) {
-        return true;
-    }
-    b.len() != cofactor_words(g, f)
-}
-
-// What the call refuses.
+// What the call refuses: what the GCD does, and slices for a and b of other lengths.
 fn judge_cofactors(field: u8, f: &[u16], g: &[u16], h: &[u16], a: &[u16], b: &[u16]) -> Outcome
     ensures { λ r. ⌜ r ≡ lowest (cofactorRows (modulus field) (longest field) (given f) (given g) (given h) (given a) (given b)) ⌝ }
 {
-    if let Outcome::Refused(why) = lists::judge_lists(field, f, g) {
+    if let Outcome::Refused(why) = list_gcd::judge_gcd(field, f, g, h) {
         return Outcome::Refused(why);
     }
-    if list_gcd::both_zero(f, g) {
-        return Outcome::Refused(Refusal::AllZero);
+    if a.len() != cofactor_words(f, g) {
+        return Outcome::Refused(Refusal::Misfit);
     }
-    if wrong_slices(field, f, g, h, a, b) {
+    if b.len() != cofactor_words(g, f) {
         return Outcome::Refused(Refusal::Misfit);
     }
     Outcome::Done
@@ -142,9 +116,9 @@ fn words_read(n: usize, nu: usize, nv: usize) -> usize
     lists::smaller(n, (n + 8 - lists::larger(nu, nv)) / 8 * 8)
 }
 
-// One of Euclid's rounds on rows: u less the quotient times v. The significant words of their parts x, nu and nv of them, are all that
-// the round and the search after it look at. The number of those that are left of u.
-fn turn(
+// One of Euclid's rounds on rows: u less the quotient times v. Their parts x have nu and nv significant words. The number of those that
+// are left of u.
+fn next_round(
     field: u8,
     n: usize,
     inverses: &[u16],
@@ -161,25 +135,18 @@ fn turn(
     requires { ⌜ Cut (fieldAt field) n (now u) (now v) ⌝ }
     requires { ⌜ n ≤ maxWords ⌝ }
     ensures { λ r. ⌜ r ≡ significant (partX n (final u)) ⌝ }
-    ensures { λ _. ⌜ final u ≡ turned (fieldAt field) n (given u) (given v) ⌝ }
+    ensures { λ _. ⌜ final u ≡ remainingRow (fieldAt field) n (given u) (given v) ⌝ }
 {
-    let k = euclid_round::round(field, inverses, &mut u[..nu], &v[..nv], q);
-    let left = lists::significant_words(&u[..nu]);
+    let made = euclid_round::shorten(field, inverses, &mut u[..n], nu, &v[..n], nv, q);
     take_off(
         field,
         n,
         &mut u[n..],
-        &q[..k],
+        &q[..made.steps],
         &v[n..],
         words_read(n, nu, nv),
     );
-    left
-}
-
-// Where the rounds ended: how many they were, and whether the last x stands in the first row.
-struct Ended {
-    rounds: usize,
-    first: bool,
+    made.left
 }
 
 // Euclid's rounds on two rows that alternate, until the x of one of them is zero.
@@ -206,7 +173,7 @@ fn all_rounds(
                 first: true,
             };
         }
-        nu = turn(field, n, inverses, u, nu, v, nv, q);
+        nu = next_round(field, n, inverses, u, nu, v, nv, q);
         rounds += 1;
         if nu == 0 {
             return Ended {
@@ -214,7 +181,7 @@ fn all_rounds(
                 first: false,
             };
         }
-        nv = turn(field, n, inverses, v, nv, u, nu, q);
+        nv = next_round(field, n, inverses, v, nv, u, nu, q);
         rounds += 1;
     }
 }
@@ -238,7 +205,7 @@ fn find_last(
     requires { ⌜ (length (now u) ≡ n + (n + n)) × (length (now v) ≡ n + (n + n)) × (length (now q) ≡ n) ⌝ }
     requires { ⌜ ((k : ℕ) → getD (now u) k 0 ≡ 0) ⌝ }
     requires { ⌜ ((k : ℕ) → getD (now v) k 0 ≡ 0) ⌝ }
-    ensures { λ r. ⌜ Found (fieldAt field) n (given f) (given g) (cond (r .first) (final u) (final v)) (r .rounds) ⌝ }
+    ensures { λ r. ⌜ LastRowOf (fieldAt field) n (given f) (given g) (cond (r .first) (final u) (final v)) (r .rounds) ⌝ }
 {
     start_row(field, whole, part, g, u, n);
     start_row(field, whole, part, f, v, n + n);
@@ -282,7 +249,7 @@ fn write_row(
 ) -> NaiveDegree
     requires { ⌜ n ≡ longest field ⌝ }
     requires { ⌜ Tables (fieldAt field) n (now whole) (now part) ⌝ }
-    requires { ⌜ LastRow (fieldAt field) n (now row) ⌝ }
+    requires { ⌜ NonzeroRow (fieldAt field) n (now row) ⌝ }
     requires { ⌜ (length (now h) ≡ n) × (length (now a) ≤ n) × (length (now b) ≤ n) ⌝ }
     ensures { λ r. ⌜ Wrote (fieldAt field) n (given row) (length (given a)) (length (given b)) (r .0) (final h) (final a) (final b) ⌝ }
 {
@@ -309,7 +276,7 @@ fn write_last(
 ) -> NaiveDegree
     requires { ⌜ n ≡ longest field ⌝ }
     requires { ⌜ Tables (fieldAt field) n (now whole) (now part) ⌝ }
-    requires { ⌜ LastRow (fieldAt field) n (cond first (now u) (now v)) ⌝ }
+    requires { ⌜ NonzeroRow (fieldAt field) n (cond first (now u) (now v)) ⌝ }
     requires { ⌜ (length (now h) ≡ n) × (length (now a) ≤ n) × (length (now b) ≤ n) ⌝ }
     ensures { λ r. ⌜ Wrote (fieldAt field) n (cond first (given u) (given v)) (length (given a)) (length (given b)) (r .0) (final h) (final a) (final b) ⌝ }
 {
@@ -346,7 +313,7 @@ fn cofactors_in(
 {
     let ended = find_last(field, n, whole, part, inverses, f, g, u, v, q);
     let w = write_last(field, n, whole, part, inverses, ended.first, u, v, h, a, b);
-    let c = euclid_round::common_power(f, g);
+    let c = list_gcd::common_power(f, g);
     Gcd::Done(w, c, Rounds(ended.rounds))
 }
 

@@ -116,7 +116,7 @@ led-on k n nx ny x₀ y₀ x y q rounds {steps} {left} {x′} {q′} bx by t ex 
     some : 0 < significant y
     some = omega arith
 
-    made : Rounded k nx ny x y q steps left x′ q′
+    made : Rounded k x y q steps left x′ q′
     made = shortened k nx ny x y q ex ey same s
 
     words : x′ ≡ remaining (fieldAt k) x y

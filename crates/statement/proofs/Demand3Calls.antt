@@ -10,7 +10,7 @@ use Rattle.algebra.specs.Ring.{CommRing}
 use Rattle.algebra.specs.OneMinusT.{⟨1-t⟩^}
 use Rattle.algebra.specs.PrimeField.{PrimeField}
 use Rattle.refusal.specs.Limits.{maxWords}
-use Rattle.refusal.specs.Refusal.{Reply, reply, written}
+use Rattle.refusal.specs.Refusal.{Reply, written}
 use Rattle.refusal.specs.Lowest.{lowest}
 use Rattle.field.specs.Fields.{p, longest, F65521, fieldAt}
 use Rattle.field.proofs.FieldsLaws.{longest-in}
@@ -22,7 +22,7 @@ use Rattle.euclid_theory.proofs.Gcd.{length-gcd}
 use Rattle.euclid_theory.specs.Cofactors.{AreCofactors}
 use Rattle.euclid_theory.proofs.Cofactors.{identity-left, identity-right, identity-within, cofactors-are, cofactors-only}
 use Rattle.list_gcd.specs.Calls.{gcdValues}
-use Rattle.list_cofactors.specs.Calls.{cofactorRows}
+use Rattle.list_cofactors.specs.Calls.{cofactorRows, cofactorAnswer, cofactorGcd, cofactorsWrittenA, cofactorsWrittenB}
 use Rattle.list_cofactors.proofs.Results.{cofactors-ready}
 use Rattle.statement.proofs.Demand1.{done-reply}
 use Rattle.statement.specs.Demand3Calls.{Meet, Fixed, CofactorsOf}
@@ -95,19 +95,16 @@ module _ (F : PrimeField) (f g : List ℕ) where
       → Fixed F f g h w (cofactorA F f g) (cofactorB F f g) → Fixed F f g (take (suc n) slice) n a b
   in-slice slice en eh ea eb k = rw (en, eh, ea, eb) k
 
-pub cofactors-of : (f g old-h old-a old-b : List ℕ) {h a b : List ℕ} {r : Reply}
-    → r ≡ reply (lowest (cofactorRows p maxWords f g old-h old-a old-b)) (gcdValues F65521 f g)
-    → h ≡ written (lowest (cofactorRows p maxWords f g old-h old-a old-b)) (padded maxWords (gcdOf F65521 f g)) old-h
-    → a ≡ written (lowest (cofactorRows p maxWords f g old-h old-a old-b)) (cofactorA F65521 f g) old-a
-    → b ≡ written (lowest (cofactorRows p maxWords f g old-h old-a old-b)) (cofactorB F65521 f g) old-b
+pub cofactors-of : (f g old-h old-a old-b : List ℕ) {h a b : List ℕ} {r : Reply} → r ≡ cofactorAnswer 0 f g old-h old-a old-b
+    → h ≡ cofactorGcd 0 f g old-h old-a old-b → a ≡ cofactorsWrittenA 0 f g old-h old-a old-b → b ≡ cofactorsWrittenB 0 f g old-h old-a old-b
     → CofactorsOf F65521 f g h a b r
-unfolding fieldAt gcdValues padded
+unfolding fieldAt longest gcdValues padded
 cofactors-of f g old-h old-a old-b {h} e eh ea eb w c rounds q =
-    let t = done-reply (lowest (cofactorRows p maxWords f g old-h old-a old-b)) (w ∷ c ∷ rounds ∷ []) (gcdValues F65521 f g) (sym q ∙ e) in
-    let k = cofactors-ready F65521 maxWords room f g old-h old-a old-b (t .0) .0 in
-    let n = length-gcd F65521 f g (k .coefficients-f) (k .coefficients-g) (k .some) in
-    in-slice F65521 f g h (ap (λ l. getD l 0 0) (t .1))
-    (ap (take (suc (naiveDegree (gcdOf F65521 f g)))) (eh ∙ ap (λ o. written o (padded maxWords (gcdOf F65521 f g)) old-h) (t .0)) ∙ take-at (gcdOf F65521 f g) _ _ n)
-    (ea ∙ ap (λ o. written o (cofactorA F65521 f g) old-a) (t .0))
-    (eb ∙ ap (λ o. written o (cofactorB F65521 f g) old-b) (t .0))
-    (fixed F65521 f g (k .coefficients-f) (k .coefficients-g) (k .some))
+    let told = done-reply (lowest (cofactorRows p maxWords f g old-h old-a old-b)) (w ∷ c ∷ rounds ∷ []) (gcdValues F65521 f g) (sym q ∙ e) in
+    let ready = cofactors-ready F65521 maxWords room f g old-h old-a old-b (told .0) .0 in
+    let words = length-gcd F65521 f g (ready .coefficients-f) (ready .coefficients-g) (ready .some) in
+    in-slice F65521 f g h (ap (λ l. getD l 0 0) (told .1))
+    (ap (take (suc (naiveDegree (gcdOf F65521 f g)))) (eh ∙ ap (λ o. written o (padded maxWords (gcdOf F65521 f g)) old-h) (told .0)) ∙ take-at (gcdOf F65521 f g) _ _ words)
+    (ea ∙ ap (λ o. written o (cofactorA F65521 f g) old-a) (told .0))
+    (eb ∙ ap (λ o. written o (cofactorB F65521 f g) old-b) (told .0))
+    (fixed F65521 f g (ready .coefficients-f) (ready .coefficients-g) (ready .some))

@@ -3,6 +3,7 @@
 use crate::album::bytes;
 use crate::lent::Lent;
 use crate::model::MAX_WORDS;
+use std::fs::File;
 use std::io::{Read, Write};
 use std::process::{Command, Stdio};
 use std::{env, thread, time::Duration};
@@ -47,7 +48,7 @@ pub struct Answer {
 type In = *const u8;
 type Out = *mut u8;
 
-#[link(name = "host", kind = "static")]
+#[link(name = "bernstein", kind = "static")]
 unsafe extern "C" {
     fn bernstein_product(f: In, f_len: usize, g: In, g_len: usize, out: Out, out_len: usize) -> u8;
     fn bernstein_division(g: In, g_len: usize, f: In, f_len: usize, q: Out, q_len: usize, r: Out, r_len: usize) -> u8;
@@ -87,14 +88,30 @@ fn call_host(operation: Operation, lists: [&mut [u8]; 2], mut results: Vec<&mut 
     }
 }
 
-/// What `report` writes on this input. The environment variable REPORT may name another program.
+/// The program `report`. The environment variable REPORT may name another.
+fn program() -> String {
+    env::var("REPORT").unwrap_or("target/bin/report".into())
+}
+
+/// What `report` writes to standard output and to standard error when it is started with these arguments on no input.
+pub fn report_with(arguments: &[&str]) -> [Vec<u8>; 2] {
+    let ended = Command::new(program()).args(arguments).stdin(Stdio::null()).output().expect("report runs");
+    [ended.stdout, ended.stderr]
+}
+
+/// What `report` writes to standard error where standard output is this file.
+pub fn report_to(file: File) -> Vec<u8> {
+    Command::new(program()).stdin(Stdio::null()).stdout(file).output().expect("report runs").stderr
+}
+
+/// What `report` writes on this input.
 pub fn report(input: &[u8]) -> Result<Vec<u8>, String> {
     report_in_pieces(input, usize::MAX)
 }
 
 /// The same with the input written in pieces, a moment apart, so that the program's reads are short.
 pub fn report_in_pieces(input: &[u8], size: usize) -> Result<Vec<u8>, String> {
-    let program = env::var("REPORT").unwrap_or("target/bin/report".into());
+    let program = program();
     let started = Command::new(&program).stdin(Stdio::piped()).stdout(Stdio::piped()).spawn();
     let mut child = started.map_err(|error| format!("{program}: {error}"))?;
     let mut pipe = child.stdin.take().expect("a pipe");

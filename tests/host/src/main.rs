@@ -5,22 +5,22 @@ mod calls;
 mod compare;
 mod engine;
 mod field;
-mod json;
 mod lent;
 mod model;
 mod poly;
 mod public;
 mod random;
 mod report;
+mod vectors;
 
 use calls::{Name, PublicCall};
 use compare::{call_fault, gcd_results, report_fault};
 use engine::{Call, Operation};
-use json::Value;
 use model::{Gcd, List, MAX_WORDS};
 use public::Done;
 use random::Random;
 use std::{collections::BTreeMap, fs, process::exit};
+use vectors::Vector;
 
 const CALLS: usize = 10_000;
 const ALBUMS: usize = 1_500;
@@ -78,6 +78,8 @@ fn main() {
     compare_edges(&mut tally);
     compare_tables(&mut tally);
     compare_vectors(&mut tally);
+    compare_examples(&mut tally);
+    compare_messages(&mut tally);
     for said in [compare::try_broken_copies(&mut Random(4)), public::try_broken_copies(&mut Random(5))] {
         match said {
             Ok(said) => println!("the comparer notices: {said}"),
@@ -207,6 +209,10 @@ fn compare_albums(tally: &mut Tally) {
     tally.print_numbers("report", &[0, 1, 2, 5, 9], 30);
     println!("  of the albums {} were written in small pieces, and {} are those of samples/", in_pieces.len(), samples.len());
     tally.check("the example of document 01", report::text(&example()) == "lists 2\n0 1 1 0\n1 2 2 0\ngcd 1 0\n0 1\n");
+    // the second example of docs/FORMAT.md
+    let second = [2, 2, 7, 0, 3, 0x0D, 0, 0, 0, 0xF9, 0x7F, 0, 0, 0, 0, 0xA1, 0xAA, 0, 0, 0, 0];
+    compare_report(tally, &second, usize::MAX);
+    tally.check("docs/FORMAT.md", report::text(&second) == "lists 2\n0 2 1 1\n1 3 1 2\ngcd 2 1\n0 1\n");
 }
 
 /// The albums of the repository's folder samples/.
@@ -443,34 +449,25 @@ fn compare_tables(tally: &mut Tally) {
 
 /// The sums that the source documents print, where document 01 has the operation.
 fn compare_vectors(tally: &mut Tally) {
-    let vectors = json::parse(include_str!("../vectors.json"));
-    let mut compared = 0;
-    let mut skipped: BTreeMap<&str, usize> = BTreeMap::new();
-    for vector in vectors.array() {
-        if compare_vector(tally, vector) {
-            compared += 1;
-        } else {
-            *skipped.entry(vector.field("operation").text()).or_default() += 1;
-        }
-    }
-    let skipped: Vec<String> = skipped.iter().map(|(operation, count)| format!("{operation} ({count})")).collect();
-    println!("vectors of the source documents: {compared} compared with the model and the engine");
-    println!("  skipped, as document 01 has no such operation: {}", skipped.join(", "));
+    let vectors = vectors::parse(include_str!("../vectors.txt"));
+    let (skipped, kept): (Vec<&Vector>, _) = vectors.iter().partition(|vector| NOT_IN_DOCUMENT_01.contains(&vector.operation));
+    kept.iter().for_each(|vector| compare_vector(tally, vector));
+    println!("vectors of the source documents: {} compared with the model and the engine", kept.len());
+    println!("  skipped, as document 01 has no such operation: {} ({})", skipped.len(), NOT_IN_DOCUMENT_01.join(", "));
 }
 
-/// Whether document 01 has the operation.
-fn compare_vector(tally: &mut Tally, vector: &Value) -> bool {
-    let (inputs, expected) = (vector.field("inputs"), vector.field("expected"));
-    let place = vector.field("place").text();
-    let input = |name| inputs.field(name).list();
-    let list = |name: &str| expected.field(name).list();
-    let number = |name| expected.field(name).number() as usize;
+const NOT_IN_DOCUMENT_01: [&str; 2] = ["ordinary division", "relations of three"];
+
+fn compare_vector(tally: &mut Tally, vector: &Vector) {
+    let place = vector.place;
+    let input = |name| vector.input(name);
+    let list = |name| vector.result(name);
     let gcd = || {
-        let gcd = Gcd { h: list("h"), c: number("c"), rounds: number("rounds") };
-        assert_eq!(gcd.h.len() - 1, number("w"), "{place}");
+        let gcd = Gcd { h: list("h"), c: vector.result_number("c"), rounds: vector.result_number("rounds") };
+        assert_eq!(gcd.h.len() - 1, vector.result_number("w"), "{place}");
         gcd
     };
-    let (call, printed) = match vector.field("operation").text() {
+    let (call, printed) = match vector.operation {
         "product" => {
             let call = Call::fitting(Operation::Product, &input("f"), &input("g"));
             compare_results(tally, place, &call, &[list("list")]);
@@ -487,24 +484,54 @@ fn compare_vector(tally: &mut Tally, vector: &Value) -> bool {
             (on_lists(Name::Gcd, &[&input("f"), &input("g")], &[]), gcd_of(gcd(), &[]))
         }
         "gcd of an album" => {
-            let lists: Vec<List> = inputs.field("lists").array().iter().map(Value::list).collect();
-            let album = album::written(&lists);
+            let album = album::written(&vector.inputs("list"));
             compare_report(tally, &album, usize::MAX);
             (public::fitting(Name::GcdOfAlbum, &[], &album, &[]), gcd_of(gcd(), &[]))
         }
-        "raise" => {
-            let n = inputs.field("n").number() as usize;
-            (on_lists(Name::Raise, &[&input("f")], &[n]), lists_of(&[&list("list")]))
-        }
+        "raise" => (on_lists(Name::Raise, &[&input("f")], &[vector.input_number("n")]), lists_of(&[&list("list")])),
         "sum" => (on_lists(Name::Sum, &[&input("f"), &input("g")], &[]), lists_of(&[&list("list")])),
         "remove top zeros" => (on_lists(Name::Trim, &[&input("f")], &[]), lists_of(&[&list("list")])),
         "derivative" => (on_lists(Name::Derivative, &[&input("f")], &[]), lists_of(&[&list("list")])),
         "evaluation" => {
-            let t = inputs.field("t").number() as usize;
-            (on_lists(Name::Evaluate, &[&input("f")], &[t]), value_of(number("value")))
+            (on_lists(Name::Evaluate, &[&input("f")], &[vector.input_number("t")]), value_of(vector.result_number("value")))
         }
-        _ => return false,
+        operation => panic!("{place}: no operation {operation}"),
     };
     compare_printed(tally, place, &call, printed);
-    true
+}
+
+/// Compares what the programs of examples/ print, in C and in Python, with the model's results on the same lists. The division is P4.
+fn compare_examples(tally: &mut Tally) {
+    let [f, g] = [[3, 5, 1], [4, 0, 7]].map(|list| model::multiply(&[1, 2], &list));
+    let results = |call: &Call| compare::expected(call).results.iter().map(|r| album::words(r)).collect::<Vec<List>>();
+    let gcd = results(&Call::fitting(Operation::Gcd, &f, &g));
+    let division = results(&Call::fitting(Operation::Division, &[3, 4], &[2]));
+    let line = |name: &str, words: &[u32]| words.iter().fold(name.to_string(), |line, word| format!("{line} {word}")) + "\n";
+    let h = &gcd[0][..=gcd[1][0] as usize];
+    let text = line("w c rounds", &gcd[1]) + &line("h", h) + &line("q", &division[0]);
+    let printed = fs::read_to_string(EXAMPLES).unwrap_or_else(|error| format!("{EXAMPLES}: {error}"));
+    if printed != text.repeat(2) {
+        tally.fault("examples/run", &format!("it printed {printed:?}, and not twice {text:?}"));
+    }
+    println!("examples/run: what its two programs print compared with the model");
+}
+
+/// Where tests/host/run puts what examples/run prints.
+const EXAMPLES: &str = "target/comparer/examples.txt";
+
+/// What `report` says when it is given arguments, and when its output cannot be written.
+fn compare_messages(tally: &mut Tally) {
+    for arguments in [&["--help"][..], &["samples/example.album"], &["a", "b"]] {
+        let [out, said] = engine::report_with(arguments);
+        let said = String::from_utf8_lossy(&said);
+        if !out.is_empty() || said.lines().count() != 3 || !said.starts_with("report <FILE ") {
+            tally.fault(&format!("report {arguments:?}"), &format!("it says {said:?}, and not in three lines how it is run"));
+        }
+    }
+    let full = fs::File::options().write(true).open("/dev/full").expect("the device /dev/full");
+    let said = engine::report_to(full);
+    if said != b"report: standard output cannot be written\n" {
+        tally.fault("report >/dev/full", &format!("it says {:?}", String::from_utf8_lossy(&said)));
+    }
+    println!("report: what it says to arguments, and where its output cannot be written");
 }

@@ -24,19 +24,19 @@ abbrev μ-loop : tie.MeasureT-loop
 μ-loop field n inverses u₀ v₀ q₀ rounds₀ nu₀ nv₀ u v q rounds nu nv = nv
 
 -- u by v
-first : (c : tie.After-turn Inv-loop μ-loop)
-    → Carries-on (fieldAt (c .before .before .before .before .before .before .before .before .before .before .before .before .before .before .args .field)) (c .before .before .before .before .before .before .before .before .before .before .before .before .before .before .args .n) (c .before .before .before .before .before .before .before .before .before .before .before .before .before .before .args .u .now) (c .before .before .before .before .before .before .before .before .before .before .before .before .before .before .args .v .now) (c .before .before .before .before .before .loop .v) (c .turn .last .1 .1 .1 .0) (c .before .before .before .before .before .loop .rounds)
+first : (c : tie.After-next-round Inv-loop μ-loop)
+    → Carries-on (fieldAt (c .before .before .before .before .before .before .before .before .before .before .before .before .before .before .args .field)) (c .before .before .before .before .before .before .before .before .before .before .before .before .before .before .args .n) (c .before .before .before .before .before .before .before .before .before .before .before .before .before .before .args .u .now) (c .before .before .before .before .before .before .before .before .before .before .before .before .before .before .args .v .now) (c .before .before .before .before .before .loop .v) (c .next-round .last .1 .1 .1 .0) (c .before .before .before .before .before .loop .rounds)
 first c =
     let start = c .before .before .before .before .before .before .before .before .before .before .before .before .before .before .pre .0 .led in
     let i = c .before .before .before .before .before .loop .inv in
-    carried-round (fieldAt _) _ _ _ _ _ _ (start .left) (start .right) (i .0) (omega arith) (c .turn .ensures .1)
+    carried-round (fieldAt _) _ _ _ _ _ _ (start .buffer-x) (start .buffer-y) (i .0) (omega arith) (c .next-round .ensures .1)
 
 -- v by what is left of u
-second : (c : tie.After-turn2 Inv-loop μ-loop)
-    → Carries-on (fieldAt (c .before .before .before .before .before .before .before .before .before .before .before .before .before .before .before .before .before .before .before .before .before .before .before .args .field)) (c .before .before .before .before .before .before .before .before .before .before .before .before .before .before .before .before .before .before .before .before .before .before .before .args .n) (c .before .before .before .before .before .before .before .before .before .before .before .before .before .before .before .before .before .before .before .before .before .before .before .args .u .now) (c .before .before .before .before .before .before .before .before .before .before .before .before .before .before .before .before .before .before .before .before .before .before .before .args .v .now) (c .before .before .before .before .before .before .before .before .before .turn .last .1 .1 .1 .0) (c .turn2 .last .1 .1 .1 .0) (c .before .before .before .before .before .before .before .before .before .before .before .before .before .before .loop .rounds + 1)
+second : (c : tie.After-next-round2 Inv-loop μ-loop)
+    → Carries-on (fieldAt (c .before .before .before .before .before .before .before .before .before .before .before .before .before .before .before .before .before .before .before .before .before .before .before .args .field)) (c .before .before .before .before .before .before .before .before .before .before .before .before .before .before .before .before .before .before .before .before .before .before .before .args .n) (c .before .before .before .before .before .before .before .before .before .before .before .before .before .before .before .before .before .before .before .before .before .before .before .args .u .now) (c .before .before .before .before .before .before .before .before .before .before .before .before .before .before .before .before .before .before .before .before .before .before .before .args .v .now) (c .before .before .before .before .before .before .before .before .before .next-round .last .1 .1 .1 .0) (c .next-round2 .last .1 .1 .1 .0) (c .before .before .before .before .before .before .before .before .before .before .before .before .before .before .loop .rounds + 1)
 second c =
     let start = c .before .before .before .before .before .before .before .before .before .before .before .before .before .before .before .before .before .before .before .before .before .before .before .pre .0 .led in
-    carried-round (fieldAt _) _ _ _ _ _ _ (start .left) (start .right) (first (c .before .before .before .before .before .before .before .before .before) .next) (omega arith) (c .turn2 .ensures .1)
+    carried-round (fieldAt _) _ _ _ _ _ _ (start .buffer-x) (start .buffer-y) (first (c .before .before .before .before .before .before .before .before .before) .next) (omega arith) (c .next-round2 .ensures .1)
 
 slice-reshare-prefix-significant-words : tie.Need-slice-reshare-prefix-significant-words Inv-loop μ-loop
 slice-reshare-prefix-significant-words c = let size = c .before .before .before .before .pre .0 .size-u in search needs
@@ -73,10 +73,10 @@ returns c =
     let i = c .before .loop .inv in
     carried-end (fieldAt _) _ _ _ _ _ _ (i .0) (sym (i .3) ∙ c .if1 .taken)
 
-turn-requires : tie.Need-turn-requires Inv-loop μ-loop
-turn-requires c κs =
+next-round-requires : tie.Need-next-round-requires Inv-loop μ-loop
+next-round-requires c κs =
     let i = c .before .before .before .before .loop .inv in
-    ((i .0 .size-u, i .0 .size-v, i .1 ∙ c .before .before .before .before .before .before .before .before .before .before .before .before .before .pre .1 .0), (i .0 .led .left, (i .0 .led .right, ((i .2, i .3, omega arith), (carried-cut (fieldAt _) _ _ _ _ _ _ (i .0), c .before .before .before .before .before .before .before .before .before .before .before .before .before .pre .1 .1)))))
+    ((i .0 .size-u, i .0 .size-v, i .1 ∙ c .before .before .before .before .before .before .before .before .before .before .before .before .before .pre .1 .0), (i .0 .led .buffer-x, (i .0 .led .buffer-y, ((i .2, i .3, omega arith), (carried-cut (fieldAt _) _ _ _ _ _ _ (i .0), c .before .before .before .before .before .before .before .before .before .before .before .before .before .pre .1 .1)))))
 
 add-rounds : tie.Need-add-rounds Inv-loop μ-loop
 add-rounds c = let few = first (c .before .before .before .before) .few in search needs
@@ -93,15 +93,15 @@ same-length-6 c = search needs
 returns-2 : tie.Need-returns-2 Inv-loop μ-loop
 returns-2 c =
     let t = c .before .before .before .before .before in
-    carried-end (fieldAt _) _ _ _ _ _ _ (first t .next) (sym (t .turn .ensures .0) ∙ c .if2 .taken)
+    carried-end (fieldAt _) _ _ _ _ _ _ (first t .next) (sym (t .next-round .ensures .0) ∙ c .if2 .taken)
 
-turn-requires-2 : tie.Need-turn-requires-2 Inv-loop μ-loop
-turn-requires-2 c κs =
+next-round-requires-2 : tie.Need-next-round-requires-2 Inv-loop μ-loop
+next-round-requires-2 c κs =
     let t = c .before .before .before .before .before .before .before .before in
     let i = first t .next in
     let before = c .before .before .before .before .before .before .before .before .before .before .before .before .before .loop .inv in
     let pre = c .before .before .before .before .before .before .before .before .before .before .before .before .before .before .before .before .before .before .before .before .before .before .pre in
-    ((i .size-u, i .size-v, t .turn .kept .1 .1 .1 .1 .1 .1 .1 .0 ∙ before .1 ∙ pre .1 .0), (i .led .left, (i .led .right, ((before .3, t .turn .ensures .0, omega arith), (carried-cut (fieldAt _) _ _ _ _ _ _ i, pre .1 .1)))))
+    ((i .size-u, i .size-v, t .next-round .kept .1 .1 .1 .1 .1 .1 .1 .0 ∙ before .1 ∙ pre .1 .0), (i .led .buffer-x, (i .led .buffer-y, ((before .3, t .next-round .ensures .0, omega arith), (carried-cut (fieldAt _) _ _ _ _ _ _ i, pre .1 .1)))))
 
 add-rounds-2 : tie.Need-add-rounds-2 Inv-loop μ-loop
 add-rounds-2 c =
@@ -115,7 +115,7 @@ loop-less c =
     omega arith
 
 loop-again : tie.Need-loop-again Inv-loop μ-loop
-loop-again c = (second (c .before .before .before .before) .next, search needs, c .before .before .before .before .before .before .before .before .before .before .before .before .before .turn .ensures .0, c .before .before .before .before .turn2 .ensures .0)
+loop-again c = (second (c .before .before .before .before) .next, search needs, c .before .before .before .before .before .before .before .before .before .before .before .before .before .next-round .ensures .0, c .before .before .before .before .next-round2 .ensures .0)
 
 pub all-rounds-spec : {M : Type 1} → statement M
 all-rounds-spec =
@@ -134,13 +134,13 @@ all-rounds-spec =
     same-length-2
     same-length-3
     returns
-    turn-requires
+    next-round-requires
     add-rounds
     same-length-4
     same-length-5
     same-length-6
     returns-2
-    turn-requires-2
+    next-round-requires-2
     add-rounds-2
     loop-less
     loop-again)

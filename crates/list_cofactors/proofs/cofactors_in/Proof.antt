@@ -5,7 +5,7 @@ use native.Mathlib.Omega.{arith}
 use borrow.Author.Needs.{needs}
 use Rattle.field.specs.Fields.{fieldAt}
 use Rattle.field.proofs.FieldsLaws.{longest-more}
-use Rattle.list_cofactors.proofs.Results.{last-row, slices-short, results}
+use Rattle.list_cofactors.proofs.Results.{nonzero-row, slices-short, results}
 use Rattle.list_cofactors.proofs.cofactors_in.Statement.{statement}
 use Rattle.list_cofactors.proofs.cofactors_in.Tie as tie
 
@@ -22,7 +22,7 @@ write-last-requires : tie.Need-write-last-requires
 write-last-requires c κs =
     let start = c .before .before .before .before .before .before .before .before .before .before .before .before .before .before .before .before .before .before .before .before .before .before .before .before .before .before in
     let pre = start .pre in
-    (pre .0, (pre .1 .0, (last-row (fieldAt _) (c .before .before .before .before .before .before .before .before .before .before .before .find-last .ensures), slices-short (fieldAt _) _ (more start) (pre .1 .1 .0) (pre .1 .1 .1 .0))))
+    (pre .0, (pre .1 .0, (nonzero-row (fieldAt _) (c .before .before .before .before .before .before .before .before .before .before .before .find-last .ensures), slices-short (fieldAt _) _ (more start) (pre .1 .1 .0) (pre .1 .1 .1 .0))))
 
 common-power-requires : tie.Need-common-power-requires
 common-power-requires c κs = search needs

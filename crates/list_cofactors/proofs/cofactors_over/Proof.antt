@@ -12,7 +12,8 @@ use Rattle.euclid_theory.specs.Gcd.{cofactorA, cofactorB}
 use Rattle.list_gcd.specs.Internal.{Ready}
 use Rattle.list_gcd.proofs.Finish.{refused}
 use Rattle.list_cofactors.specs.Internal.{Slices}
-use Rattle.list_cofactors.proofs.Results.{cofactors-ready, cofactors-answered}
+use Rattle.list_cofactors.proofs.Slices.{cofactors-ready}
+use Rattle.list_cofactors.proofs.Results.{cofactors-answered}
 use Rattle.refusal.proofs.Answers.{kept}
 use Rattle.list_cofactors.specs.Calls.{cofactorRows}
 use Rattle.list_cofactors.proofs.cofactors_over.Statement.{statement}

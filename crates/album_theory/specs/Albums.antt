@@ -3,8 +3,7 @@
 --     Result                   h, and the sum of all rounds
 --     joined result c          the GCD of the result so far, standing as f, and one more list; its rounds are added
 --     gcdFrom result lists     from a result so far, the GCD with each later list in turn; zero lists are passed over
---     albumGcd lists           the first list that is not zero, ended, at 0 rounds, and so on with the later lists; no words where
---                              all are zero
+--     albumGcd lists           the first list that is not zero, ended, at 0 rounds, and so on with the later lists; no words where all are zero
 -- Theorems, each in the module of proofs/ that is named:
 --     album-is-greatest     (1-t)^c·h is the greatest common divisor of the lists' polynomials (Greatest)
 --     album-is-the          h and the rounds are those of the definition list by list (Defined)

@@ -1,7 +1,6 @@
 -- The loop over the lists of an album.
 --     zeroStart                the zero list [0] at 0 rounds
---     turn result c            the result so far after one more list: the same where that is zero, else the GCD with it, its rounds
---                              added
+--     turn result c            the result so far after one more list: the same where that is zero, else the GCD with it, its rounds added
 --     foldGcd result lists     the result after all lists, one turn each
 -- Theorems (proofs/Folds):
 --     fold-album     from [0] the loop ends with the GCD of an album whose lists are not all zero

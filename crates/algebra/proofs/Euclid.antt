@@ -5,8 +5,7 @@
 -- Theorems:
 --     euclid-fuel, euclid-room     more fuel, or more room, changes nothing
 --     round-law                    one round, with no fuel to count
---     next-acc, done-acc           a loop that carries (s0, s1) and replaces it by (s1, s0 - q · s1) in each round ends with the
---                                  cofactors
+--     next-acc, done-acc           a loop that carries (s0, s1) and replaces it by (s1, s0 - q · s1) in each round ends with the cofactors
 -- Assumes nothing.
 use mathlib.Core.Path.{_≡_, _∙_, refl, sym, ap}
 use Prim.Native.Nat.{ℕ, zero, suc, _-_, _≤_}

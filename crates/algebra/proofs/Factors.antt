@@ -1,7 +1,6 @@
 -- The number of factors 1 - t of a polynomial.
 --     Factor s     s = (1-t) · rest for a polynomial rest
---     Split s      s = (1-t)^k · core with core(1) not 0: k is the exact number of factors 1-t of s, for the meaning of a list its
---                  power
+--     Split s      s = (1-t)^k · core with core(1) not 0: k is the exact number of factors 1-t of s, for the meaning of a list its power
 -- Theorems:
 --     factor                    the factor theorem at 1: where s(1) = 0, s is 1 - t times a polynomial
 --     split-off                 every polynomial but 0 is (1-t)^k · core with core(1) not 0

@@ -6,8 +6,7 @@
 --     split-mul                               a·b = a_0·b + t · (tail a · b)
 --     polynomial-add, polynomial-mul, …       sums and products of polynomials are polynomials
 --     divides-trans, divides-mul, …           divisors of divisors, and of products
---     top-of-product                          coefficient n + m of a product of degrees n and m at most is that of the factors'
---                                             last
+--     top-of-product                          coefficient n + m of a product of degrees n and m at most is that of the factors' last
 -- Assumes nothing.
 use mathlib.Core.Path.{_≡_, _∙_, sym, ap, ap₂, subst}
 use mathlib.Core.Logic.{_⊎_, inl, inr}

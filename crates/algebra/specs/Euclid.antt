@@ -1,6 +1,5 @@
 -- Euclid's algorithm as a function that computes, with its cofactors and its count of rounds.
---     Euclid                  the answer on a pair (x, y): the last x, the number of rounds, and cofactors with byX · x + byY · y =
---                             last
+--     Euclid                  the answer on a pair (x, y): the last x, the number of rounds, and cofactors with byX · x + byY · y = last
 --     quotientBy n d x y      the quotient of x by y, y of degree d, x of at most n coefficients
 --     remainderBy n d x y     the remainder; x itself where y is the longer
 --     done x                  the answer where y is 0: no round

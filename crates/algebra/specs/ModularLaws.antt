@@ -1,8 +1,7 @@
 -- The laws of Z/p that make it a field for a prime p.
 --     valueMod-lt                                        the number that is an element is below p
 --     valueMod-residueMod, residueMod-valueMod           residue and number undo each other
---     residueMod-eq, residueMod-injective                two numbers have one residue where they leave the same remainder by p, and
---                                                        only there
+--     residueMod-eq, residueMod-injective                two numbers have one residue where they leave the same remainder by p, and only there
 --     residueMod-add, residueMod-mul, residueMod-neg     the residue of a sum, a product and a negative is that of the residues
 --     euclid-inverts                                     where only 1 divides both numbers, Euclid's steps end with the inverse
 --     mul-inverse-in                                     a times its inverse is 1, for each a but 0

@@ -4,8 +4,7 @@
 -- Theorems (proofs/Monic):
 --     monic-top, monic-degree     the last coefficient is 1, and the degree that of s
 --     monic-divides               what s divides its monic form divides
---     cofactors-unique            A·y + B·x = h has one solution with B below (degree of y) - (degree of h), h a common divisor of
---                                 x and y
+--     cofactors-unique            A·y + B·x = h has one solution with B below (degree of y) - (degree of h), h a common divisor of x and y
 -- Assumes nothing.
 use Prim.Native.Nat.{ℕ, _-_}
 use Rattle.algebra.specs.Ring.{CommRing, IsField}

@@ -1,5 +1,4 @@
--- The operations modulo p keep the laws of a commutative ring. Every element is n modulo p for a number n, so each law is one of
--- numbers.
+-- The operations modulo p keep the laws of a commutative ring. Every element is n modulo p for a number n, so each law is one of numbers.
 --     mul-mod-left, mul-mod-right     a factor may be reduced first
 --     red-eq                          two numbers with one remainder by p are one element
 --     add-red, mul-red                sum and product of n and m modulo p are n + m and n · m modulo p

@@ -1,10 +1,8 @@
 -- The arithmetic of words is that of the field Z/p: for every prime field F, on words below p = F .p.
 --     residue-sum, residue-difference, residue-product, residue-inverse     each operation is the field's, on residues
 --     sum-lt, difference-lt, product-lt                                     each result is a coefficient
---     inverse-is                                                            every coefficient but 0 has its inverse, and inverseOf
---                                                                           is it
---     inverse-only                                                          a word below p whose product with a leaves 1 is
---                                                                           inverseOf
+--     inverse-is                                                            every coefficient but 0 has its inverse, and inverseOf is it
+--     inverse-only                                                          a word below p whose product with a leaves 1 is inverseOf
 --     has-inverse                                                           no coefficient but 0 is without an inverse
 -- Assumes nothing.
 use mathlib.Core.Path.{_≡_, refl, sym, _∙_, ap, ap₂}

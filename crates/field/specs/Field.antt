@@ -14,8 +14,7 @@
 -- Theorems (proofs/Theorems), on words below p, for every prime field:
 --     residue-sum, residue-difference, residue-product, residue-inverse     each operation is the field's, on residues
 --     sum-lt, difference-lt, product-lt                                     each result is a coefficient
---     inverse-is                                                            every coefficient but 0 has its inverse, and inverseOf
---                                                                           is it
+--     inverse-is                                                            every coefficient but 0 has its inverse, and inverseOf is it
 --     has-inverse                                                           so none but 0 is refused for lack of one
 -- Assumes nothing.
 use mathlib.Core.Path.{_≡_}

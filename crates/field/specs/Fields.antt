@@ -1,5 +1,4 @@
--- The fields of the engine by their numbers. Every number has a field, so that what takes one is total; the calls say which numbers
--- they take.
+-- The fields of the engine by their numbers. Every number has a field, so that what takes one is total; the calls say which numbers they take.
 --     modulus k         p of field k: 65,521, 65,519, and 65,497 for 2 and above
 --     prime-at k        p is prime, by trial division
 --     fieldAt k         field k

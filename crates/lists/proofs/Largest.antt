@@ -1,5 +1,4 @@
--- The loop that takes the largest word of a list: the largest word so far and the words that are left tell whether the list has a
--- loose word.
+-- The loop that takes the largest word of a list: the largest word so far and the words that are left tell whether the list has a loose word.
 --     looseFrom c m i                 m or a word of c from i on is loose
 --     loose-start, loose-end          before the loop and at its end
 --     loose-larger, loose-smaller     one word on

@@ -1,7 +1,6 @@
 -- A list raised to a higher naive degree: its product with a list of ones.
 --     ones n                                            the list of n + 1 ones
---     coeff-⟨1+u⟩^, scaled-ones                         its scaled form is (1+u)^n, whose coefficients are the binomial
---                                                       coefficients
+--     coeff-⟨1+u⟩^, scaled-ones                         its scaled form is (1+u)^n, whose coefficients are the binomial coefficients
 --     meaning-ones                                      so it means 1
 --     length-raise, naive-raise, coefficients-raise     length and words of a raised list
 -- Theorems:

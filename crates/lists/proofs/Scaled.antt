@@ -1,11 +1,9 @@
 -- The scaled form of a list: at naive degree n the meaning is the scaled form homogenised.
 --     length-naive, naive-length                a list of n + 1 words has naive degree n
 --     coefficients, coefficients-listed         when words are coefficients; those of a list that no call refuses are
---     binomial-nonzero, binomial-above          no binomial coefficient of a list of at most p words is 0 in the field; past the
---                                               list they are
+--     binomial-nonzero, binomial-above          no binomial coefficient of a list of at most p words is 0 in the field; past the list they are
 --     coefficient-zero, coefficient-nonzero     a coefficient of the scaled form is 0 where its word is, and only there
---     coefficient-last, last-one                the last coefficient is the last word, so a list whose scaled form ends in 1 ends
---                                               in 1
+--     coefficient-last, last-one                the last coefficient is the last word, so a list whose scaled form ends in 1 ends in 1
 --     coeff-scaled, below-scaled                the coefficients of the scaled form, and its bound
 -- Theorems:
 --     meaning-hom            the meaning is the scaled form, homogenised at the naive degree

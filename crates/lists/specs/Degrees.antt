@@ -1,5 +1,4 @@
--- The two counters of a list of words c_0 to c_n: its naive degree and its extent. They are never confused: the code has a struct
--- for each.
+-- The two counters of a list of words c_0 to c_n: its naive degree and its extent. They are never confused: the code has a struct for each.
 --     naiveDegree c         document 01's naive degree, n
 --     significantIn n c     the number of words up to the last one that is not 0, among the first n
 --     significant c         the same among all: the extent plus 1, and 0 for a zero list

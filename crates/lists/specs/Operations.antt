@@ -1,5 +1,4 @@
--- The operations on lists, by document 01 and the formulas of document 002 that it names. Of each operation f, fAt is the rule of
--- its words.
+-- The operations on lists, by document 01 and the formulas of document 002 that it names. Of each operation f, fAt is the rule of its words.
 --     product f g          formula (6): word k is the sum over j of C(d,j) · C(e,k-j) / C(d+e,k) · f_j · g_(k-j)
 --     raise n f            formula (4): word k is the sum over j of C(d,j) · C(n-d,k-j) / C(n,k) · f_j
 --     largerDegree f g     the larger of two naive degrees

@@ -1,5 +1,4 @@
--- What `add_rows` of the crate `word_product_rows` adds up are the rows of a product, where the factors are small and stand between
--- zeros.
+-- What `add_rows` of the crate `word_product_rows` adds up are the rows of a product, where the factors are small and stand between zeros.
 --     summed-is     the sum of all groups of eight rows is the sum of the rows
 -- Assumes nothing.
 use mathlib.Core.Path.{_≡_, sym, ap, ap₂, _∙_}

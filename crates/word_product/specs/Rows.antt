@@ -1,8 +1,7 @@
 -- A product by rows, in buffers: row j is word j of the first factor times the second. The second factor stands behind 7 zeros, so
 -- that eight rows have one range of words. A buffer may hold several factors, or several sums, one after the other: its blocks.
 --     Shifted d l s        d zeros, the words of a list, then zeros
---     Factors a b          the two factors in their buffers: words of 17 bits, at most 2^16 in the first, so that no sum passes 50
---                          bits
+--     Factors a b          the two factors in their buffers: words of 17 bits, at most 2^16 in the first, so that no sum passes 50 bits
 --     Strip m b            what stands before the second factor, and from m on behind it, is 0
 --     rowSum a b k n       word k of the sum of the first n rows
 --     Summed a b s n       each word of s is that of the sum of the first n rows

@@ -13,7 +13,7 @@ use Rattle.lists.specs.Degrees.{significant}
 use Rattle.lists.proofs.Extents.{significant-le}
 use Rattle.lists.specs.Words.{Low, ZeroFrom}
 use Rattle.lists.proofs.Words.{zero-later}
-use Rattle.word_division.proofs.Steps.{less-product-low, length-lessProduct}
+use Rattle.word_division.proofs.LessProduct.{less-product-low, length-lessProduct}
 use Rattle.word_division.proofs.Cut.{lessProduct-zero}
 use Rattle.euclid_round.specs.Round.{roundSteps, remaining, quotientWords}
 use Rattle.euclid_round.proofs.Turns.{end-euclid, round-euclid, round-quotient, length-remaining, length-quotientWords}

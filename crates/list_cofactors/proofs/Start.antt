@@ -22,7 +22,6 @@ use Rattle.word_scaling.specs.Kernels.{weighFits, weighted}
 use Rattle.list_gcd.specs.Internal.{Holds}
 use Rattle.list_gcd.proofs.Buffers.{getD-zeros, length-part, getD-part, holds-scaled}
 use Rattle.list_gcd.proofs.Alternating.{led-start}
-use Rattle.euclid_theory.specs.Gcd.{room}
 use Rattle.list_cofactors.specs.Internal.{ZeroRows, partX, partS, partT, reach, Started, roundsOn, Carried}
 use Rattle.list_cofactors.proofs.Parts.{length-partX, length-partS}
 

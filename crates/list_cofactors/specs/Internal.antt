@@ -27,7 +27,7 @@ use lib.ListN.{getD, length, take, drop}
 use Rattle.algebra.specs.Ring.{CommRing}
 use Rattle.algebra.specs.Series.{C}
 use Rattle.algebra.specs.Euclid.{Euclid}
-use Rattle.algebra.specs.PrimeField.{PrimeField, scalarField, scalars, inverse}
+use Rattle.algebra.specs.PrimeField.{PrimeField, scalarField, scalars}
 use Rattle.lists.specs.Degrees.{significant, naiveDegree}
 use Rattle.lists.specs.Lists.{unscaled}
 use Rattle.lists.specs.Words.{seriesOf, Low, ZeroFrom}

@@ -10,7 +10,6 @@ use lib.ListN.{getD, length, take, drop, replicate, length-append, length-take, 
 use lib.Seq.{getD-drop, getD-take}
 use Rattle.algebra.specs.Ring.{CommRing}
 use Rattle.algebra.proofs.Series.{ext}
-use Rattle.algebra.specs.Degree.{size}
 use Rattle.algebra.specs.PrimeField.{PrimeField, residue}
 use Rattle.lists.specs.Lists.{scaled}
 use Rattle.lists.specs.Words.{seriesOf}

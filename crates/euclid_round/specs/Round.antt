@@ -11,6 +11,7 @@
 --     writtenList        the list of so many words whose scaled form is m times the words of form, zeros after it: writtenWords of tables of
 --                        factorials
 --     writeFits          the lengths fit; else nothing is written
+--     formLeft, outLeft  what the slices form and out hold after a result is written
 --     zeroedFrom         the words of x, zeros from a word on
 -- Assumes nothing.
 use mathlib.Core.Bool.{Bool, cond, _&&_}
@@ -48,6 +49,13 @@ writeFits words whole part form out =
 
 unfoldable pub writtenWords : (p : ℕ) → (whole part : List ℕ) → (words m : ℕ) → (form out : List ℕ) → List ℕ
 writtenWords p whole part words m form out = padded (length out) (weighted p part whole words (multiplied p m form))
+
+abbrev pub formLeft : (p : ℕ) → (whole part : List ℕ) → (words m : ℕ) → (form out : List ℕ) → List ℕ
+formLeft p whole part words m form out = cond (writeFits words whole part form out) (multiplied p m form) form
+
+abbrev pub outLeft : (p : ℕ) → (whole part : List ℕ) → (words m : ℕ) → (form out : List ℕ) → List ℕ
+outLeft p whole part words m form out =
+    cond (writeFits words whole part form out) (writtenWords p whole part words m form out) out
 
 unfoldable pub zeroedFrom : (from : ℕ) → List ℕ → List ℕ
 zeroedFrom from x = tabulate (length x) (λ i. cond (ltb i from) (getD x i 0) 0)

@@ -1,12 +1,11 @@
 // One of Euclid's rounds on words, and the writing of a result. Each function is total: where its input does not fit, nothing is written.
 ghost use mathlib.Core.Path.{_≡_};
-ghost use mathlib.Core.Bool.{cond};
 ghost use mathlib.Core.List.{_++_};
 ghost use lib.ListN.{take, drop};
 ghost use Rattle.refusal.specs.Contract.{given, final};
 ghost use Rattle.field.specs.Fields.{modulus};
 ghost use Rattle.lists.specs.Degrees.{significant};
-ghost use Rattle.euclid_round.specs.Round.{stepsMade, wordsLeft, quotientLeft, multiplied, zeroedFrom, writeFits, writtenWords};
+ghost use Rattle.euclid_round.specs.Round.{stepsMade, wordsLeft, quotientLeft, formLeft, outLeft, multiplied, zeroedFrom};
 
 // What a round made: the number of words of its quotient, and of significant words that it left of x.
 pub struct Shortened {
@@ -76,8 +75,8 @@ pub fn write_list(
     words: usize,
     out: &mut [u16],
 )
-    ensures form { λ _. ⌜ final form ≡ cond (writeFits words (given whole) (given part) (given form) (given out)) (multiplied (modulus field) m (given form)) (given form) ⌝ }
-    ensures writes { λ _. ⌜ final out ≡ cond (writeFits words (given whole) (given part) (given form) (given out)) (writtenWords (modulus field) (given whole) (given part) words m (given form) (given out)) (given out) ⌝ }
+    ensures form { λ _. ⌜ final form ≡ formLeft (modulus field) (given whole) (given part) words m (given form) (given out) ⌝ }
+    ensures writes { λ _. ⌜ final out ≡ outLeft (modulus field) (given whole) (given part) words m (given form) (given out) ⌝ }
 {
     if form.len() < words {
         return;

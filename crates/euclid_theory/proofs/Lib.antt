@@ -1,3 +1,4 @@
+pub mod CofactorForms
 pub mod Cofactors
 pub mod Defined
 pub mod Division

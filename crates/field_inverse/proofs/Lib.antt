@@ -3,3 +3,4 @@ pub mod OrZero
 pub mod Tried
 pub mod Signed
 pub mod Euclid
+pub mod LastStep

@@ -1,4 +1,9 @@
 -- Integers of a known sign on the machine: what a step of Euclid's does to its cofactors fits 32 bits.
+--     Less              the machine's t0 - q·t1: each operation fits, and what comes out
+--     Negated, Kept     what the machine makes of a negative integer, and of one that is not
+-- Theorems:
+--     less              the machine's t0 - q·t1 is that of the integers
+--     negated, kept     a cofactor brought back to a word
 -- Assumes nothing.
 use mathlib.Core.Path.{_≡_, refl, sym, ap, _∙_, subst}
 use mathlib.Core.Bool.{Bool, true, false, cond}
@@ -35,12 +40,12 @@ pub pos-less : (m k : ℕ) → pos m -ℤ negℤ (pos k) ≡ pos (m + k)
 pos-less m k = ap (λ (z : ℤ). pos m +ℤ z) (negℤ-negℤ (pos k))
 
 -- the machine's t0 - q * t1: each operation fits, and what comes out
-pub record Turn (q t0 t1 : ℕ) (z : ℤ) : Type 0 where
+pub record Less (q t0 t1 : ℕ) (z : ℤ) : Type 0 where
   pub mul : SFits w32 (toZ w32 q *ℤ toZ w32 t1)
   pub sub : SFits w32 (toZ w32 t0 -ℤ toZ w32 (ofZ w32 (toZ w32 q *ℤ toZ w32 t1)))
   pub out : toZ w32 (ofZ w32 (toZ w32 t0 -ℤ toZ w32 (ofZ w32 (toZ w32 q *ℤ toZ w32 t1)))) ≡ z
 
-pub turned :
+pub less :
     (q t0 t1 : ℕ) {z0 z1 zp z : ℤ}
     → q ≤ 65536
     → toZ w32 t0 ≡ z0
@@ -49,8 +54,8 @@ pub turned :
     → SFits w32 zp
     → z0 -ℤ zp ≡ z
     → SFits w32 z
-    → Turn q t0 t1 z
-turned q t0 t1 {z0} {z1} {zp} {z} hq e0 e1 ep fp es fs = record { mul = mul; sub = sub; out = toZ-ofZ w32 _ sub ∙ diff }
+    → Less q t0 t1 z
+less q t0 t1 {z0} {z1} {zp} {z} hq e0 e1 ep fp es fs = record { mul = mul; sub = sub; out = toZ-ofZ w32 _ sub ∙ diff }
   where
     prod : toZ w32 q *ℤ toZ w32 t1 ≡ zp
     prod = ap (λ (x : ℤ). x *ℤ toZ w32 t1) (toZ-pos w32 q (omega arith)) ∙ ap (λ (x : ℤ). pos q *ℤ x) e1 ∙ ep
@@ -89,9 +94,9 @@ pub negated : (t : ℤ) (fits : SFits w32 t) → natAbs t ≤ 65536 → ltZ (toZ
 unfolding residueOf
 negated (pos n) fits h e = absurd (true-false (sym e ∙ ap (λ (z : ℤ). ltZ z (pos 0)) (same (pos n) fits) ∙ le-ltb n 0 (omega arith)))
 negated (negsuc n) fits h e =
-    let turned : pos 0 -ℤ toZ w32 (ofZ w32 (negsuc n)) ≡ pos (suc n) = ap (λ (z : ℤ). pos 0 -ℤ z) (same (negsuc n) fits) ∙ ap pos (omega arith) in
-    let sub : SFits w32 (pos 0 -ℤ toZ w32 (ofZ w32 (negsuc n))) = subst (λ (z : ℤ). SFits w32 z) (sym turned) (fits-pos h) in
-    let out : negative (negsuc n) fits ≡ pos (suc n) = toZ-ofZ w32 _ sub ∙ turned in
+    let minus : pos 0 -ℤ toZ w32 (ofZ w32 (negsuc n)) ≡ pos (suc n) = ap (λ (z : ℤ). pos 0 -ℤ z) (same (negsuc n) fits) ∙ ap pos (omega arith) in
+    let sub : SFits w32 (pos 0 -ℤ toZ w32 (ofZ w32 (negsuc n))) = subst (λ (z : ℤ). SFits w32 z) (sym minus) (fits-pos h) in
+    let out : negative (negsuc n) fits ≡ pos (suc n) = toZ-ofZ w32 _ sub ∙ minus in
     record {
       sub = sub;
       cast = subst (λ (z : ℤ). T (nonNeg z) × Fits w64 (natAbs z)) (sym out) (tt, record { fits = omega arith });

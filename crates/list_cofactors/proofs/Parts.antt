@@ -10,7 +10,7 @@ use lib.ListN.{length, take, drop, length-append, length-drop, drop-of-length-le
 use lib.Seq.{take-at, drop-at, take-all, length-take-le}
 use borrow.Author.Tests.{le-leb}
 use Rattle.word_division.specs.Reduction.{lessProduct, lessProductFits}
-use Rattle.word_division.proofs.Steps.{length-lessProduct}
+use Rattle.word_division.proofs.LessProduct.{length-lessProduct}
 use Rattle.list_cofactors.specs.Internal.{partX, partS, partT}
 
 -- the lengths of the parts

@@ -42,7 +42,7 @@ use Rattle.list_gcd.specs.Calls.{gcdReply, gcdValues, Greatest}
 use Rattle.list_gcd.specs.Internal.{Ready, euclidOn, gcdDone}
 use Rattle.list_gcd.proofs.Finish.{gcd-done, ready-euclid, ready-count, ready-last, last-inverse, gcd-written, answered}
 use Rattle.list_cofactors.specs.Calls.{CofactorsSo, Cofactors}
-use Rattle.list_cofactors.specs.Internal.{Slices, partX, partS, partT, Started, Ends, timesList, lastInverse, overLast, LastRowOf, NonzeroRow, Wrote, Results}
+use Rattle.list_cofactors.specs.Internal.{Slices, partX, partS, partT, Started, RowEnds, timesList, lastInverse, overLast, LastRowOf, NonzeroRow, Wrote, Results}
 use Rattle.list_cofactors.proofs.Parts.{rest, rest-is}
 use Rattle.list_cofactors.proofs.Slices.{few-a, few-b}
 
@@ -65,14 +65,14 @@ module _ (F : PrimeField) where
 
   -- the rounds on rows are those of the definition
   pub found : (n : ℕ) (f g : List ℕ) {u v row : List ℕ} {rounds : ℕ} → Ready F n f g → Started F n n u (scaled F g)
-      → Started F n (n + n) v (scaled F f) → Ends F n u v row rounds → LastRowOf F n f g row rounds
+      → Started F n (n + n) v (scaled F f) → RowEnds F n u v row rounds → LastRowOf F n f g row rounds
   found n f g {u} {v} {row} r su sv e =
       record {
         size = e .size;
-        count = e .count ∙ ready-count F n f g r (su .holds) (sv .holds);
-        gcd = ready-last F n f g r (su .holds) (sv .holds) (e .last);
+        count = e .ends .count ∙ ready-count F n f g r (su .holds) (sv .holds);
+        gcd = ready-last F n f g r (su .holds) (sv .holds) (e .ends .holds);
         inverse =
-            ap (λ s. topInverse (F .series) (scalarField F) n s) (e .last .series ∙ ap (λ z. z .last) same)
+            ap (λ s. topInverse (F .series) (scalarField F) n s) (e .ends .holds .series ∙ ap (λ z. z .last) same)
             ∙ sym (topInverse-room F n f g (r .short-f) (r .short-g));
         low-s = rw (ap (λ z. z .byX) is) at (e .low-s);
         low-t = rw (ap (λ z. z .byY) is) at (e .low-t);
@@ -103,7 +103,7 @@ module _ (F : PrimeField) where
 
   -- what is written from the row is what the definitions name
   pub results : (n : ℕ) → 1 < n → (f g h a b : List ℕ) {row h′ a′ b′ : List ℕ} {w : NaiveDegree} {c : Power} {rounds : Rounds} → Ready F n f g → Slices n f g h a b
-      → LastRowOf F n f g row (rounds .0) → Wrote F n row (length a) (length b) (w .0) h′ a′ b′ → c .0 ≡ commonPower (f ∷ g ∷ [])
+      → LastRowOf F n f g row (rounds .0) → Wrote F n row a b (w .0) h′ a′ b′ → c .0 ≡ commonPower (f ∷ g ∷ [])
       → Results F n f g (G.Done w c rounds) h′ a′ b′
   results n more f g h a b {row} {w = w} r sl e o ec =
       record {
@@ -159,20 +159,20 @@ module _ (F : PrimeField) where
           ∙ last-inverse F n (partX n row) (l .buffer) (l .some)
 
       pub row-written : {p : ℕ} → F .p ≡ p → n ≤ F .p → (whole part : List ℕ) → Tables F n whole part
-          → (h : List ℕ) (na nb w : ℕ) {lent form′ h′ a′ b′ : List ℕ} → length h ≡ n → lent ≡ partX n row → w + 1 ≡ k
+          → (h a b : List ℕ) (w : ℕ) {lent form′ h′ a′ b′ : List ℕ} → length h ≡ n → lent ≡ partX n row → w + 1 ≡ k
           → (form′ ≡ cond (writeFits k whole part lent h) (multiplied p m lent) lent)
           × (h′ ≡ cond (writeFits k whole part lent h) (writtenWords p whole part k m lent h) h)
-          → a′ ≡ timesList F na (residue F m) (drop n (rest n row))
-          → b′ ≡ timesList F nb (residue F m) (take n (rest n row)) → Wrote F n row na nb w h′ a′ b′
+          → a′ ≡ timesList F (length a) (residue F m) (drop n (rest n row))
+          → b′ ≡ timesList F (length b) (residue F m) (take n (rest n row)) → Wrote F n row a b w h′ a′ b′
       unfolding overLast
-      row-written {p} at short whole part t h na nb w {lent} {form′} {h′} eh ef ew qh qa qb =
+      row-written {p} at short whole part t h a b w {lent} {form′} {h′} eh ef ew qh qa qb =
           record {
             degree = ew ∙ ek;
             gcd =
                 gcd-written F n (partX n row) (l .buffer) (l .some) at short whole part t h k m eh ek inverse-is
                 (subst (λ x. (form′ ≡ cond (writeFits k whole part x h) (multiplied p m x) x) × (h′ ≡ cond (writeFits k whole part x h) (writtenWords p whole part k m x h) h)) ef qh);
-            cofactor-a = qa ∙ ap₂ (λ c l. timesList F na c (drop n l)) residue-is (rest-is n row);
-            cofactor-b = qb ∙ ap₂ (λ c l. timesList F nb c (take n l)) residue-is (rest-is n row);
+            cofactor-a = qa ∙ ap₂ (λ c l. timesList F (length a) c (drop n l)) residue-is (rest-is n row);
+            cofactor-b = qb ∙ ap₂ (λ c l. timesList F (length b) c (take n l)) residue-is (rest-is n row);
           }
 
   -- what a call knows that refuses nothing

@@ -13,13 +13,13 @@ use Rattle.lists.specs.Degrees.{significant}
 use Rattle.lists.proofs.Extents.{significant-le}
 use Rattle.lists.specs.Words.{Low, ZeroFrom}
 use Rattle.lists.proofs.Words.{zero-later}
-use Rattle.word_division.proofs.Steps.{less-product-low, length-lessProduct}
+use Rattle.word_division.proofs.LessProduct.{less-product-low, length-lessProduct}
 use Rattle.word_division.proofs.Cut.{lessProduct-zero}
 use Rattle.euclid_round.specs.Round.{roundSteps, remaining, quotientWords}
 use Rattle.euclid_round.proofs.Turns.{end-euclid, round-euclid, round-quotient, length-remaining, length-quotientWords}
 use Rattle.list_gcd.specs.Internal.{Buffer, euclidOn, Led}
-use Rattle.list_gcd.proofs.Alternating.{LedOn, led-remaining, led-count, led-last}
-use Rattle.list_cofactors.specs.Internal.{partX, partS, partT, reach, Short, Cut, lessQuotient, remainingRow, Leads, roundsOn, Carried, Ends}
+use Rattle.list_gcd.proofs.Alternating.{LedOn, led-remaining, led-end}
+use Rattle.list_cofactors.specs.Internal.{partX, partS, partT, reach, Short, Cut, lessQuotient, remainingRow, Leads, roundsOn, Carried, RowEnds}
 use Rattle.list_cofactors.proofs.Parts.{length-partS, length-partT, joined-x, joined-s, joined-t, joined-length}
 
 module _ (F : PrimeField) (n : ℕ) where
@@ -122,12 +122,11 @@ module _ (F : PrimeField) (n : ℕ) where
       (l .low)
 
   -- the ends of the loop
-  pub carried-end : (u₀ v₀ u v : List ℕ) (rounds : ℕ) → Carried F n u₀ v₀ u v rounds → significant (partX n v) ≡ 0 → Ends F n u₀ v₀ u rounds
+  pub carried-end : (u₀ v₀ u v : List ℕ) (rounds : ℕ) → Carried F n u₀ v₀ u v rounds → significant (partX n v) ≡ 0 → RowEnds F n u₀ v₀ u rounds
   carried-end u₀ v₀ u v rounds c none =
       record {
         size = c .size-u;
-        count = led-count F n _ _ _ _ _ (c .led) none;
-        last = led-last F n _ _ _ _ _ (c .led) none;
+        ends = led-end F n _ _ _ _ _ (c .led) none;
         low-s = leads-end (partX n u) (partX n v) (c .led .buffer-x) (c .led .buffer-y) none (c .leads-s);
         low-t = leads-end (partX n u) (partX n v) (c .led .buffer-x) (c .led .buffer-y) none (c .leads-t);
       }

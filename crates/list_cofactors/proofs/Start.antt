@@ -3,10 +3,10 @@
 use mathlib.Core.Path.{_≡_, sym, _∙_, ap, subst}
 use mathlib.Core.Bool.{cond}
 use mathlib.Core.List.{List, _++_}
-use Prim.Native.Nat.{ℕ, zero, suc, _+_, _-_, _≤_, _<_}
+use Prim.Native.Nat.{ℕ, zero, suc, _+_, _-_, _*_, _≤_, _<_}
 use native.Mathlib.Decide.{decLt}
 use native.Mathlib.Omega.{arith}
-use lib.ListN.{getD, length, set, take, drop, length-append, length-drop, length-set, List·getD-eq-default}
+use lib.ListN.{getD, length, set, take, drop, length-append, length-drop, length-set, replicate, length-replicate, List·getD-eq-default}
 use lib.Seq.{drop-at, take-take, take-add, take-append-add, take-set-le, getD-take, getD-drop, getD-append-add, getD-set-same, getD-set-other, length-take-le}
 use Rattle.algebra.specs.Ring.{CommRing}
 use Rattle.algebra.specs.RingLaws.{RING}
@@ -20,11 +20,31 @@ use Rattle.lists.proofs.Words.{zero-later}
 use Rattle.field_tables.specs.Factorials.{Tables}
 use Rattle.word_scaling.specs.Kernels.{weighFits, weighted}
 use Rattle.list_gcd.specs.Internal.{Holds}
-use Rattle.list_gcd.proofs.Buffers.{holds-scaled}
+use Rattle.list_gcd.proofs.Buffers.{getD-zeros, length-part, getD-part, holds-scaled}
 use Rattle.list_gcd.proofs.Alternating.{led-start}
-use Rattle.euclid_theory.specs.Gcd.{room}
-use Rattle.list_cofactors.specs.Internal.{partX, partS, partT, reach, Started, roundsOn, Carried}
+use Rattle.list_cofactors.specs.Internal.{ZeroRows, partX, partS, partT, reach, Started, roundsOn, Carried}
 use Rattle.list_cofactors.proofs.Parts.{length-partX, length-partS}
+
+-- arrays of zeros, and as much of them as is lent
+pub rows-arrays : (n : ℕ) → ZeroRows n (replicate (n + (n + n)) 0) (replicate (n + (n + n)) 0) (replicate n 0)
+rows-arrays n =
+    record {
+      size-u = length-replicate (n + (n + n)) 0;
+      size-v = length-replicate (n + (n + n)) 0;
+      size-q = length-replicate n 0;
+      zeros-u = getD-zeros (n + (n + n));
+      zeros-v = getD-zeros (n + (n + n));
+    }
+
+pub rows-part : {m : ℕ} (n : ℕ) {u v q : List ℕ} → n ≤ m → ZeroRows m u v q → ZeroRows n (take (3 * n) u) (take (3 * n) v) (take n q)
+rows-part n {u} {v} {q} l z =
+    record {
+      size-u = length-part u (3 * n) (z .size-u) (omega arith) ∙ omega arith;
+      size-v = length-part v (3 * n) (z .size-v) (omega arith) ∙ omega arith;
+      size-q = length-part q n (z .size-q) l;
+      zeros-u = getD-part u (3 * n) (z .zeros-u);
+      zeros-v = getD-part v (3 * n) (z .zeros-v);
+    }
 
 module _ (F : PrimeField) (n : ℕ) where
   open CommRing (F .series .ring) using (Carrier as S, zero as 0ˢ, one as 1ˢ, neg as -ˢ_, add as _+ˢ_, mul as _*ˢ_)

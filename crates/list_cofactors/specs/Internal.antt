@@ -1,7 +1,9 @@
 -- What the functions behind the cofactors need and do. A row has three parts of n words, as in an augmented matrix: x and its cofactors s
 -- and t.
 --     Slices n              each result slice has the length of its result, h having n words
+--     ZeroRows n            two rows of zeros, and n words for a quotient
 --     partX, partS, partT   the parts of a row
+--     lessBoth              both cofactors of a row less q times the first `read` words of those of another
 --     Started n one row s   a row with the words of s, zeros after it but for a 1 at word `one`
 --     reach n u v           no cofactor in the rows u, v has more words: those that the parts x have lost, and 1
 --     Short c u             both cofactors in the row u are 0 from word c on
@@ -10,12 +12,12 @@
 --     Leads z s s′ c        s and s′ stand for series that lead to the cofactor c: with the cofactors of the rounds z that are left they
 --                           give c. The words are cut off at n
 --     Carried               the rounds have led from the rows u₀, v₀ to u, v
---     Ends                  the row holds the last x of the rounds from u₀, v₀, with its cofactors
+--     RowEnds               the row holds the last x of the rounds from u₀, v₀, with its cofactors
 --     LastRowOf f g row     the row holds the last x of f and g, with its cofactors
 --     NonzeroRow            a row whose x is not zero
 --     timesList             the list of so many words whose scaled form is m times the words of a buffer
 --     overLast n x          the same with 1 over the last word of x for m
---     Wrote row             what is written from the row of the last x
+--     Wrote row a b         what is written from the row of the last x to h, a and b
 --     Results n f g         what is answered and written, h having n words
 -- Assumes nothing.
 use mathlib.Core.Path.{_≡_}
@@ -25,7 +27,7 @@ use lib.ListN.{getD, length, take, drop}
 use Rattle.algebra.specs.Ring.{CommRing}
 use Rattle.algebra.specs.Series.{C}
 use Rattle.algebra.specs.Euclid.{Euclid}
-use Rattle.algebra.specs.PrimeField.{PrimeField, scalarField, scalars, inverse}
+use Rattle.algebra.specs.PrimeField.{PrimeField, scalarField, scalars}
 use Rattle.lists.specs.Degrees.{significant, naiveDegree}
 use Rattle.lists.specs.Lists.{unscaled}
 use Rattle.lists.specs.Words.{seriesOf, Low, ZeroFrom}
@@ -35,12 +37,19 @@ use Rattle.algebra.specs.Monic.{topInverse}
 use Rattle.euclid_theory.specs.Gcd.{room, identityDegree, euclidOf, gcdOf, roundsOf, cofactorA, cofactorB}
 use Rattle.lists.specs.Padded.{padded}
 use Rattle.list_gcd.specs.declared.Gcd.{Gcd}
-use Rattle.list_gcd.specs.Internal.{Buffer, Holds, euclidOn, monicList, Led, LastOf, gcdDone}
+use Rattle.list_gcd.specs.Internal.{Buffer, Holds, euclidOn, monicWords, Led, Ends, LastOf, gcdDone}
 
 pub record Slices (n : ℕ) (f g h a b : List ℕ) : Type 0 where
   pub size-h : length h ≡ n
   pub size-a : length a ≡ suc (identityDegree f g - naiveDegree f)
   pub size-b : length b ≡ suc (identityDegree f g - naiveDegree g)
+
+pub record ZeroRows (n : ℕ) (u v q : List ℕ) : Type 0 where
+  pub size-u : length u ≡ n + (n + n)
+  pub size-v : length v ≡ n + (n + n)
+  pub size-q : length q ≡ n
+  pub zeros-u : (k : ℕ) → getD u k 0 ≡ 0
+  pub zeros-v : (k : ℕ) → getD v k 0 ≡ 0
 
 abbrev pub partX : ℕ → List ℕ → List ℕ
 partX n u = take n u
@@ -50,6 +59,10 @@ partS n u = take n (drop n u)
 
 abbrev pub partT : ℕ → List ℕ → List ℕ
 partT n u = drop n (drop n u)
+
+abbrev pub lessBoth : (p n : ℕ) → (s q t : List ℕ) → (read : ℕ) → List ℕ
+lessBoth p n s q t read =
+    lessProduct p (take n s) q (take read t) ++ lessProduct p (drop n s) q (take read (drop n t))
 
 module _ (F : PrimeField) (n : ℕ) where
   open CommRing (F .series .ring) using (Carrier as S, add as _+ˢ_, mul as _*ˢ_)
@@ -103,10 +116,9 @@ module _ (F : PrimeField) (n : ℕ) where
     pub leads-s : Leads (roundsOn u v) (partS n u) (partS n v) (roundsOn u₀ v₀ .byX)
     pub leads-t : Leads (roundsOn u v) (partT n u) (partT n v) (roundsOn u₀ v₀ .byY)
 
-  pub record Ends (u₀ v₀ row : List ℕ) (rounds : ℕ) : Type 0 where
+  pub record RowEnds (u₀ v₀ row : List ℕ) (rounds : ℕ) : Type 0 where
     pub size : length row ≡ n + (n + n)
-    pub count : rounds ≡ roundsOn u₀ v₀ .rounds
-    pub last : Holds F n (partX n row) (roundsOn u₀ v₀ .last)
+    pub ends : Ends F n (partX n u₀) (partX n v₀) (partX n row) rounds
     pub low-s : Low F n (partS n row) (roundsOn u₀ v₀ .byX)
     pub low-t : Low F n (partT n row) (roundsOn u₀ v₀ .byY)
 
@@ -138,11 +150,11 @@ module _ (F : PrimeField) where
     pub buffer : Buffer F n (partX n row)
     pub some : 0 < significant (partX n row)
 
-  pub record Wrote (n : ℕ) (row : List ℕ) (na nb w : ℕ) (h a b : List ℕ) : Type 0 where
+  pub record Wrote (n : ℕ) (row a b : List ℕ) (w : ℕ) (h′ a′ b′ : List ℕ) : Type 0 where
     pub degree : w + 1 ≡ significant (partX n row)
-    pub gcd : h ≡ padded n (monicList F n (seriesOf F (partX n row)))
-    pub cofactor-a : a ≡ overLast n (partX n row) na (partT n row)
-    pub cofactor-b : b ≡ overLast n (partX n row) nb (partS n row)
+    pub gcd : h′ ≡ monicWords F n (partX n row)
+    pub cofactor-a : a′ ≡ overLast n (partX n row) (length a) (partT n row)
+    pub cofactor-b : b′ ≡ overLast n (partX n row) (length b) (partS n row)
 
   pub record Results (n : ℕ) (f g : List ℕ) (r : Gcd) (h a b : List ℕ) : Type 0 where
     pub answer : r ≡ gcdDone F f g

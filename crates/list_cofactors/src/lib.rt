@@ -13,12 +13,11 @@ ghost use Rattle.field.specs.Fields.{modulus, fieldAt, longest};
 ghost use Rattle.field_tables.specs.Factorials.{Tables};
 ghost use Rattle.lists.specs.Degrees.{naiveDegree, significant};
 ghost use Rattle.lists.specs.Lists.{scaled};
-ghost use Rattle.word_division.specs.Reduction.{lessProduct};
 ghost use Rattle.euclid_theory.specs.Gcd.{identityDegree};
 ghost use Rattle.list_gcd.specs.Calls.{gcdReply, Greatest};
 ghost use Rattle.list_gcd.specs.Internal.{Ready, Buffer};
 ghost use Rattle.list_cofactors.specs.Calls.{cofactorRows, cofactorAnswer, cofactorGcd, cofactorsWrittenA, cofactorsWrittenB, Cofactors};
-ghost use Rattle.list_cofactors.specs.Internal.{partX, remainingRow, Started, Cut, Carried, Ends};
+ghost use Rattle.list_cofactors.specs.Internal.{ZeroRows, partX, lessBoth, remainingRow, Started, Cut, Carried, RowEnds};
 ghost use Rattle.list_cofactors.specs.Internal.{timesList, LastRowOf, NonzeroRow, Wrote, Slices, Results};
 use list_gcd::Ended;
 use list_gcd::Gcd;
@@ -101,7 +100,7 @@ fn start_row(field: u8, whole: &[u16], part: &[u16], list: &[u16], row: &mut [u1
 // s less q times the first `read` words of t, for both cofactors of a row.
 fn take_off(field: u8, n: usize, s: &mut [u16], q: &[u16], t: &[u16], read: usize)
     requires { ⌜ (length (now s) ≡ n + n) × (length (now t) ≡ n + n) × (length (now q) ≤ n) × (read ≤ n) ⌝ }
-    ensures { λ _. ⌜ final s ≡ lessProduct (modulus field) (take n (given s)) (given q) (take read (given t)) ++ lessProduct (modulus field) (drop n (given s)) (given q) (take read (drop n (given t))) ⌝ }
+    ensures { λ _. ⌜ final s ≡ lessBoth (modulus field) n (given s) (given q) (given t) read ⌝ }
 {
     word_division::sub_product(field, &mut s[..n], q, &t[..read]);
     word_division::sub_product(field, &mut s[n..], q, &t[n..n + read]);
@@ -161,7 +160,7 @@ fn all_rounds(
     requires { ⌜ Carried (fieldAt field) n (now u) (now v) (now u) (now v) 0 ⌝ }
     requires { ⌜ length (now q) ≡ n ⌝ }
     requires { ⌜ n ≤ maxWords ⌝ }
-    ensures { λ r. ⌜ Ends (fieldAt field) n (given u) (given v) (cond (r .first) (final u) (final v)) (r .rounds) ⌝ }
+    ensures { λ r. ⌜ RowEnds (fieldAt field) n (given u) (given v) (cond (r .first) (final u) (final v)) (r .rounds) ⌝ }
 {
     let mut rounds = 0;
     let mut nu = lists::significant_words(&u[..n]);
@@ -202,9 +201,7 @@ fn find_last(
     requires { ⌜ n ≡ longest field ⌝ }
     requires { ⌜ Tables (fieldAt field) n (now whole) (now part) ⌝ }
     requires { ⌜ Ready (fieldAt field) n (now f) (now g) ⌝ }
-    requires { ⌜ (length (now u) ≡ n + (n + n)) × (length (now v) ≡ n + (n + n)) × (length (now q) ≡ n) ⌝ }
-    requires { ⌜ ((k : ℕ) → getD (now u) k 0 ≡ 0) ⌝ }
-    requires { ⌜ ((k : ℕ) → getD (now v) k 0 ≡ 0) ⌝ }
+    requires { ⌜ ZeroRows n (now u) (now v) (now q) ⌝ }
     ensures { λ r. ⌜ LastRowOf (fieldAt field) n (given f) (given g) (cond (r .first) (final u) (final v)) (r .rounds) ⌝ }
 {
     start_row(field, whole, part, g, u, n);
@@ -251,7 +248,7 @@ fn write_row(
     requires { ⌜ Tables (fieldAt field) n (now whole) (now part) ⌝ }
     requires { ⌜ NonzeroRow (fieldAt field) n (now row) ⌝ }
     requires { ⌜ (length (now h) ≡ n) × (length (now a) ≤ n) × (length (now b) ≤ n) ⌝ }
-    ensures { λ r. ⌜ Wrote (fieldAt field) n (given row) (length (given a)) (length (given b)) (r .0) (final h) (final a) (final b) ⌝ }
+    ensures { λ r. ⌜ Wrote (fieldAt field) n (given row) (given a) (given b) (r .0) (final h) (final a) (final b) ⌝ }
 {
     let words = lists::significant_words(&row[..n]);
     let inv = field_inverse::inverse_or_zero(field, inverses, row[words - 1]);
@@ -278,7 +275,7 @@ fn write_last(
     requires { ⌜ Tables (fieldAt field) n (now whole) (now part) ⌝ }
     requires { ⌜ NonzeroRow (fieldAt field) n (cond first (now u) (now v)) ⌝ }
     requires { ⌜ (length (now h) ≡ n) × (length (now a) ≤ n) × (length (now b) ≤ n) ⌝ }
-    ensures { λ r. ⌜ Wrote (fieldAt field) n (cond first (given u) (given v)) (length (given a)) (length (given b)) (r .0) (final h) (final a) (final b) ⌝ }
+    ensures { λ r. ⌜ Wrote (fieldAt field) n (cond first (given u) (given v)) (given a) (given b) (r .0) (final h) (final a) (final b) ⌝ }
 {
     if first {
         return write_row(field, n, whole, part, inverses, u, h, a, b);
@@ -306,9 +303,7 @@ fn cofactors_in(
     requires { ⌜ Tables (fieldAt field) n (now whole) (now part) ⌝ }
     requires { ⌜ Ready (fieldAt field) n (now f) (now g) ⌝ }
     requires { ⌜ Slices n (now f) (now g) (now h) (now a) (now b) ⌝ }
-    requires { ⌜ (length (now u) ≡ n + (n + n)) × (length (now v) ≡ n + (n + n)) × (length (now q) ≡ n) ⌝ }
-    requires { ⌜ ((k : ℕ) → getD (now u) k 0 ≡ 0) ⌝ }
-    requires { ⌜ ((k : ℕ) → getD (now v) k 0 ≡ 0) ⌝ }
+    requires { ⌜ ZeroRows n (now u) (now v) (now q) ⌝ }
     ensures { λ r. ⌜ Results (fieldAt field) n (given f) (given g) r (final h) (final a) (final b) ⌝ }
 {
     let ended = find_last(field, n, whole, part, inverses, f, g, u, v, q);
@@ -374,9 +369,7 @@ fn cofactors_between(
     requires { ⌜ Tables (fieldAt field) (longest field) (now whole) (now part) ⌝ }
     requires { ⌜ Ready (fieldAt field) (longest field) (now f) (now g) ⌝ }
     requires { ⌜ Slices (longest field) (now f) (now g) (now h) (now a) (now b) ⌝ }
-    requires { ⌜ (length (now u) ≡ maxWords + (maxWords + maxWords)) × (length (now v) ≡ maxWords + (maxWords + maxWords)) × (length (now q) ≡ maxWords) ⌝ }
-    requires { ⌜ ((k : ℕ) → getD (now u) k 0 ≡ 0) ⌝ }
-    requires { ⌜ ((k : ℕ) → getD (now v) k 0 ≡ 0) ⌝ }
+    requires { ⌜ ZeroRows maxWords (now u) (now v) (now q) ⌝ }
     ensures { λ r. ⌜ Results (fieldAt field) (longest field) (given f) (given g) r (final h) (final a) (final b) ⌝ }
 {
     let n = field::longest_of(field);

@@ -2,7 +2,7 @@
 --     LedOn                 the rounds go on after one that left x′ of x, and x′ has fewer significant words than y
 -- Theorems:
 --     led-start, led-on     before the first round; after one more
---     led-count, led-last   where y is zero: all rounds are made, and x is the last x
+--     led-end               where y is zero: all rounds are made, and x is the last x
 -- Assumes nothing.
 use mathlib.Core.Path.{_≡_, refl, sym, _∙_, ap, subst}
 use mathlib.Core.Bool.{cond}
@@ -20,7 +20,7 @@ use Rattle.lists.specs.Words.{seriesOf}
 use Rattle.euclid_round.specs.Round.{remaining}
 use Rattle.euclid_round.proofs.Parts.{Shorten, Rounded, shortened}
 use Rattle.euclid_round.proofs.Turns.{end-euclid, rounds-few, length-remaining, remaining-low, round-euclid, round-smaller, round-fits}
-use Rattle.list_gcd.specs.Internal.{Buffer, Holds, euclidOn, Led}
+use Rattle.list_gcd.specs.Internal.{Buffer, euclidOn, Led, Ends}
 
 module _ (F : PrimeField) (n : ℕ) where
   open CommRing (F .series .ring) using (Carrier as S)
@@ -91,16 +91,14 @@ module _ (F : PrimeField) (n : ℕ) where
       unfolding euclidOn
       ended = end-euclid F n x y (t .buffer-x .below) (t .buffer-y .below) (t .buffer-x .size) (t .buffer-y .size) none
 
-      pub led-count : rounds ≡ euclidOn F n x₀ y₀ .rounds
-      led-count =
-          let e = t .count in
-          omega (arith, ap (λ z. z .rounds) ended, done-rounds (seriesOf F x))
-
-      pub led-last : Holds F n x (euclidOn F n x₀ y₀ .last)
-      led-last =
+      pub led-end : Ends F n x₀ y₀ x rounds
+      led-end =
           record {
-            buffer = t .buffer-x;
-            series = sym (ap (λ z. z .last) ended ∙ done-last (F .series) (scalarField F) (seriesOf F x)) ∙ t .last;
+            count = let e = t .count in omega (arith, ap (λ z. z .rounds) ended, done-rounds (seriesOf F x));
+            holds = record {
+              buffer = t .buffer-x;
+              series = sym (ap (λ z. z .last) ended ∙ done-last (F .series) (scalarField F) (seriesOf F x)) ∙ t .last;
+            };
           }
 
 -- a round on words; n of them stand in each buffer

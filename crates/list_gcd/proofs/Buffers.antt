@@ -10,7 +10,6 @@ use lib.ListN.{getD, length, take, drop, replicate, length-append, length-take, 
 use lib.Seq.{getD-drop, getD-take}
 use Rattle.algebra.specs.Ring.{CommRing}
 use Rattle.algebra.proofs.Series.{ext}
-use Rattle.algebra.specs.Degree.{size}
 use Rattle.algebra.specs.PrimeField.{PrimeField, residue}
 use Rattle.lists.specs.Lists.{scaled}
 use Rattle.lists.specs.Words.{seriesOf}
@@ -18,7 +17,7 @@ use Rattle.lists.proofs.Words.{coeff-seriesOf, scaledWords, length-scaledWords,
 use Rattle.field_tables.specs.Factorials.{Tables}
 use Rattle.word_scaling.specs.Kernels.{weighFits, weighted}
 use Rattle.word_scaling.proofs.Weights.{scale-is}
-use Rattle.list_gcd.specs.Internal.{Holds}
+use Rattle.list_gcd.specs.Internal.{Zeros, Holds}
 use Rattle.lists.proofs.Parts.{getD-then-zeros}
 
 -- an array of zeros
@@ -39,6 +38,27 @@ getD-part x n h k = go (decLt k n)
     go : Dec (k < n) → getD (take n x) k 0 ≡ 0
     go (yes l) = getD-take n x k 0 l ∙ h k
     go (no l) = List·getD-eq-default (take n x) 0 {n = k} (simp length-take (omega arith))
+
+-- three arrays of zeros, and as much of them as is lent
+pub zeros-arrays : (n : ℕ) → Zeros n (replicate n 0) (replicate n 0) (replicate n 0)
+zeros-arrays n =
+    record {
+      size-x = length-replicate n 0;
+      size-y = length-replicate n 0;
+      size-q = length-replicate n 0;
+      zeros-x = getD-zeros n;
+      zeros-y = getD-zeros n;
+    }
+
+pub zeros-part : {m : ℕ} (n : ℕ) {k : ℕ} {x y q : List ℕ} → n ≡ k → n ≤ m → Zeros m x y q → Zeros k (take n x) (take n y) (take n q)
+zeros-part n {x = x} {y} {q} e l z =
+    record {
+      size-x = length-part x n (z .size-x) l ∙ e;
+      size-y = length-part y n (z .size-y) l ∙ e;
+      size-q = length-part q n (z .size-q) l ∙ e;
+      zeros-x = getD-part x n (z .zeros-x);
+      zeros-y = getD-part y n (z .zeros-y);
+    }
 
 module _ (F : PrimeField) where
   open CommRing (F .series .ring) using (Carrier as S)

@@ -1,11 +1,14 @@
 -- What the functions behind the GCD need and do.
 --     Ready n f g         two lists of at most n words, each below p, that are not both zero
+--     Zeros n x y q       three slices of n words, the first two all zeros
 --     Buffer n x          n words, each below p
 --     Holds n x s         a buffer whose words are the coefficients of s
 --     euclidOn n x y      what Euclid's rounds answer on the series of x and y
 --     Led                 the rounds have led from the buffers x₀, y₀ to x, y: the last x is the same, and the rounds made and those that
 --                         are left are all the rounds
+--     Ends n x₀ y₀ x      the buffer x holds the last x of the rounds from x₀, y₀
 --     monicList n s       the list of the scaled form s, of at most n coefficients, made to have last word 1
+--     monicWords n x      the words of the list of a buffer so, zeros after it
 --     LastOf n f g x      the buffer x holds the last x of the rounds on f and g
 --     gcdDone f g         the answer of the GCD of f and g: w, c and rounds
 -- Assumes nothing.
@@ -20,10 +23,18 @@ use Rattle.algebra.specs.Monic.{monic}
 use Rattle.algebra.specs.PrimeField.{PrimeField, scalarField}
 use Rattle.lists.specs.Degrees.{naiveDegree, significant}
 use Rattle.lists.specs.Lists.{Coefficients, unscaled}
+use Rattle.lists.specs.Padded.{padded}
 use Rattle.lists.specs.Words.{seriesOf}
 use Rattle.euclid_theory.specs.Gcd.{gcdOf, roundsOf, commonPower}
 use Rattle.list_gcd.specs.declared.Gcd.{Gcd}
 use Rattle.list_gcd.specs.declared.Gcd.the-variants as G
+
+pub record Zeros (n : ℕ) (x y q : List ℕ) : Type 0 where
+  pub size-x : length x ≡ n
+  pub size-y : length y ≡ n
+  pub size-q : length q ≡ n
+  pub zeros-x : (k : ℕ) → getD x k 0 ≡ 0
+  pub zeros-y : (k : ℕ) → getD y k 0 ≡ 0
 
 module _ (F : PrimeField) where
   open CommRing (F .series .ring) using (Carrier as S)
@@ -54,6 +65,14 @@ module _ (F : PrimeField) where
     pub buffer-y : Buffer n y
     pub last : euclidOn n x y .last ≡ euclidOn n x₀ y₀ .last
     pub count : rounds + euclidOn n x y .rounds ≡ euclidOn n x₀ y₀ .rounds
+
+  pub record Ends (n : ℕ) (x₀ y₀ last : List ℕ) (rounds : ℕ) : Type 0 where
+    pub count : rounds ≡ euclidOn n x₀ y₀ .rounds
+    pub holds : Holds n last (euclidOn n x₀ y₀ .last)
+
+  -- the words of that list in a slice of n words
+  abbrev pub monicWords : ℕ → (x : List ℕ) → List ℕ
+  monicWords n x = padded n (monicList n (seriesOf F x))
 
   pub record LastOf (n : ℕ) (f g last : List ℕ) : Type 0 where
     pub buffer : Buffer n last

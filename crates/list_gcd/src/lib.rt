@@ -11,12 +11,11 @@ ghost use Rattle.refusal.specs.Limits.{maxWords};
 ghost use Rattle.refusal.specs.Lowest.{lowest};
 ghost use Rattle.lists.specs.Degrees.{significant};
 ghost use Rattle.lists.specs.Lists.{scaled};
-ghost use Rattle.lists.specs.Words.{seriesOf};
 ghost use Rattle.euclid_theory.specs.Gcd.{gcdOf, roundsOf, commonPower};
 ghost use Rattle.lists.specs.Padded.{padded};
 ghost use Rattle.field_tables.specs.Factorials.{Tables};
 ghost use Rattle.list_gcd.specs.Calls.{gcdReply, gcdRows, gcdAnswer, gcdWritten, Greatest};
-ghost use Rattle.list_gcd.specs.Internal.{Ready, Buffer, Holds, euclidOn, monicList, LastOf, gcdDone};
+ghost use Rattle.list_gcd.specs.Internal.{Ready, Zeros, Buffer, Holds, Ends, monicWords, LastOf, gcdDone};
 use lists::NaiveDegree;
 use lists::Power;
 use refusal::Outcome;
@@ -96,7 +95,7 @@ pub fn common_power(f: &[u16], g: &[u16]) -> Power
 // The words of the scaled form of a list, to a buffer of zeros.
 fn scale_into(field: u8, whole: &[u16], part: &[u16], list: &[u16], buffer: &mut [u16])
     requires { ⌜ Tables (fieldAt field) (longest field) (now whole) (now part) ⌝ }
-    requires { ⌜ (length (now list) ≤ (longest field)) × (length (now buffer) ≡ (longest field)) ⌝ }
+    requires { ⌜ (length (now list) ≤ longest field) × (length (now buffer) ≡ longest field) ⌝ }
     requires { ⌜ ((k : ℕ) → getD (now buffer) k 0 ≡ 0) ⌝ }
     ensures { λ _. ⌜ Holds (fieldAt field) (longest field) (final buffer) (scaled (fieldAt field) (given list)) ⌝ }
 {
@@ -114,9 +113,8 @@ pub struct Ended {
 fn all_rounds(field: u8, inverses: &[u16], x: &mut [u16], y: &mut [u16], q: &mut [u16]) -> Ended
     requires { ⌜ Buffer (fieldAt field) (longest field) (now x) ⌝ }
     requires { ⌜ Buffer (fieldAt field) (longest field) (now y) ⌝ }
-    requires { ⌜ (longest field) ≤ length (now q) ⌝ }
-    ensures { λ r. ⌜ r .rounds ≡ euclidOn (fieldAt field) (longest field) (given x) (given y) .rounds ⌝ }
-    ensures { λ r. ⌜ Holds (fieldAt field) (longest field) (cond (r .first) (final x) (final y)) (euclidOn (fieldAt field) (longest field) (given x) (given y) .last) ⌝ }
+    requires { ⌜ longest field ≤ length (now q) ⌝ }
+    ensures { λ r. ⌜ Ends (fieldAt field) (longest field) (given x) (given y) (cond (r .first) (final x) (final y)) (r .rounds) ⌝ }
 {
     let mut rounds = 0;
     let mut nx = lists::significant_words(x);
@@ -154,9 +152,9 @@ fn write_gcd(
 ) -> NaiveDegree
     requires { ⌜ Tables (fieldAt field) (longest field) (now whole) (now part) ⌝ }
     requires { ⌜ Buffer (fieldAt field) (longest field) (now last) ⌝ }
-    requires { ⌜ (0 < significant (now last)) × (length (now h) ≡ (longest field)) ⌝ }
+    requires { ⌜ (0 < significant (now last)) × (length (now h) ≡ longest field) ⌝ }
     ensures { λ r. ⌜ r .0 + 1 ≡ significant (given last) ⌝ }
-    ensures { λ _. ⌜ final h ≡ padded (longest field) (monicList (fieldAt field) (longest field) (seriesOf (fieldAt field) (given last))) ⌝ }
+    ensures { λ _. ⌜ final h ≡ monicWords (fieldAt field) (longest field) (given last) ⌝ }
 {
     let n = lists::significant_words(last);
     let inv = field_inverse::inverse_or_zero(field, inverses, last[n - 1]);
@@ -177,9 +175,9 @@ fn write_last(
 ) -> NaiveDegree
     requires { ⌜ Tables (fieldAt field) (longest field) (now whole) (now part) ⌝ }
     requires { ⌜ Buffer (fieldAt field) (longest field) (cond first (now x) (now y)) ⌝ }
-    requires { ⌜ (0 < significant (cond first (now x) (now y))) × (length (now h) ≡ (longest field)) ⌝ }
+    requires { ⌜ (0 < significant (cond first (now x) (now y))) × (length (now h) ≡ longest field) ⌝ }
     ensures { λ r. ⌜ r .0 + 1 ≡ significant (cond first (given x) (given y)) ⌝ }
-    ensures { λ _. ⌜ final h ≡ padded (longest field) (monicList (fieldAt field) (longest field) (seriesOf (fieldAt field) (cond first (given x) (given y)))) ⌝ }
+    ensures { λ _. ⌜ final h ≡ monicWords (fieldAt field) (longest field) (cond first (given x) (given y)) ⌝ }
 {
     if first {
         return write_gcd(field, whole, part, inverses, x, h);
@@ -201,9 +199,7 @@ fn find_last(
 ) -> Ended
     requires { ⌜ Tables (fieldAt field) (longest field) (now whole) (now part) ⌝ }
     requires { ⌜ Ready (fieldAt field) (longest field) (now f) (now g) ⌝ }
-    requires { ⌜ (length (now x) ≡ (longest field)) × (length (now y) ≡ (longest field)) × (length (now q) ≡ (longest field)) ⌝ }
-    requires { ⌜ ((k : ℕ) → getD (now x) k 0 ≡ 0) ⌝ }
-    requires { ⌜ ((k : ℕ) → getD (now y) k 0 ≡ 0) ⌝ }
+    requires { ⌜ Zeros (longest field) (now x) (now y) (now q) ⌝ }
     ensures { λ r. ⌜ r .rounds ≡ roundsOf (fieldAt field) (given f) (given g) ⌝ }
     ensures { λ r. ⌜ LastOf (fieldAt field) (longest field) (given f) (given g) (cond (r .first) (final x) (final y)) ⌝ }
 {
@@ -227,9 +223,7 @@ fn gcd_in(
 ) -> Gcd
     requires { ⌜ Tables (fieldAt field) (longest field) (now whole) (now part) ⌝ }
     requires { ⌜ Ready (fieldAt field) (longest field) (now f) (now g) ⌝ }
-    requires { ⌜ (length (now x) ≡ (longest field)) × (length (now y) ≡ (longest field)) × (length (now q) ≡ (longest field)) ⌝ }
-    requires { ⌜ ((k : ℕ) → getD (now x) k 0 ≡ 0) ⌝ }
-    requires { ⌜ ((k : ℕ) → getD (now y) k 0 ≡ 0) ⌝ }
+    requires { ⌜ Zeros (longest field) (now x) (now y) (now q) ⌝ }
     requires { ⌜ length (now h) ≡ longest field ⌝ }
     ensures { λ r. ⌜ r ≡ gcdDone (fieldAt field) (given f) (given g) ⌝ }
     ensures { λ _. ⌜ final h ≡ padded (longest field) (gcdOf (fieldAt field) (given f) (given g)) ⌝ }
@@ -288,9 +282,7 @@ fn gcd_between(
 ) -> Gcd
     requires { ⌜ Tables (fieldAt field) (longest field) (now whole) (now part) ⌝ }
     requires { ⌜ Ready (fieldAt field) (longest field) (now f) (now g) ⌝ }
-    requires { ⌜ (length (now x) ≡ maxWords) × (length (now y) ≡ maxWords) × (length (now q) ≡ maxWords) ⌝ }
-    requires { ⌜ ((k : ℕ) → getD (now x) k 0 ≡ 0) ⌝ }
-    requires { ⌜ ((k : ℕ) → getD (now y) k 0 ≡ 0) ⌝ }
+    requires { ⌜ Zeros maxWords (now x) (now y) (now q) ⌝ }
     requires { ⌜ length (now h) ≡ longest field ⌝ }
     ensures { λ r. ⌜ r ≡ gcdDone (fieldAt field) (given f) (given g) ⌝ }
     ensures { λ _. ⌜ final h ≡ padded (longest field) (gcdOf (fieldAt field) (given f) (given g)) ⌝ }

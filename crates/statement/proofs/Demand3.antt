@@ -28,7 +28,7 @@ use Rattle.album_layout.proofs.Passed.{passed-each}
 use Rattle.list_division.proofs.Judged.{divide-fits}
 use Rattle.list_division.proofs.Answers.{divides-so}
 use Rattle.list_gcd.proofs.Ready.{gcd-ready}
-use Rattle.list_cofactors.proofs.Results.{cofactors-ready}
+use Rattle.list_cofactors.proofs.Slices.{cofactors-ready}
 use Rattle.album_gcd.specs.Calls.{albumGcdRows}
 use Rattle.album_gcd.proofs.Judging.{judged-fine}
 use Rattle.album_gcd.proofs.Zeros.{nonzero}

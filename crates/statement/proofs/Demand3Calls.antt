@@ -20,10 +20,11 @@ use Rattle.euclid_theory.specs.Gcd.{identityDegree, gcdOf, cofactorA, cofactorB
 use Rattle.lists.specs.Padded.{padded}
 use Rattle.euclid_theory.proofs.Gcd.{length-gcd}
 use Rattle.euclid_theory.specs.Cofactors.{AreCofactors}
-use Rattle.euclid_theory.proofs.Cofactors.{identity-left, identity-right, identity-within, cofactors-are, cofactors-only}
+use Rattle.euclid_theory.proofs.CofactorForms.{identity-left, identity-right, identity-within}
+use Rattle.euclid_theory.proofs.Cofactors.{cofactors-are, cofactors-only}
 use Rattle.list_gcd.specs.Calls.{gcdValues}
 use Rattle.list_cofactors.specs.Calls.{cofactorRows, cofactorAnswer, cofactorGcd, cofactorsWrittenA, cofactorsWrittenB}
-use Rattle.list_cofactors.proofs.Results.{cofactors-ready}
+use Rattle.list_cofactors.proofs.Slices.{cofactors-ready}
 use Rattle.statement.proofs.Demand1.{done-reply}
 use Rattle.statement.specs.Demand3Calls.{Meet, Fixed, CofactorsOf}
 

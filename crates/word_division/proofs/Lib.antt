@@ -1,3 +1,5 @@
+pub mod Rows
 pub mod Steps
+pub mod LessProduct
 pub mod Cut
 pub mod Loops

@@ -1,17 +1,16 @@
 // The steps of polynomial division on words: the division, and a product taken off. Each is total: where the slices' lengths do
 // not fit, nothing is written.
 ghost use mathlib.Core.Path.{_≡_};
-ghost use mathlib.Core.Bool.{cond};
 ghost use Prim.Native.Nat.{_+_, _≤_};
 ghost use lib.ListN.{length};
 ghost use Rattle.refusal.specs.Contract.{given, final};
 ghost use Rattle.field.specs.Fields.{modulus};
-ghost use Rattle.word_division.specs.Reduction.{negated, reduced, digits, lessProduct, reduceFits, lessProductFits};
+ghost use Rattle.word_division.specs.Reduction.{negated, reduced, digits, lessProduct, wordsReduced, wordsOfQuotient, wordsLessProduct};
 
 // Division of x by y from the top: the quotient's words go to q, what is left stays in x. `inv` is the inverse of y's last word.
 pub fn reduce(field: u8, x: &mut [u16], y: &[u16], inv: u16, q: &mut [u16])
-    ensures left { λ _. ⌜ final x ≡ cond (reduceFits (given x) (given y) (given q)) (reduced (modulus field) inv (given y) (length (given q)) (given x)) (given x) ⌝ }
-    ensures quotient { λ _. ⌜ final q ≡ cond (reduceFits (given x) (given y) (given q)) (digits (modulus field) inv (given y) (length (given q)) (given x)) (given q) ⌝ }
+    ensures left { λ _. ⌜ final x ≡ wordsReduced (modulus field) inv (given x) (given y) (given q) ⌝ }
+    ensures quotient { λ _. ⌜ final q ≡ wordsOfQuotient (modulus field) inv (given x) (given y) (given q) ⌝ }
 {
     if y.len() == 0 {
         return;
@@ -28,7 +27,7 @@ pub fn reduce(field: u8, x: &mut [u16], y: &[u16], inv: u16, q: &mut [u16])
 
 // s less q times t, in as many words as s has.
 pub fn sub_product(field: u8, s: &mut [u16], q: &[u16], t: &[u16])
-    ensures { λ _. ⌜ final s ≡ cond (lessProductFits (given s) (given q)) (lessProduct (modulus field) (given s) (given q) (given t)) (given s) ⌝ }
+    ensures { λ _. ⌜ final s ≡ wordsLessProduct (modulus field) (given s) (given q) (given t) ⌝ }
 {
     if q.len() <= s.len() {
         sub_product_in(field, s, q, t);

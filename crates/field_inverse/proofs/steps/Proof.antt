@@ -2,14 +2,15 @@
 -- remainder.
 -- Assumes nothing.
 use mathlib.Core.Path.{sym, subst}
-use Prim.Native.Nat.{ℕ, _/_, _%_, _≤_, _<_}
+use Prim.Native.Nat.{ℕ, _/_, _%_, _<_}
 use native.Mathlib.Nat.{mod-lt}
 use native.Mathlib.Omega.{arith}
 use borrow.Author.Needs.{needs}
 use Rattle.field.specs.Fields.{modulus, prime-at}
 use Rattle.field.proofs.FieldsLaws.{modulus-high}
 use Rattle.field_inverse.specs.Internal.{Leaves}
-use Rattle.field_inverse.proofs.Euclid.{Steps, started, divided, falling, second-low, Stepped, stepped, some-left, Ended, ended}
+use Rattle.field_inverse.proofs.Euclid.{Steps, started, divided, falling, second-low, Stepped, stepped}
+use Rattle.field_inverse.proofs.LastStep.{some-left, Ended, ended}
 use Rattle.field_inverse.proofs.steps.Statement.{statement}
 use Rattle.field_inverse.proofs.steps.Tie as tie
 

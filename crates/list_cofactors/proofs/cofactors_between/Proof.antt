@@ -1,12 +1,11 @@
 -- `list_cofactors::cofactors_between` meets its contract: parts of zeros are zeros, and n is the number of words of the longest list.
 -- Assumes nothing.
-use mathlib.Core.Path.{_∙_}
-use Prim.Native.Nat.{_*_, _≤_}
+use Prim.Native.Nat.{_≤_}
 use native.Mathlib.Omega.{arith}
 use lib.ListN.{length-take}
 use Rattle.refusal.specs.Limits.{maxWords}
 use Rattle.field.proofs.FieldsLaws.{longest-room}
-use Rattle.list_gcd.proofs.Buffers.{length-part, getD-part}
+use Rattle.list_cofactors.proofs.Start.{rows-part}
 use borrow.Author.Needs.{needs}
 use Rattle.list_cofactors.proofs.cofactors_between.Statement.{statement}
 use Rattle.list_cofactors.proofs.cofactors_between.Tie as tie
@@ -46,12 +45,7 @@ cofactors-in-requires c κs =
     let e = c .before .before .before .before .before .before .longest-of .ensures in
     let n = c .before .before .before .before .before .before .longest-of .result in
     let l = fits (c .before .before .before .before .before .before) in
-    let zeros = pre .1 .1 .1 .1 in
-    let lengths = pre .1 .1 .1 .0 in
-    let u = length-part (start .args .u .now) (3 * n) (lengths .0) (omega arith) in
-    let v = length-part (start .args .v .now) (3 * n) (lengths .1) (omega arith) in
-    let q = length-part (start .args .q .now) n (lengths .2) l in
-    (e, (rw e (pre .0), (rw e (pre .1 .0), (rw e (pre .1 .1 .0), ((u ∙ omega arith, v ∙ omega arith, q), (getD-part _ (3 * n) (zeros .0), getD-part _ (3 * n) (zeros .1)))))))
+    (e, (rw e (pre .0), (rw e (pre .1 .0), (rw e (pre .1 .1 .0), rows-part n l (pre .1 .1 .1)))))
 
 same-length : tie.Need-same-length
 same-length c = search needs

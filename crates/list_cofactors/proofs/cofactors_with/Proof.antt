@@ -1,10 +1,8 @@
 -- `list_cofactors::cofactors_with` meets its contract: it lends rows of zeros.
 -- Assumes nothing.
-use mathlib.Core.Path.{refl}
-use Prim.Native.Nat.{_+_}
 use Rattle.refusal.specs.Limits.{maxWords}
 use borrow.Author.Needs.{needs}
-use Rattle.list_gcd.proofs.Buffers.{getD-zeros}
+use Rattle.list_cofactors.proofs.Start.{rows-arrays}
 use Rattle.list_cofactors.proofs.cofactors_with.Statement.{statement}
 use Rattle.list_cofactors.proofs.cofactors_with.Tie as tie
 
@@ -20,7 +18,7 @@ slice-aggregate-cofactors-between-3 c = search needs
 cofactors-between-requires : tie.Need-cofactors-between-requires
 cofactors-between-requires c κs =
     let pre = c .before .before .before .before .before .before .before .before .before .before .before .before .before .before .pre in
-    (pre .0, (pre .1 .0, (pre .1 .1, ((refl, refl, refl), (getD-zeros (maxWords + (maxWords + maxWords)), getD-zeros (maxWords + (maxWords + maxWords)))))))
+    (pre .0, (pre .1 .0, (pre .1 .1, rows-arrays maxWords)))
 
 same-length : tie.Need-same-length
 same-length c = search needs

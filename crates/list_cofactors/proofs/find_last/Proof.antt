@@ -28,7 +28,7 @@ start-row-requires c κs =
     let more = longest-more (start .args .field) in
     let pre = start .pre in
     let ready = pre .1 .1 .0 in
-    (tables-at (pre .0) (pre .1 .0), ((omega arith, omega arith), ((omega arith, omega arith), pre .1 .1 .1 .1 .0)))
+    (tables-at (pre .0) (pre .1 .0), ((omega arith, omega arith), ((omega arith, omega arith), pre .1 .1 .1 .zeros-u)))
 
 add-start-row : tie.Need-add-start-row
 add-start-row c = search needs
@@ -39,7 +39,7 @@ start-row-requires-2 c κs =
     let more = longest-more (start .args .field) in
     let pre = start .pre in
     let ready = pre .1 .1 .0 in
-    (tables-at (pre .0) (pre .1 .0), ((omega arith, omega arith), ((omega arith, omega arith), pre .1 .1 .1 .1 .1)))
+    (tables-at (pre .0) (pre .1 .0), ((omega arith, omega arith), ((omega arith, omega arith), pre .1 .1 .1 .zeros-v)))
 
 all-rounds-requires : tie.Need-all-rounds-requires
 all-rounds-requires c κs =
@@ -47,7 +47,7 @@ all-rounds-requires c κs =
     let pre = start .pre in
     let u = started-at (pre .0) (c .before .before .before .before .before .before .before .before .before .start-row .ensures) in
     let v = started-at (pre .0) (c .before .before .before .before .before .start-row2 .ensures) in
-    (carried-start (fieldAt _) _ (omega (arith, longest-more (start .args .field))) u v, (pre .1 .1 .1 .0 .2, omega (arith, longest-room (start .args .field))))
+    (carried-start (fieldAt _) _ (omega (arith, longest-more (start .args .field))) u v, (pre .1 .1 .1 .size-q, omega (arith, longest-room (start .args .field))))
 
 same-length : tie.Need-same-length
 same-length c = search needs

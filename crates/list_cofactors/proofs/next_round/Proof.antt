@@ -5,7 +5,6 @@ use mathlib.Core.List.{_++_}
 use Prim.Native.Nat.{_≤_}
 use native.Mathlib.Omega.{arith}
 use lib.ListN.{length, length-take, take, drop}
-use lib.Seq.{length-take-le}
 use borrow.Author.Needs.{needs}
 use Rattle.field.specs.Fields.{fieldAt}
 use Rattle.lists.specs.Degrees.{significant}

@@ -10,7 +10,7 @@ use Rattle.field.specs.Fields.{fieldAt, longest}
 use Rattle.field.proofs.FieldsLaws.{longest-room}
 use Rattle.lists.specs.Degrees.{significant}
 use Rattle.list_gcd.specs.Internal.{Led}
-use Rattle.list_gcd.proofs.Alternating.{LedOn, led-start, led-on, led-count, led-last}
+use Rattle.list_gcd.proofs.Alternating.{LedOn, led-start, led-on, led-end}
 use Rattle.list_gcd.proofs.all_rounds.Statement.{statement}
 use Rattle.list_gcd.proofs.all_rounds.Tie as tie
 
@@ -45,7 +45,7 @@ returns : tie.Need-returns Inv-loop μ-loop
 returns c =
     let t = c .before .loop .inv in
     let zero = sym (t .3) ∙ c .if1 .taken in
-    (led-count (fieldAt _) _ _ _ _ _ _ (t .0) zero, led-last (fieldAt _) _ _ _ _ _ _ (t .0) zero)
+    led-end (fieldAt _) _ _ _ _ _ _ (t .0) zero
 
 -- x by y
 first : (c : tie.After-shorten Inv-loop μ-loop)
@@ -83,7 +83,7 @@ returns-2 : tie.Need-returns-2 Inv-loop μ-loop
 returns-2 c =
     let made = first (c .before .before .before .before .before) in
     let zero = sym (made .1) ∙ c .if2 .taken in
-    (led-count (fieldAt _) _ _ _ _ _ _ (made .0 .next) zero, led-last (fieldAt _) _ _ _ _ _ _ (made .0 .next) zero)
+    led-end (fieldAt _) _ _ _ _ _ _ (made .0 .next) zero
 
 shorten-requires-2 : tie.Need-shorten-requires-2 Inv-loop μ-loop
 shorten-requires-2 c κs = search needs

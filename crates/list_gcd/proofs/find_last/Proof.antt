@@ -32,7 +32,7 @@ returns c =
     let x = c .before .before .before .before .before .before .before .before .before .before .before .before .before .before .before .before .scale-into .ensures in
     let y = c .before .before .before .before .before .before .before .before .before .before .before .before .scale-into2 .ensures in
     let ended = c .before .before .before .before .before .before .all-rounds .ensures in
-    (ended .0 ∙ ready-count (fieldAt _) _ _ _ (start .pre .1 .0) x y, ready-last (fieldAt _) _ _ _ (start .pre .1 .0) x y (ended .1))
+    (ended .count ∙ ready-count (fieldAt _) _ _ _ (start .pre .1 .0) x y, ready-last (fieldAt _) _ _ _ (start .pre .1 .0) x y (ended .holds))
 
 pub find-last-spec : {M : Type 1} → statement M
 find-last-spec =

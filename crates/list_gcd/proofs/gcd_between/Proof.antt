@@ -1,12 +1,11 @@
 -- `list_gcd::gcd_between` meets its contract: parts of zeros are zeros.
 -- Assumes nothing.
-use mathlib.Core.Path.{_∙_}
 use Prim.Native.Nat.{_≤_}
 use native.Mathlib.Omega.{arith}
 use lib.ListN.{length-take}
 use Rattle.refusal.specs.Limits.{maxWords}
 use Rattle.field.proofs.FieldsLaws.{longest-room}
-use Rattle.list_gcd.proofs.Buffers.{length-part, getD-part}
+use Rattle.list_gcd.proofs.Buffers.{zeros-part}
 use borrow.Author.Needs.{needs}
 use Rattle.list_gcd.proofs.gcd_between.Statement.{statement}
 use Rattle.list_gcd.proofs.gcd_between.Tie as tie
@@ -39,10 +38,7 @@ gcd-in-requires c κs =
     let n = c .before .before .before .before .longest-of .result in
     let e = c .before .before .before .before .longest-of .ensures in
     let l : n ≤ maxWords = omega (arith, longest-room k) in
-    let x = length-part _ n (pre .1 .1 .0 .0) l ∙ e in
-    let y = length-part _ n (pre .1 .1 .0 .1) l ∙ e in
-    let q = length-part _ n (pre .1 .1 .0 .2) l ∙ e in
-    (pre .0, (pre .1 .0, ((x, y, q), (getD-part _ n (pre .1 .1 .1 .0), (getD-part _ n (pre .1 .1 .1 .1 .0), pre .1 .1 .1 .1 .1)))))
+    (pre .0, (pre .1 .0, (zeros-part n e l (pre .1 .1 .0), pre .1 .1 .1)))
 
 same-length : tie.Need-same-length
 same-length c = search needs

@@ -1,8 +1,7 @@
 -- `list_gcd::gcd_with` meets its contract: it lends arrays of zeros.
 -- Assumes nothing.
-use mathlib.Core.Path.{refl}
 use Rattle.refusal.specs.Limits.{maxWords}
-use Rattle.list_gcd.proofs.Buffers.{getD-zeros}
+use Rattle.list_gcd.proofs.Buffers.{zeros-arrays}
 use borrow.Author.Needs.{needs}
 use Rattle.list_gcd.proofs.gcd_with.Statement.{statement}
 use Rattle.list_gcd.proofs.gcd_with.Tie as tie
@@ -19,7 +18,7 @@ slice-aggregate-gcd-between-3 c = search needs
 gcd-between-requires : tie.Need-gcd-between-requires
 gcd-between-requires c κs =
     let pre = c .before .before .before .before .before .before .before .before .before .before .pre in
-    (pre .0, (pre .1 .0, ((refl, refl, refl), (getD-zeros maxWords, (getD-zeros maxWords, pre .1 .1)))))
+    (pre .0, (pre .1 .0, (zeros-arrays maxWords, pre .1 .1)))
 
 same-length : tie.Need-same-length
 same-length c = search needs

@@ -1,4 +1,3 @@
 pub mod Defined
 pub mod Ended
-pub mod Folds
 pub mod Greatest

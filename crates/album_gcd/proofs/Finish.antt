@@ -19,15 +19,14 @@ use Rattle.euclid_theory.specs.Gcd.{commonPower}
 use Rattle.lists.specs.Padded.{padded}
 use Rattle.lists.proofs.Padded.{getD-padded}
 use Rattle.album_theory.specs.Albums.{albumGcd}
-use Rattle.album_theory.proofs.Greatest.{album-length, album-ends, album-is-greatest}
 use Rattle.album_theory.proofs.Albums.{coefficients-none}
-use Rattle.album_theory.specs.Folds.{zeroStart, foldGcd}
-use Rattle.album_theory.proofs.Folds.{fold-album}
+use Rattle.album_theory.proofs.Greatest.{album-length, album-ends, album-is-greatest}
 use Rattle.album_layout.specs.Layout.{listsOf}
 use Rattle.list_gcd.specs.declared.Gcd.the-variants as G
 use Rattle.list_gcd.specs.Calls.{gcdReply}
 use Rattle.album_gcd.specs.Calls.{albumGcdRows, albumGcdValues, AlbumGreatestSo}
-use Rattle.album_gcd.specs.Internal.{Folded, Answered}
+use Rattle.album_gcd.specs.Internal.{zeroStart, foldGcd, Folded, Answered}
+use Rattle.album_gcd.proofs.Folds.{fold-album}
 use Rattle.album_gcd.proofs.Zeros.{Nonzero}
 
 pub refused : (F : PrimeField) (most : ℕ) (s h : List ℕ) {why : Refusal} → lowest (albumGcdRows (F .p) most s h) ≡ Refused why
@@ -64,7 +63,7 @@ module _ (F : PrimeField) (most : ℕ) (big : most ≤ F .p) (lists : List (List
       cut : take (suc (naiveDegree (albumGcd F lists .list))) (padded most (albumGcd F lists .list)) ≡ albumGcd F lists .list
       cut = unfold padded in take-at (albumGcd F lists .list) _ _ long
 
-  module _ {x : List ℕ} {n k c : ℕ} (f : Folded F most lists x n k) (e : c ≡ commonPower lists) where
+  module _ {x : List ℕ} {n k c : ℕ} (f : Folded F most lists x n k c) (e : c ≡ commonPower lists) where
     whole : albumGcd F lists ≡ foldGcd F zeroStart lists
     whole = fold-album F lists each (one .index) (one .some)
 
@@ -85,7 +84,7 @@ module _ (F : PrimeField) (most : ℕ) (big : most ≤ F .p) (lists : List (List
 
 module _ (F : PrimeField) (most : ℕ) (big : most ≤ F .p) (s h : List ℕ)
     (listed : (i : ℕ) → i < length (listsOf s) → IsList (F .p) most (getD (listsOf s) i [])) (one : Nonzero (listsOf s)) where
-  pub answered : {x : List ℕ} {n k c : ℕ} → Done ≡ lowest (albumGcdRows (F .p) most s h) → Folded F most (listsOf s) x n k
+  pub answered : {x : List ℕ} {n k c : ℕ} → Done ≡ lowest (albumGcdRows (F .p) most s h) → Folded F most (listsOf s) x n k c
       → c ≡ commonPower (listsOf s) → Answered F most s h x (G.Done (record { 0 = n - 1 }) (record { 0 = c }) (record { 0 = k }))
   answered {x} {n} {k} {c} e f ec =
       let a = answer F most big (listsOf s) listed one f ec in

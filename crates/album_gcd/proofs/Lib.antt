@@ -1,5 +1,7 @@
 pub mod Judging
 pub mod Zeros
 pub mod Power
-pub mod Turning
+pub mod Folds
+pub mod Joining
+pub mod Folding
 pub mod Finish

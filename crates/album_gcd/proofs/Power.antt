@@ -2,17 +2,30 @@
 --     Lowest i a     a is at most the power of each list below i that is not zero, and is `most` or the power of a list that is not zero
 -- Assumes nothing.
 use mathlib.Core.Path.{_≡_, refl, _∙_, ap}
+use mathlib.Core.Bool.{Bool, true, false}
 use mathlib.Core.Logic.{_⊎_, inl, inr}
 use mathlib.Core.List.{List, []}
 use Prim.Native.Nat.{ℕ, min, _+_, _≤_, _<_}
 use native.Mathlib.Decide.{ℕ-discrete, decLt}
 use native.Mathlib.Omega.{arith}
 use lib.ListN.{getD, length, List·getD-eq-default}
+use borrow.Author.Tests.{eq-eqb, ne-eqb}
 use Rattle.lists.specs.Degrees.{significant, power}
 use Rattle.lists.proofs.Extents.{significant-le, power-is}
 use Rattle.euclid_theory.specs.Gcd.{commonPower}
 use Rattle.euclid_theory.proofs.Powers.{significant-nil, commonPower-le, commonPower-attained}
-use Rattle.album_gcd.proofs.Zeros.{Nonzero}
+use Rattle.album_gcd.specs.Calls.{allZero}
+use Rattle.album_gcd.specs.Internal.{leastWith}
+use Rattle.album_gcd.proofs.Zeros.{Nonzero, nonzero, some-nonzero}
+
+module _ (a : ℕ) (c : List ℕ) where
+  pub least-zero : significant c ≡ 0 → leastWith a c ≡ a
+  unfolding leastWith
+  least-zero e = rw (eq-eqb (significant c) 0 e)
+
+  pub least-nonzero : ¬ (significant c ≡ 0) → leastWith a c ≡ min a (power c)
+  unfolding leastWith
+  least-nonzero f = rw (ne-eqb (significant c) 0 f)
 
 module _ (most : ℕ) (lists : List (List ℕ)) where
   -- the power of a list that is not zero
@@ -42,16 +55,23 @@ module _ (most : ℕ) (lists : List (List ℕ)) where
       refl
       (λ z. omega arith)
 
-  -- a list that is not zero, and one that is
-  pub lowest-next : {i a b : ℕ} → Lowest i a → ¬ (significant (getD lists i []) ≡ 0) → b ≡ min a (power (getD lists i [])) → Lowest (i + 1) b
+  -- one more list, which is not zero, which is, and either
+  lowest-next : {i a b : ℕ} → Lowest i a → ¬ (significant (getD lists i []) ≡ 0) → b ≡ min a (power (getD lists i [])) → Lowest (i + 1) b
   lowest-next {i} {a} {b} w f e = go (decLt (power (getD lists i [])) a)
     where
       go : Dec (power (getD lists i []) < a) → Lowest (i + 1) b
       go (yes l) = lowest-less w (omega arith) (omega arith) (omega arith)
       go (no m) = lowest-keep w (omega arith) (λ z. omega arith)
 
-  pub lowest-over : {i a b : ℕ} → Lowest i a → significant (getD lists i []) ≡ 0 → b ≡ a → Lowest (i + 1) b
+  lowest-over : {i a b : ℕ} → Lowest i a → significant (getD lists i []) ≡ 0 → b ≡ a → Lowest (i + 1) b
   lowest-over w z e = lowest-keep w e (λ l. absurd (omega arith))
+
+  pub lowest-with : {i a b : ℕ} → Lowest i a → b ≡ leastWith a (getD lists i []) → Lowest (i + 1) b
+  lowest-with {i} {a} {b} w e = go (ℕ-discrete (significant (getD lists i [])) 0)
+    where
+      go : Dec (significant (getD lists i []) ≡ 0) → Lowest (i + 1) b
+      go (yes z) = lowest-over w z (e ∙ least-zero a (getD lists i []) z)
+      go (no f) = lowest-next w f (e ∙ least-nonzero a (getD lists i []) f)
 
   inside : (i : ℕ) → 0 < significant (getD lists i []) → i < length lists
   inside i some = go (decLt i (length lists))
@@ -59,6 +79,14 @@ module _ (most : ℕ) (lists : List (List ℕ)) where
       go : Dec (i < length lists) → i < length lists
       go (yes l) = l
       go (no f) = absurd (let z = ap significant (List·getD-eq-default lists [] {n = i} (omega arith)) ∙ significant-nil in omega arith)
+
+  -- a power is below the number of words
+  power-small : Nonzero lists → ((j : ℕ) → j < length lists → length (getD lists j []) ≤ most) → commonPower lists < most
+  power-small one short =
+      let c = commonPower-attained lists (one .index) (one .some) in
+      let some = c .some in
+      let s = short (c .index) (inside (c .index) some) in
+      omega (arith, c .is, power-is (getD lists (c .index) []) (λ z. omega arith), significant-le (getD lists (c .index) []))
 
   pub lowest-end : {i a : ℕ} → Lowest i a → length lists ≤ i → Nonzero lists
       → ((j : ℕ) → j < length lists → length (getD lists j []) ≤ most) → a ≡ commonPower lists
@@ -71,16 +99,27 @@ module _ (most : ℕ) (lists : List (List ℕ)) where
           let m = w .le (c .index) (omega arith) (c .some) in
           omega (arith, c .is)
 
-      small : commonPower lists < most
-      small =
-          let c = commonPower-attained lists (one .index) (one .some) in
-          let some = c .some in
-          let s = short (c .index) (inside (c .index) some) in
-          omega (arith, c .is, power-is (getD lists (c .index) []) (λ z. omega arith), significant-le (getD lists (c .index) []))
-
       go : (a ≡ most) ⊎ Found a → a ≡ commonPower lists
-      go (inl e) = absurd (let k = small in let m = least in omega arith)
+      go (inl e) = absurd (let k = power-small one short in let m = least in omega arith)
       go (inr f) =
           let k = commonPower-le lists (f .index) (f .some) in
           let m = least in
           omega (arith, f .is)
+
+  -- no power is found where all lists are zero, and only there
+  pub lowest-zero : {i a : ℕ} → Lowest i a → length lists ≤ i → ((j : ℕ) → j < length lists → length (getD lists j []) ≤ most)
+      → a ≡ most → allZero lists ≡ true
+  lowest-zero {i} {a} w l short e = go (allZero lists) refl
+    where
+      go : (b : Bool) → allZero lists ≡ b → allZero lists ≡ true
+      go true z = z
+      go false z =
+          let one = nonzero lists z in
+          absurd (let k = power-small one short in let m = lowest-end w l one short in omega arith)
+
+  pub lowest-nonzero : {i a : ℕ} → Lowest i a → ¬ (a ≡ most) → allZero lists ≡ false
+  lowest-nonzero {i} {a} w f = go (w .is)
+    where
+      go : (a ≡ most) ⊎ Found a → allZero lists ≡ false
+      go (inl e) = absurd (f e)
+      go (inr g) = some-nonzero lists (g .index) (g .some)

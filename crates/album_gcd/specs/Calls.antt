@@ -1,8 +1,10 @@
 -- What the GCD of an album answers, refuses and promises; s is the album's bytes.
 --     allZero               every list of the album is zero
---     albumGcdRows, albumGcdRefusals     those of every call on an album, all zero (9), and a slice of another number of words than the
---                                        longest list has (10)
+--     albumGcdRows          those of every call on an album, all zero (9), and a slice of another number of words than the longest list
+--                           has (10)
 --     albumGcdValues        w, the naive degree of h; c, the least power of the lists that are not zero; the sum of all rounds
+--     albumGcdAnswer k      these values; k is the number of a field
+--     albumGcdWritten k     h, zeros after it
 --     AlbumGreatestSo       (1-t)^c·h divides the polynomial of each list, and every polynomial over the field, of any degree, that divides
 --                           them all divides it, h being the first w + 1 words of the slice; the slice holds 1 at w and 0 after it
 -- Assumes nothing.
@@ -14,11 +16,13 @@ use lib.Dec.{eqb}
 use lib.ListN.{getD, length, take}
 use Rattle.algebra.specs.OneMinusT.{⟨1-t⟩^}
 use Rattle.algebra.specs.PrimeField.{PrimeField}
-use Rattle.refusal.specs.Limits.{maxWords}
-use Rattle.refusal.specs.Lowest.{Condition, _given-when_}
+use Rattle.refusal.specs.Refusal.{Reply, reply, written}
+use Rattle.refusal.specs.Lowest.{Condition, _given-when_, lowest}
 use Rattle.refusal.specs.declared.Refusal.the-variants.{AllZero, Misfit}
+use Rattle.field.specs.Fields.{modulus, fieldAt, longest}
 use Rattle.lists.specs.Degrees.{naiveDegree, significant}
 use Rattle.lists.specs.Lists.{meaning}
+use Rattle.lists.specs.Padded.{padded}
 use Rattle.euclid_theory.specs.Gcd.{commonPower}
 use Rattle.album_theory.specs.Albums.{albumGcd}
 use Rattle.album_theory.specs.Greatest.{IsGreatestOf}
@@ -38,11 +42,15 @@ albumGcdRows p most s h =
     Misfit given-when not (eqb (length h) most) ∷
     [])
 
-unfoldable pub albumGcdRefusals : ℕ → (s h : List ℕ) → List Condition
-albumGcdRefusals p s h = albumGcdRows p maxWords s h
-
 unfoldable pub albumGcdValues : PrimeField → List (List ℕ) → List ℕ
 albumGcdValues F lists = naiveDegree (albumGcd F lists .list) ∷ commonPower lists ∷ albumGcd F lists .rounds ∷ []
+
+abbrev pub albumGcdAnswer : (k : ℕ) → (s h : List ℕ) → Reply
+albumGcdAnswer k s h = reply (lowest (albumGcdRows (modulus k) (longest k) s h)) (albumGcdValues (fieldAt k) (listsOf s))
+
+abbrev pub albumGcdWritten : (k : ℕ) → (s h : List ℕ) → List ℕ
+albumGcdWritten k s h =
+    written (lowest (albumGcdRows (modulus k) (longest k) s h)) (padded (longest k) (albumGcd (fieldAt k) (listsOf s) .list)) h
 
 pub record AlbumGreatestSo (F : PrimeField) (lists : List (List ℕ)) (slice : List ℕ) (w c : ℕ) : Type 0 where
   pub ends : getD slice w 0 ≡ 1

@@ -1,23 +1,21 @@
 -- What the calls refuse, as the chain of tests that the code makes.
 -- Assumes nothing.
-use mathlib.Core.Path.{_≡_, refl, sym, ap, ap₂, _∙_}
+use mathlib.Core.Path.{_≡_, refl, sym, _∙_}
 use mathlib.Core.Bool.{Bool, true, false, or-true, and-false}
 use mathlib.Core.List.{List, [], _∷_}
-use Prim.Native.Nat.{ℕ, _+_, _*_, _-_, _≤_, _<_}
-use native.Mathlib.Omega.{arith}
+use Prim.Native.Nat.{ℕ, _≤_, _<_}
 use lib.Dec.{leb}
-use lib.ListN.{length, take, drop}
+use lib.ListN.{length}
 use borrow.Author.Tests.{eq-eqb, ne-eqb, lt-ltb, leb-false, le-leb, lt-leb}
 use Rattle.refusal.specs.Limits.{maxLists}
-use Rattle.refusal.specs.Refusal.{written}
 use Rattle.refusal.specs.Lowest.{_given-when_, lowest}
 use Rattle.refusal.specs.declared.Refusal.{Refusal}
 use Rattle.refusal.specs.declared.Refusal.the-variants.{Count, Contents, Index, LooseWord}
 use Rattle.refusal.specs.declared.Outcome.the-variants.{Done, Refused}
 use Rattle.refusal.proofs.First.{refuse, or-else, first-is, first-then, refuse-done, or-else-done}
 use Rattle.lists.specs.Refused.{hasLoose, anyOf}
-use Rattle.album_layout.specs.Layout.{count, degreeAt, offsetAt, startAt, offsetsAgree, wrongCount, brokenLayout, listsOf}
-use Rattle.album_layout.specs.Calls.{albumRefusals, checkRefusals, bodyOf}
+use Rattle.album_layout.specs.Layout.{count, offsetAt, startAt, offsetsAgree, wrongCount, brokenLayout, listsOf}
+use Rattle.album_layout.specs.Calls.{albumRefusals, checkRefusals}
 use Rattle.album_layout.specs.Internal.{layoutRefusals, Obeys, Passed}
 use Rattle.album_layout.proofs.Places.{agree-at, obeys, right-count, right-layout}
 
@@ -122,16 +120,3 @@ module _ (p : ℕ) (s : List ℕ) (i : ℕ) where
   call-fine e =
       let d = or-else-done (lowest (layoutRefusals s)) _ (sym call-judged ∙ e) in
       (layout-obeys s (d .0), leb-false (count s) i (refuse-done (leb (count s) i) _ _ (d .1) .0))
-
-  pub body-done : lowest (checkRefusals p s i) ≡ Done → (from degree : ℕ) → from ≡ offsetAt s i → degree ≡ degreeAt s i
-      → take (from + 2 * (degree + 1) - from) (drop from s) ≡ bodyOf p s i
-  unfolding bodyOf
-  body-done e from degree f d =
-      let n : from + 2 * (degree + 1) - from ≡ 2 * (degreeAt s i + 1) = omega arith in
-      let fine = call-fine e in
-      ap₂ (λ m k. take m (drop k s)) n (f ∙ fine .0 .placed i (fine .1))
-      ∙ sym (ap (λ o. written o (take (2 * (degreeAt s i + 1)) (drop (startAt s i) s)) []) e)
-
-  pub body-refused : {why : Refusal} → lowest (checkRefusals p s i) ≡ Refused why → [] ≡ bodyOf p s i
-  unfolding bodyOf
-  body-refused e = sym (ap (λ o. written o (take (2 * (degreeAt s i + 1)) (drop (startAt s i) s)) []) e)

@@ -1,3 +1,4 @@
+pub mod Bodies
 pub mod Judged
 pub mod Loose
 pub mod Passed

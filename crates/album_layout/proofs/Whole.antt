@@ -123,9 +123,14 @@ pub album-whole : (s : List ℕ) → Bytes s → wrongCount maxLists s ≡ false
     → albumOf (listsOf s) ≡ s
 album-whole s bytes counted laid = back s (obeys s counted laid) bytes
 
-pub body-whole : (s : List ℕ) → Bytes s → wrongCount maxLists s ≡ false → brokenLayout s ≡ false → (i : ℕ) → i < count s
+-- the bytes of body i, as many as entry i says
+pub body-back : (s : List ℕ) → Obeys s → Bytes s → (i : ℕ) → i < count s
     → take (2 * (degreeAt s i + 1)) (drop (startAt s i) s) ≡ bytesOf (listAt s i)
-body-whole s bytes counted laid i l =
-    ap (take (2 * (degreeAt s i + 1))) (sym (list-back s (obeys s counted laid) bytes i l))
+body-back s o bytes i l =
+    ap (take (2 * (degreeAt s i + 1))) (sym (list-back s o bytes i l))
     ∙ take-at (bytesOf (listAt s i)) (drop (startAt s (suc i)) s) (2 * (degreeAt s i + 1))
     (length-bytesOf (listAt s i) ∙ ap (λ n. 2 * n) (length-list s i))
+
+pub body-whole : (s : List ℕ) → Bytes s → wrongCount maxLists s ≡ false → brokenLayout s ≡ false → (i : ℕ) → i < count s
+    → take (2 * (degreeAt s i + 1)) (drop (startAt s i) s) ≡ bytesOf (listAt s i)
+body-whole s bytes counted laid = body-back s (obeys s counted laid) bytes

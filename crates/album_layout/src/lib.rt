@@ -1,22 +1,22 @@
 // The layout of an album: what a call on it refuses, and a list's bytes as a part of the album itself.
 ghost use mathlib.Core.Path.{_≡_};
-ghost use mathlib.Core.List.{[]};
-ghost use Prim.Native.Nat.{_+_, _<_};
+ghost use Prim.Native.Nat.{_<_};
 ghost use lib.ListN.{length};
-ghost use Rattle.refusal.specs.Refusal.{reply, outcomeReply};
+ghost use Rattle.refusal.specs.Contract.{given};
+ghost use Rattle.refusal.specs.Refusal.{outcomeReply};
 ghost use Rattle.refusal.specs.Lowest.{lowest};
-ghost use Rattle.field.specs.Fields.{p, modulus};
+ghost use Rattle.refusal.specs.declared.Outcome.the-variants.{Done};
+ghost use Rattle.field.specs.Fields.{modulus};
 ghost use Rattle.lists.specs.Refused.{hasLoose, anyOf};
-ghost use Rattle.lists.specs.Bytes.{wordAt};
 ghost use Rattle.album_layout.specs.Layout.{listsOf};
-ghost use Rattle.album_layout.specs.Calls.{albumRefusals, checkRefusals, bodyOf};
-ghost use Rattle.album_layout.specs.Internal.{layoutRefusals, Obeys};
+ghost use Rattle.album_layout.specs.Calls.{albumRefusals, checkRefusals, checkAnswer, bodyOf, bodyPlace, PartFrom};
+ghost use Rattle.album_layout.specs.Internal.{layoutRefusals, Obeys, bodyAt, placeAt};
 use refusal::Outcome;
 use refusal::Refusal;
 
 // What every call on the album refuses.
 pub fn judge_album(field: u8, album: &[u8]) -> Outcome
-    ensures { λ r. ⌜ r ≡ lowest (albumRefusals (modulus field) (now (album .entry))) ⌝ }
+    ensures { λ r. ⌜ r ≡ lowest (albumRefusals (modulus field) (given album)) ⌝ }
 {
     if let Outcome::Refused(why) = judge_layout(album) {
         return Outcome::Refused(why);
@@ -29,12 +29,12 @@ pub fn judge_album(field: u8, album: &[u8]) -> Outcome
 
 // What a call on list i refuses.
 pub fn judge_call(field: u8, album: &[u8], i: usize) -> Outcome
-    ensures { λ r. ⌜ r ≡ lowest (checkRefusals (modulus field) (now (album .entry)) i) ⌝ }
+    ensures { λ r. ⌜ r ≡ lowest (checkRefusals (modulus field) (given album) i) ⌝ }
 {
     if let Outcome::Refused(why) = judge_layout(album) {
         return Outcome::Refused(why);
     }
-    if wide(album[0]) <= i {
+    if words::byte_at(album, 0) <= i {
         return Outcome::Refused(Refusal::Index);
     }
     if has_loose_word(field, album) {
@@ -44,64 +44,51 @@ pub fn judge_call(field: u8, album: &[u8], i: usize) -> Outcome
 }
 
 // The refusal that applies to a call on list i.
-pub fn check(album: &[u8], i: usize) -> Outcome
-    ensures answer { λ r. ⌜ outcomeReply r ≡ reply (lowest (checkRefusals p (now (album .entry)) i)) [] ⌝ }
-{
-    check_over(0, album, i)
-}
-
-// The same over a field.
 pub fn check_over(field: u8, album: &[u8], i: usize) -> Outcome
-    ensures answer { λ r. ⌜ outcomeReply r ≡ reply (lowest (checkRefusals (modulus field) (now (album .entry)) i)) [] ⌝ }
+    ensures answer { λ r. ⌜ outcomeReply r ≡ checkAnswer field (given album) i ⌝ }
 {
     judge_call(field, album, i)
 }
 
-// The bytes of list i, as a part of the album; the empty part when refused.
-pub fn body(album: &[u8], i: usize) -> &[u8]
-    ensures part { λ r. ⌜ now r ≡ bodyOf p (now (album .entry)) i ⌝ }
-{
-    body_over(0, album, i)
-}
-
-// The same over a field.
+// The bytes of list i, as a part of the album itself; the empty part when refused.
 pub fn body_over(field: u8, album: &[u8], i: usize) -> &[u8]
-    ensures part { λ r. ⌜ now r ≡ bodyOf (modulus field) (now (album .entry)) i ⌝ }
+    ensures part { λ r. ⌜ now r ≡ bodyOf field (given album) i ⌝ }
+    ensures place { λ r. ⌜ PartFrom (album .entry) (bodyPlace field (given album) i) r ⌝ }
+    ensures some { λ r. ⌜ (lowest (checkRefusals (modulus field) (given album) i) ≡ Done → 0 < length (now r)) ⌝ }
 {
     match judge_call(field, album, i) {
-        Outcome::Done => {
-            let e = 1 + refusal::ENTRY_BYTES * i;
-            let from = word(album, e + 1);
-            let to = from + 2 * (wide(album[e]) + 1);
-            &album[from..to]
-        }
+        Outcome::Done => body_at(album, i),
         Outcome::Refused(_) => &album[0..0],
     }
 }
 
-// A byte as a number.
-fn wide(b: u8) -> usize
-    ensures { λ r. ⌜ (r ≡ b) × (r < 256) ⌝ }
+// The bytes that entry i names, as a part of the album itself; the empty part where there is no such entry, or they do not lie inside the
+// album. Nothing is judged.
+pub fn body_at(album: &[u8], i: usize) -> &[u8]
+    ensures part { λ r. ⌜ now r ≡ bodyAt (given album) i ⌝ }
+    ensures place { λ r. ⌜ PartFrom (album .entry) (placeAt (given album) i) r ⌝ }
 {
-    b as usize
-}
-
-// The word at a place, low byte first.
-fn word(s: &[u8], at: usize) -> usize
-    requires { ⌜ at + 1 < length (now s) ⌝ }
-    ensures { λ r. ⌜ (r ≡ wordAt (now (s .entry)) at) × (r < 65536) ⌝ }
-{
-    wide(s[at]) + 256 * wide(s[at + 1])
+    let lists = words::byte_at(album, 0);
+    if lists <= i {
+        return &album[0..0];
+    }
+    let e = 1 + refusal::ENTRY_BYTES * i;
+    let from = words::word_at(album, e + 1);
+    let to = from + 2 * (words::byte_at(album, e) + 1);
+    if album.len() < to {
+        return &album[0..0];
+    }
+    &album[from..to]
 }
 
 // Whether the album breaks its layout: `at` is where the next body has to start.
 fn judge_layout(album: &[u8]) -> Outcome
-    ensures { λ r. ⌜ r ≡ lowest (layoutRefusals (now (album .entry))) ⌝ }
+    ensures { λ r. ⌜ r ≡ lowest (layoutRefusals (given album)) ⌝ }
 {
     if album.len() == 0 {
         return Outcome::Refused(Refusal::Count);
     }
-    let n = wide(album[0]);
+    let n = words::byte_at(album, 0);
     if n == 0 {
         return Outcome::Refused(Refusal::Count);
     }
@@ -115,10 +102,10 @@ fn judge_layout(album: &[u8]) -> Outcome
     let mut k = 0;
     while k < n {
         let e = 1 + refusal::ENTRY_BYTES * k;
-        if word(album, e + 1) != at {
+        if words::word_at(album, e + 1) != at {
             return Outcome::Refused(Refusal::Contents);
         }
-        at += 2 * (wide(album[e]) + 1);
+        at += 2 * (words::byte_at(album, e) + 1);
         k += 1;
     }
     if album.len() != at {
@@ -130,12 +117,12 @@ fn judge_layout(album: &[u8]) -> Outcome
 // Whether a list of the album has a loose word: the bodies' words stand one after the other up to the end.
 fn has_loose_word(field: u8, album: &[u8]) -> bool
     requires { ⌜ Obeys (now album) ⌝ }
-    ensures { λ r. ⌜ r ≡ anyOf (hasLoose (modulus field)) (listsOf (now (album .entry))) ⌝ }
+    ensures { λ r. ⌜ r ≡ anyOf (hasLoose (modulus field)) (listsOf (given album)) ⌝ }
 {
     let p = field::modulus_of(field) as usize;
-    let mut at = 1 + refusal::ENTRY_BYTES * wide(album[0]);
+    let mut at = 1 + refusal::ENTRY_BYTES * words::byte_at(album, 0);
     while at + 1 < album.len() {
-        if p <= word(album, at) {
+        if p <= words::word_at(album, at) {
             return true;
         }
         at += 2;

@@ -1,3 +1,3 @@
-pub mod Words
 pub mod Judged
+pub mod Reading
 pub mod Held

@@ -3,4 +3,3 @@ pub mod Ended
 pub mod CommonDivisors
 pub mod Greatest
 pub mod Defined
-pub mod Folds

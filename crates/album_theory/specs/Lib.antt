@@ -1,4 +1,3 @@
 pub mod Albums
 pub mod Greatest
 pub mod Defined
-pub mod Folds

@@ -16,7 +16,7 @@ fn main() {
     let mut album = [0u8; ROOM];
     let mut text = [0u8; report_text::MAX_TEXT];
     let n = io::read_full(STDIN_FILENO, &mut album);
-    if let Text::Done(k) = report_text::write_report(&album[..n], &mut text) {
+    if let Text::Done(k) = report_text::report_over(0, &album[..n], &mut text) {
         deliver(&text[..k]);
     }
 }

@@ -24,7 +24,7 @@ use Rattle.album_layout.proofs.Places.{length-lists}
 use Rattle.album_layout.proofs.Passed.{passed-obeys, passed-each}
 use Rattle.report_text.specs.Text.{decimal, line}
 use Rattle.report_text.specs.Report.{⟨lists⟩, listLines, refusedLine, soundReport, reportOf}
-use Rattle.report_text.specs.Calls.{maxText, reportRefusals, textReply}
+use Rattle.report_text.specs.Calls.{maxText, reportRows, textReply}
 use Rattle.report_text.specs.declared.Text.{Text}
 use Rattle.report_text.specs.declared.Text.the-variants as T
 use Rattle.report_text.specs.Internal.{Room, Put, maxAnswer, answerLines}
@@ -76,22 +76,22 @@ module _ (p : ℕ) (F : PrimeField) (s : List ℕ) where
   report-sound e = sym (rw e)
 
 module _ (out : List ℕ) where
-  report-misfit : ¬ (length out ≡ maxText) → lowest (reportRefusals out) ≡ Refused Misfit
-  unfolding reportRefusals lowest lower
+  report-misfit : ¬ (length out ≡ maxText) → lowest (reportRows out) ≡ Refused Misfit
+  unfolding reportRows lowest lower
   report-misfit f = rw (ne-eqb (length out) maxText f)
 
-  report-done : length out ≡ maxText → lowest (reportRefusals out) ≡ Done
-  unfolding reportRefusals lowest lower
+  report-done : length out ≡ maxText → lowest (reportRows out) ≡ Done
+  unfolding reportRows lowest lower
   report-done e = rw (eq-eqb (length out) maxText e)
 
 -- what the call answers and leaves: nothing where the slice does not fit
 pub misfit : (t a : List ℕ) → ¬ (length a ≡ maxText)
-    → (textReply (T.Refused Misfit) ≡ reply (lowest (reportRefusals a)) (length t ∷ [])) × (a ≡ written (lowest (reportRefusals a)) (padded maxText t) a)
+    → (textReply (T.Refused Misfit) ≡ reply (lowest (reportRows a)) (length t ∷ [])) × (a ≡ written (lowest (reportRows a)) (padded maxText t) a)
 misfit t a f = rw (report-misfit a f) (refl, refl)
 
 -- and where zeros follow the text t
 pub cleared : {t a b c : List ℕ} {r : ℕ} → length a ≡ maxText → Put t 0 a b r → c ≡ padded (length b) (take r b)
-    → (textReply (T.Done r) ≡ reply (lowest (reportRefusals a)) (length t ∷ [])) × (c ≡ written (lowest (reportRefusals a)) (padded maxText t) a)
+    → (textReply (T.Done r) ≡ reply (lowest (reportRows a)) (length t ∷ [])) × (c ≡ written (lowest (reportRows a)) (padded maxText t) a)
 cleared {t} {a} {b} {c} {r} q x z =
     let n : r ≡ length t = omega (arith, x .next) in
     rw (report-done a q) (ap (λ k. textReply (T.Done k)) n, z ∙ ap₂ padded (x .same ∙ q) (x .bytes))
@@ -105,6 +105,6 @@ inside-so t a Done {c} {k} e z =
 inside-so t a (Refused why) {c} {k} e z =
     absurd (let n = ap (λ v. length (v .values)) e in omega arith)
 
-pub text-inside : (t a : List ℕ) {c : List ℕ} {k : ℕ} {r : Text} → r ≡ T.Done k → textReply r ≡ reply (lowest (reportRefusals a)) (length t ∷ [])
-    → c ≡ written (lowest (reportRefusals a)) (padded maxText t) a → k ≤ length c
-text-inside t a i e z = inside-so t a (lowest (reportRefusals a)) (ap textReply (sym i) ∙ e) z
+pub text-inside : (t a : List ℕ) {c : List ℕ} {k : ℕ} {r : Text} → r ≡ T.Done k → textReply r ≡ reply (lowest (reportRows a)) (length t ∷ [])
+    → c ≡ written (lowest (reportRows a)) (padded maxText t) a → k ≤ length c
+text-inside t a i e z = inside-so t a (lowest (reportRows a)) (ap textReply (sym i) ∙ e) z

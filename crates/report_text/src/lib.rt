@@ -3,16 +3,15 @@ ghost use mathlib.Core.Path.{_≡_};
 ghost use mathlib.Core.List.{[], _∷_, map};
 ghost use Prim.Native.Nat.{_+_, _≤_, _<_};
 ghost use lib.ListN.{length, take};
-ghost use Rattle.field.specs.Fields.{F65521, p, modulus, fieldAt, longest};
+ghost use Rattle.field.specs.Fields.{modulus, fieldAt, longest};
+ghost use Rattle.refusal.specs.Contract.{given, final};
 ghost use Rattle.refusal.specs.Limits.{maxWords};
-ghost use Rattle.refusal.specs.Refusal.{reply, written};
-ghost use Rattle.refusal.specs.Lowest.{lowest};
 ghost use Rattle.lists.specs.Padded.{padded};
 ghost use Rattle.album_layout.specs.Layout.{listsOf};
 ghost use Rattle.album_layout.specs.Internal.{Passed};
 ghost use Rattle.report_text.specs.Text.{decimal, line};
 ghost use Rattle.report_text.specs.Report.{listLine, listLines, gcdLines, refusedLine, soundReport, reportOf};
-ghost use Rattle.report_text.specs.Calls.{maxText, reportRefusals, textReply};
+ghost use Rattle.report_text.specs.Calls.{maxText, reportAnswer, reportWritten, textReply};
 ghost use Rattle.report_text.specs.Internal.{Room, Put, lineEnd, maxAnswer, answerLines};
 use list_gcd::Gcd;
 use lists::Power;
@@ -29,18 +28,10 @@ pub enum Text {
     Refused(Refusal),
 }
 
-// The report on an album, zeros after it.
-pub fn write_report(album: &[u8], out: &mut [u8]) -> Text
-    ensures answer { λ r. ⌜ textReply r ≡ reply (lowest (reportRefusals (now (out .entry)))) (length (reportOf p F65521 (now (album .entry))) ∷ []) ⌝ }
-    ensures writes { λ _. ⌜ now (out .exit) ≡ written (lowest (reportRefusals (now (out .entry)))) (padded maxText (reportOf p F65521 (now (album .entry)))) (now (out .entry)) ⌝ }
-{
-    report_over(0, album, out)
-}
-
-// The same over a field.
+// The report on an album, zeros after it; the program's is that over field 0.
 pub fn report_over(field: u8, album: &[u8], out: &mut [u8]) -> Text
-    ensures answer { λ r. ⌜ textReply r ≡ reply (lowest (reportRefusals (now (out .entry)))) (length (reportOf (modulus field) (fieldAt field) (now (album .entry))) ∷ []) ⌝ }
-    ensures writes { λ _. ⌜ now (out .exit) ≡ written (lowest (reportRefusals (now (out .entry)))) (padded maxText (reportOf (modulus field) (fieldAt field) (now (album .entry)))) (now (out .entry)) ⌝ }
+    ensures answer { λ r. ⌜ textReply r ≡ reportAnswer field (given album) (given out) ⌝ }
+    ensures writes { λ _. ⌜ final out ≡ reportWritten field (given album) (given out) ⌝ }
 {
     if out.len() != MAX_TEXT {
         return Text::Refused(Refusal::Misfit);
@@ -55,7 +46,7 @@ pub fn report_over(field: u8, album: &[u8], out: &mut [u8]) -> Text
 // Zeros from a place on.
 fn clear(from: usize, out: &mut [u8])
     requires { ⌜ from ≤ length (now out) ⌝ }
-    ensures { λ _. ⌜ now (out .exit) ≡ padded (length (now (out .entry))) (take from (now (out .entry))) ⌝ }
+    ensures { λ _. ⌜ final out ≡ padded (length (given out)) (take from (given out)) ⌝ }
 {
     let mut i = from;
     while i < out.len() {
@@ -67,7 +58,7 @@ fn clear(from: usize, out: &mut [u8])
 // The report by way of as much of two arrays as the longest list takes.
 fn report_between(field: u8, album: &[u8], list: &mut [u16], h: &mut [u16], out: &mut [u8]) -> usize
     requires { ⌜ (length (now list) ≡ maxWords) × (length (now h) ≡ maxWords) × (length (now out) ≡ maxText) ⌝ }
-    ensures { λ r. ⌜ Put (reportOf (modulus field) (fieldAt field) (now (album .entry))) 0 (now (out .entry)) (now (out .exit)) r ⌝ }
+    ensures { λ r. ⌜ Put (reportOf (modulus field) (fieldAt field) (given album)) 0 (given out) (final out) r ⌝ }
 {
     let n = field::longest_of(field);
     report_in(field, album, &mut list[..n], &mut h[..n], out)
@@ -76,7 +67,7 @@ fn report_between(field: u8, album: &[u8], list: &mut [u16], h: &mut [u16], out:
 // The same by way of buffers for a list and for h.
 fn report_in(field: u8, album: &[u8], list: &mut [u16], h: &mut [u16], out: &mut [u8]) -> usize
     requires { ⌜ (length (now list) ≡ longest field) × (length (now h) ≡ longest field) × (length (now out) ≡ maxText) ⌝ }
-    ensures { λ r. ⌜ Put (reportOf (modulus field) (fieldAt field) (now (album .entry))) 0 (now (out .entry)) (now (out .exit)) r ⌝ }
+    ensures { λ r. ⌜ Put (reportOf (modulus field) (fieldAt field) (given album)) 0 (given out) (final out) r ⌝ }
 {
     match album_layout::judge_album(field, album) {
         Outcome::Refused(why) => put_refused(why, 0, out),
@@ -88,9 +79,9 @@ fn report_in(field: u8, album: &[u8], list: &mut [u16], h: &mut [u16], out: &mut
 fn put_sound(field: u8, album: &[u8], list: &mut [u16], h: &mut [u16], out: &mut [u8]) -> usize
     requires { ⌜ Passed (modulus field) (now album) ⌝ }
     requires { ⌜ (length (now list) ≡ longest field) × (length (now h) ≡ longest field) × (length (now out) ≡ maxText) ⌝ }
-    ensures { λ r. ⌜ Put (soundReport (fieldAt field) (listsOf (now (album .entry)))) 0 (now (out .entry)) (now (out .exit)) r ⌝ }
+    ensures { λ r. ⌜ Put (soundReport (fieldAt field) (listsOf (given album))) 0 (given out) (final out) r ⌝ }
 {
-    let first = put_named(b"lists", album[0] as usize, 0, out);
+    let first = put_named(b"lists", words::byte_at(album, 0), 0, out);
     let at = put_lists(field, album, list, first, out);
     put_answer(field, album, h, at, out)
 }
@@ -99,7 +90,7 @@ fn put_sound(field: u8, album: &[u8], list: &mut [u16], h: &mut [u16], out: &mut
 fn put_answer(field: u8, album: &[u8], h: &mut [u16], at: usize, out: &mut [u8]) -> usize
     requires { ⌜ (Passed (modulus field) (now album)) × (length (now h) ≡ longest field) ⌝ }
     requires { ⌜ at + maxAnswer ≤ length (now out) ⌝ }
-    ensures { λ r. ⌜ Put (answerLines (fieldAt field) (listsOf (now (album .entry)))) at (now (out .entry)) (now (out .exit)) r ⌝ }
+    ensures { λ r. ⌜ Put (answerLines (fieldAt field) (listsOf (given album))) at (given out) (final out) r ⌝ }
 {
     match album_gcd::album_gcd_over(field, album, h) {
         Gcd::Done(w, c, _) => put_gcd(&h[..w.0 + 1], c, at, out),
@@ -110,7 +101,7 @@ fn put_answer(field: u8, album: &[u8], h: &mut [u16], at: usize, out: &mut [u8])
 // One byte.
 fn put(byte: u8, at: usize, out: &mut [u8]) -> usize
     requires { ⌜ Room (byte ∷ []) at (now out) ⌝ }
-    ensures { λ r. ⌜ Put (byte ∷ []) at (now (out .entry)) (now (out .exit)) r ⌝ }
+    ensures { λ r. ⌜ Put (byte ∷ []) at (given out) (final out) r ⌝ }
 {
     out[at] = byte;
     at + 1
@@ -119,7 +110,7 @@ fn put(byte: u8, at: usize, out: &mut [u8]) -> usize
 // Some bytes.
 fn put_bytes(bytes: &[u8], at: usize, out: &mut [u8]) -> usize
     requires { ⌜ Room (now bytes) at (now out) ⌝ }
-    ensures { λ r. ⌜ Put (now (bytes .entry)) at (now (out .entry)) (now (out .exit)) r ⌝ }
+    ensures { λ r. ⌜ Put (given bytes) at (given out) (final out) r ⌝ }
 {
     let mut i = 0;
     while i < bytes.len() {
@@ -132,7 +123,7 @@ fn put_bytes(bytes: &[u8], at: usize, out: &mut [u8]) -> usize
 // A number in decimal digits.
 fn put_number(n: usize, at: usize, out: &mut [u8]) -> usize
     requires { ⌜ Room (decimal n) at (now out) ⌝ }
-    ensures { λ r. ⌜ Put (decimal n) at (now (out .entry)) (now (out .exit)) r ⌝ }
+    ensures { λ r. ⌜ Put (decimal n) at (given out) (final out) r ⌝ }
 {
     if n < 10 {
         return put(48 + n as u8, at, out);
@@ -144,7 +135,7 @@ fn put_number(n: usize, at: usize, out: &mut [u8]) -> usize
 // A space and a number.
 fn put_field(n: usize, at: usize, out: &mut [u8]) -> usize
     requires { ⌜ Room (32 ∷ decimal n) at (now out) ⌝ }
-    ensures { λ r. ⌜ Put (32 ∷ decimal n) at (now (out .entry)) (now (out .exit)) r ⌝ }
+    ensures { λ r. ⌜ Put (32 ∷ decimal n) at (given out) (final out) r ⌝ }
 {
     let next = put(32, at, out);
     put_number(n, next, out)
@@ -153,7 +144,7 @@ fn put_field(n: usize, at: usize, out: &mut [u8]) -> usize
 // A line of a name and a number.
 fn put_named(name: &[u8], n: usize, at: usize, out: &mut [u8]) -> usize
     requires { ⌜ Room (line (now name ∷ decimal n ∷ [])) at (now out) ⌝ }
-    ensures { λ r. ⌜ Put (line (now (name .entry) ∷ decimal n ∷ [])) at (now (out .entry)) (now (out .exit)) r ⌝ }
+    ensures { λ r. ⌜ Put (line (given name ∷ decimal n ∷ [])) at (given out) (final out) r ⌝ }
 {
     let named = put_bytes(name, at, out);
     let end = put_field(n, named, out);
@@ -163,7 +154,7 @@ fn put_named(name: &[u8], n: usize, at: usize, out: &mut [u8]) -> usize
 // The line of a refusal.
 fn put_refused(why: Refusal, at: usize, out: &mut [u8]) -> usize
     requires { ⌜ Room (refusedLine why) at (now out) ⌝ }
-    ensures { λ r. ⌜ Put (refusedLine why) at (now (out .entry)) (now (out .exit)) r ⌝ }
+    ensures { λ r. ⌜ Put (refusedLine why) at (given out) (final out) r ⌝ }
 {
     put_named(b"refused", refusal::number_of(why) as usize, at, out)
 }
@@ -171,7 +162,7 @@ fn put_refused(why: Refusal, at: usize, out: &mut [u8]) -> usize
 // The extent and the power of a list, `-` for each where it is zero, and the end of its line.
 fn put_extent(list: &[u16], at: usize, out: &mut [u8]) -> usize
     requires { ⌜ Room (lineEnd (now list)) at (now out) ⌝ }
-    ensures { λ r. ⌜ Put (lineEnd (now (list .entry))) at (now (out .entry)) (now (out .exit)) r ⌝ }
+    ensures { λ r. ⌜ Put (lineEnd (given list)) at (given out) (final out) r ⌝ }
 {
     if lists::significant_words(list) == 0 {
         return put_bytes(b" - -\n", at, out);
@@ -186,7 +177,7 @@ fn put_extent(list: &[u16], at: usize, out: &mut [u8]) -> usize
 // The line of list i.
 fn put_list(i: usize, list: &[u16], at: usize, out: &mut [u8]) -> usize
     requires { ⌜ (0 < length (now list)) × (Room (listLine i (now list)) at (now out)) ⌝ }
-    ensures { λ r. ⌜ Put (listLine i (now (list .entry))) at (now (out .entry)) (now (out .exit)) r ⌝ }
+    ensures { λ r. ⌜ Put (listLine i (given list)) at (given out) (final out) r ⌝ }
 {
     let number = put_number(i, at, out);
     let degree = lists::degree_of(list);
@@ -197,7 +188,7 @@ fn put_list(i: usize, list: &[u16], at: usize, out: &mut [u8]) -> usize
 // The words of h, one space between them.
 fn put_words(h: &[u16], at: usize, out: &mut [u8]) -> usize
     requires { ⌜ (0 < length (now h)) × (Room (line (map decimal (now h))) at (now out)) ⌝ }
-    ensures { λ r. ⌜ Put (line (map decimal (now (h .entry)))) at (now (out .entry)) (now (out .exit)) r ⌝ }
+    ensures { λ r. ⌜ Put (line (map decimal (given h))) at (given out) (final out) r ⌝ }
 {
     let mut place = put_number(h[0] as usize, at, out);
     let mut k = 1;
@@ -212,7 +203,7 @@ fn put_words(h: &[u16], at: usize, out: &mut [u8]) -> usize
 fn put_gcd(h: &[u16], c: Power, at: usize, out: &mut [u8]) -> usize
     requires { ⌜ (0 < length (now h)) × (length (now h) ≤ maxWords) × (c .0 < maxWords) ⌝ }
     requires { ⌜ Room (gcdLines (now h) (c .0)) at (now out) ⌝ }
-    ensures { λ r. ⌜ Put (gcdLines (now (h .entry)) (c .0)) at (now (out .entry)) (now (out .exit)) r ⌝ }
+    ensures { λ r. ⌜ Put (gcdLines (given h) (c .0)) at (given out) (final out) r ⌝ }
 {
     let named = put_bytes(b"gcd", at, out);
     let w = lists::degree_of(h);
@@ -226,13 +217,13 @@ fn put_gcd(h: &[u16], c: Power, at: usize, out: &mut [u8]) -> usize
 fn put_lists(field: u8, album: &[u8], list: &mut [u16], at: usize, out: &mut [u8]) -> usize
     requires { ⌜ (Passed (modulus field) (now album)) × (length (now list) ≡ longest field) ⌝ }
     requires { ⌜ Room (listLines 0 (listsOf (now album))) at (now out) ⌝ }
-    ensures { λ r. ⌜ Put (listLines 0 (listsOf (now (album .entry)))) at (now (out .entry)) (now (out .exit)) r ⌝ }
+    ensures { λ r. ⌜ Put (listLines 0 (listsOf (given album))) at (given out) (final out) r ⌝ }
 {
-    let n = album[0] as usize;
+    let n = words::byte_at(album, 0);
     let mut place = at;
     let mut i = 0;
     while i < n {
-        let m = album_reader::read(field, album, i, list);
+        let m = album_reader::read_at(album, i, list);
         place = put_list(i, &list[..m], place, out);
         i += 1;
     }

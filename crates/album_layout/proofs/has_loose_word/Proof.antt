@@ -23,11 +23,8 @@ modulus-of-requires c κs = search needs
 cast-p : tie.Need-cast-p Inv-loop μ-loop
 cast-p c = search needs
 
-shared-slice-read-wide : tie.Need-shared-slice-read-wide Inv-loop μ-loop
-shared-slice-read-wide c = omega (arith, c .before .before .before .pre .some)
-
-wide-requires : tie.Need-wide-requires Inv-loop μ-loop
-wide-requires c κs = search needs
+byte-at-requires : tie.Need-byte-at-requires Inv-loop μ-loop
+byte-at-requires c κs = search needs
 
 mul-at : tie.Need-mul-at Inv-loop μ-loop
 mul-at c = search needs
@@ -36,13 +33,13 @@ add-at : tie.Need-add-at Inv-loop μ-loop
 add-at c = search needs
 
 loop-holds : tie.Need-loop-holds Inv-loop μ-loop
-loop-holds c = (search needs, left-start _ _ (c .before .before .before .before .pre) (omega arith))
+loop-holds c = (search needs, left-start _ _ (c .before .before .before .pre) (omega arith))
 
 add-loop : tie.Need-add-loop Inv-loop μ-loop
 add-loop c = search needs
 
-word-requires : tie.Need-word-requires Inv-loop μ-loop
-word-requires c κs = search needs
+word-at-requires : tie.Need-word-at-requires Inv-loop μ-loop
+word-at-requires c κs = search needs
 
 returns : tie.Need-returns Inv-loop μ-loop
 returns c = left-here _ _ (c .before .before .before .loop .inv .1) (omega arith) (omega arith)
@@ -67,13 +64,12 @@ has-loose-word-spec =
     μ-loop
     modulus-of-requires
     cast-p
-    shared-slice-read-wide
-    wide-requires
+    byte-at-requires
     mul-at
     add-at
     loop-holds
     add-loop
-    word-requires
+    word-at-requires
     returns
     add-at-2
     loop-less

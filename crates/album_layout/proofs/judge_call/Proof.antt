@@ -26,23 +26,20 @@ enum-told c = search needs
 laid : (c : tie.After-enum-told) → lowest (layoutRefusals (c .before .before .before .before .args .album .now)) ≡ Done
 laid c = sym (c .before .before .judge-layout .ensures) ∙ c .enum-told .given .1
 
-shared-slice-read-wide : tie.Need-shared-slice-read-wide
-shared-slice-read-wide c = omega (arith, layout-obeys _ (laid (c .before)) .some)
-
-wide-requires : tie.Need-wide-requires
-wide-requires c κs = search needs
+byte-at-requires : tie.Need-byte-at-requires
+byte-at-requires c κs = search needs
 
 returns-2 : tie.Need-returns-2
-returns-2 c = call-index _ _ _ (laid (c .before .before .before)) (omega arith)
+returns-2 c = call-index _ _ _ (laid (c .before .before)) (omega arith)
 
 has-loose-word-requires : tie.Need-has-loose-word-requires
-has-loose-word-requires c κs = layout-obeys _ (laid (c .before .before .before))
+has-loose-word-requires c κs = layout-obeys _ (laid (c .before .before))
 
 returns-3 : tie.Need-returns-3
-returns-3 c = call-loose _ _ _ (laid (c .before .before .before .before .before)) (omega arith) (sym (c .before .has-loose-word .ensures) ∙ c .if2 .taken)
+returns-3 c = call-loose _ _ _ (laid (c .before .before .before .before)) (omega arith) (sym (c .before .has-loose-word .ensures) ∙ c .if2 .taken)
 
 returns-4 : tie.Need-returns-4
-returns-4 c = call-done _ _ _ (laid (c .before .before .before .before .before)) (omega arith) (sym (c .before .has-loose-word .ensures) ∙ c .if2 .left)
+returns-4 c = call-done _ _ _ (laid (c .before .before .before .before)) (omega arith) (sym (c .before .has-loose-word .ensures) ∙ c .if2 .left)
 
 pub judge-call-spec : {M : Type 1} → statement M
 judge-call-spec =
@@ -52,8 +49,7 @@ judge-call-spec =
     enum-known-why
     returns
     enum-told
-    shared-slice-read-wide
-    wide-requires
+    byte-at-requires
     returns-2
     has-loose-word-requires
     returns-3

@@ -26,11 +26,8 @@ abbrev μ-loop : tie.MeasureT-loop
 returns : tie.Need-returns Inv-loop μ-loop
 returns c = layout-empty _ (c .if1 .taken)
 
-shared-slice-read-wide : tie.Need-shared-slice-read-wide Inv-loop μ-loop
-shared-slice-read-wide c = search needs
-
-wide-requires : tie.Need-wide-requires Inv-loop μ-loop
-wide-requires c κs = search needs
+byte-at-requires : tie.Need-byte-at-requires Inv-loop μ-loop
+byte-at-requires c κs = search needs
 
 returns-2 : tie.Need-returns-2 Inv-loop μ-loop
 returns-2 c = layout-none _ (omega arith)
@@ -46,7 +43,7 @@ add-at c = search needs
 
 returns-4 : tie.Need-returns-4 Inv-loop μ-loop
 returns-4 c =
-    let s = c .before .before .before .before .before .before .before .args .album .now in
+    let s = c .before .before .before .before .before .before .args .album .now in
     layout-size s (omega arith) (omega arith) (omega arith) (λ e. omega (arith, start-low s (count s)))
 
 loop-holds : tie.Need-loop-holds Inv-loop μ-loop
@@ -59,23 +56,20 @@ mul-e c = search needs
 add-e : tie.Need-add-e Inv-loop μ-loop
 add-e c = search needs
 
-add-word : tie.Need-add-word Inv-loop μ-loop
-add-word c = search needs
+add-word-at : tie.Need-add-word-at Inv-loop μ-loop
+add-word-at c = search needs
 
-word-requires : tie.Need-word-requires Inv-loop μ-loop
-word-requires c κs = search needs
+word-at-requires : tie.Need-word-at-requires Inv-loop μ-loop
+word-at-requires c κs = search needs
 
 returns-5 : tie.Need-returns-5 Inv-loop μ-loop
 returns-5 c =
-    let s = c .before .before .before .before .before .before .before .before .before .before .before .args .album .now in
+    let s = c .before .before .before .before .before .before .before .before .before .before .args .album .now in
     let k = c .before .before .before .loop .k in
     layout-place s (omega arith) (omega arith) (omega arith) k (omega arith) (λ e. omega arith)
 
-shared-slice-read-wide-2 : tie.Need-shared-slice-read-wide-2 Inv-loop μ-loop
-shared-slice-read-wide-2 c = search needs
-
-wide-requires-2 : tie.Need-wide-requires-2 Inv-loop μ-loop
-wide-requires-2 c κs = search needs
+byte-at-requires-2 : tie.Need-byte-at-requires-2 Inv-loop μ-loop
+byte-at-requires-2 c κs = search needs
 
 add-at-2 : tie.Need-add-at-2 Inv-loop μ-loop
 add-at-2 c = search needs
@@ -94,19 +88,19 @@ loop-less c = search needs
 
 loop-again : tie.Need-loop-again Inv-loop μ-loop
 loop-again c =
-    let s = c .before .before .before .before .before .before .before .before .before .before .before .before .before .args .album .now in
-    let k = c .before .before .before .before .before .loop .k in (
+    let s = c .before .before .before .before .before .before .before .before .before .before .before .args .album .now in
+    let k = c .before .before .before .before .loop .k in (
       omega arith,
       omega arith,
       omega arith,
       omega arith,
       rw (add-one k) (omega (arith, start-next s k)),
       omega arith,
-      rw add-one (agree-next s k (c .before .before .before .before .before .loop .inv .6) (omega arith)),
+      rw add-one (agree-next s k (c .before .before .before .before .loop .inv .6) (omega arith)),
     )
 
 abbrev album-of : tie.After-loop Inv-loop μ-loop → List ℕ
-album-of c = c .before .before .before .before .before .before .before .before .before .args .album .now
+album-of c = c .before .before .before .before .before .before .before .before .args .album .now
 
 -- after the loop every entry is passed
 closed : (c : tie.After-loop Inv-loop μ-loop)
@@ -119,12 +113,12 @@ closed c =
 
 returns-6 : tie.Need-returns-6 Inv-loop μ-loop
 returns-6 c =
-    let s = c .before .before .before .before .before .before .before .before .before .before .args .album .now in
+    let s = c .before .before .before .before .before .before .before .before .before .args .album .now in
     layout-size s (omega arith) (omega arith) (omega arith) (λ e. omega (arith, closed (c .before) .1))
 
 returns-7 : tie.Need-returns-7 Inv-loop μ-loop
 returns-7 c =
-    let s = c .before .before .before .before .before .before .before .before .before .before .args .album .now in
+    let s = c .before .before .before .before .before .before .before .before .before .args .album .now in
     layout-done s (omega arith) (omega arith) (omega arith) (omega (arith, closed (c .before) .1)) (closed (c .before) .0)
 
 pub judge-layout-spec : {M : Type 1} → statement M
@@ -134,8 +128,7 @@ judge-layout-spec =
     Inv-loop
     μ-loop
     returns
-    shared-slice-read-wide
-    wide-requires
+    byte-at-requires
     returns-2
     returns-3
     mul-at
@@ -144,11 +137,10 @@ judge-layout-spec =
     loop-holds
     mul-e
     add-e
-    add-word
-    word-requires
+    add-word-at
+    word-at-requires
     returns-5
-    shared-slice-read-wide-2
-    wide-requires-2
+    byte-at-requires-2
     add-at-2
     mul-at-2
     add-at-3

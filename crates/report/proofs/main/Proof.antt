@@ -27,21 +27,21 @@ read-full-requires c κs = search needs
 array-share-prefix-album : tie.Need-array-share-prefix-album
 array-share-prefix-album c = search needs
 
-slice-aggregate-write-report : tie.Need-slice-aggregate-write-report
-slice-aggregate-write-report c = search needs
+slice-aggregate-report-over : tie.Need-slice-aggregate-report-over
+slice-aggregate-report-over c = search needs
 
-slice-aggregate-write-report-2 : tie.Need-slice-aggregate-write-report-2
-slice-aggregate-write-report-2 c = search needs
+slice-aggregate-report-over-2 : tie.Need-slice-aggregate-report-over-2
+slice-aggregate-report-over-2 c = search needs
 
-write-report-requires : tie.Need-write-report-requires
-write-report-requires c κs = search needs
+report-over-requires : tie.Need-report-over-requires
+report-over-requires c κs = search needs
 
 enum-known-k : tie.Need-enum-known-k
 enum-known-k c = search needs
 
 -- the text is no longer than the array
-inside : (c : tie.After-k) → c .k .given .0 .0 ≤ length (c .before .before .before .write-report .last .1 .0)
-inside c = let ensures = c .before .before .before .write-report .ensures in text-inside _ _ (c .k .given .1) (ensures .0) (ensures .1)
+inside : (c : tie.After-k) → c .k .given .0 .0 ≤ length (c .before .before .before .report-over .last .1 .0)
+inside c = let ensures = c .before .before .before .report-over .ensures in text-inside _ _ (c .k .given .1) (ensures .0) (ensures .1)
 
 array-share-prefix-text : tie.Need-array-share-prefix-text
 array-share-prefix-text c = inside (c .before)
@@ -71,9 +71,9 @@ main-spec =
     slice-aggregate-read-full
     read-full-requires
     array-share-prefix-album
-    slice-aggregate-write-report
-    slice-aggregate-write-report-2
-    write-report-requires
+    slice-aggregate-report-over
+    slice-aggregate-report-over-2
+    report-over-requires
     enum-known-k
     array-share-prefix-text
     slice-aggregate-deliver

@@ -1,22 +1,21 @@
--- `album_reader::read_words` meets its contract. The loop's invariant: the words below k are read. The measure is the number of words left.
+-- `words::read_words` meets its contract. The loop's invariant: the words below k are read. The measure is the number of words left.
 -- Assumes nothing.
 use mathlib.Core.Path.{_≡_}
 use Prim.Native.Nat.{_≤_, _-_}
 use native.Mathlib.Omega.{arith}
 use lib.ListN.{length, length-set}
-use borrow.Author.Needs.{needs}
-use Rattle.lists.proofs.Filled.{Filled, fill-start, fill-step}
 use Rattle.lists.specs.Bytes.{wordsOf}
-use Rattle.lists.proofs.Padded.{padded-is}
-use Rattle.album_reader.proofs.Words.{length-words}
-use Rattle.album_reader.proofs.read_words.Statement.{statement}
-use Rattle.album_reader.proofs.read_words.Tie as tie
+use Rattle.lists.proofs.Filled.{Filled, fill-start, fill-step}
+use Rattle.words.proofs.Transfer.{into-is}
+use borrow.Author.Needs.{needs}
+use Rattle.words.proofs.read_words.Statement.{statement}
+use Rattle.words.proofs.read_words.Tie as tie
 
 abbrev Inv-loop : tie.InvT-loop
-Inv-loop bytes out₀ k₀ out k = (k ≤ length out) × (length out ≡ length out₀) × Filled out k (wordsOf bytes)
+Inv-loop bytes words₀ k₀ words k = (k ≤ length words) × (length words ≡ length words₀) × Filled words k (wordsOf bytes)
 
 abbrev μ-loop : tie.MeasureT-loop
-μ-loop bytes out₀ k₀ out k = length out₀ - k
+μ-loop bytes words₀ k₀ words k = length words₀ - k
 
 loop-holds : tie.Need-loop-holds Inv-loop μ-loop
 loop-holds c = (search needs, search needs, fill-start _ _)
@@ -24,11 +23,11 @@ loop-holds c = (search needs, search needs, fill-start _ _)
 word-or-zero-requires : tie.Need-word-or-zero-requires Inv-loop μ-loop
 word-or-zero-requires c κs = search needs
 
-mul-out : tie.Need-mul-out Inv-loop μ-loop
-mul-out c = search needs
+mul-words : tie.Need-mul-words Inv-loop μ-loop
+mul-words c = search needs
 
-slice-write-out : tie.Need-slice-write-out Inv-loop μ-loop
-slice-write-out c = search needs
+slice-write-words : tie.Need-slice-write-words Inv-loop μ-loop
+slice-write-words c = search needs
 
 add-k : tie.Need-add-k Inv-loop μ-loop
 add-k c = search needs
@@ -47,7 +46,7 @@ same-length : tie.Need-same-length Inv-loop μ-loop
 same-length c = search needs
 
 returns : tie.Need-returns Inv-loop μ-loop
-returns c = padded-is _ _ _ (omega (arith, length-words (c .before .before .before .before .args .bytes .now))) (omega arith) (λ k l. c .before .loop .inv .2 .at k (omega arith))
+returns c = into-is _ _ _ (omega arith) (record { at = λ k l. c .before .loop .inv .2 .at k (omega arith) })
 
 pub read-words-spec : {M : Type 1} → statement M
 read-words-spec =
@@ -57,8 +56,8 @@ read-words-spec =
     μ-loop
     loop-holds
     word-or-zero-requires
-    mul-out
-    slice-write-out
+    mul-words
+    slice-write-words
     add-k
     loop-less
     loop-again

@@ -1,10 +1,4 @@
--- What ties a loop over the lists to the definition of an album's GCD.
---     turn-zero, turn-nonzero             a turn at a zero list, and at another
---     fold-none, fold-more, fold-drop     the loop before its first turn, and one turn on
---     start-zero, start-rounds            from [0], a list that is not zero is ended, in no round
---     start-listed, turn-listed           each result so far is a list that no call refuses
--- Theorem:
---     fold-album     from [0] the loop ends with the GCD of an album whose lists are not all zero
+-- Laws of a loop over the lists: it ends with the GCD of the album, and each result so far is a list that no call refuses.
 -- Assumes nothing.
 use mathlib.Core.Path.{_≡_, refl, sym, _∙_, ap, ap₂}
 use mathlib.Core.List.{List, [], _∷_}
@@ -33,9 +27,9 @@ use Rattle.euclid_theory.proofs.Gcd as Two
 use Rattle.euclid_theory.proofs.Gcd.{room-right, fits-right, rounds-of-zero}
 use Rattle.euclid_theory.proofs.Powers.{significant-nil}
 use Rattle.euclid_theory.proofs.Defined.{head-gcd}
 use Rattle.album_theory.specs.Albums.{Result, ended, joined, gcdFrom, albumGcd}
 use Rattle.album_theory.proofs.Albums.{from-none, from-zero, from-nonzero, album-zero, album-nonzero}
-use Rattle.album_theory.specs.Folds.{zeroStart, turn, foldGcd}
+use Rattle.album_gcd.specs.Internal.{zeroStart, withList, foldGcd}
 
 significant-start : significant (0 ∷ []) ≡ 0
 unfolding significant significantIn
@@ -45,25 +39,25 @@ module _ (F : PrimeField) where
   open CommRing (F .series .ring) using (mul as _*ˢ_)
 
   infixl 70 _*ˢ_
-  pub turn-zero : (result : Result) (c : List ℕ) → significant c ≡ 0 → turn F result c ≡ result
-  unfolding turn
-  turn-zero result c e = rw (eq-eqb (significant c) 0 e)
+  pub with-zero : (result : Result) (c : List ℕ) → significant c ≡ 0 → withList F result c ≡ result
+  unfolding withList
+  with-zero result c e = rw (eq-eqb (significant c) 0 e)
 
-  pub turn-nonzero : (result : Result) (c : List ℕ) → ¬ (significant c ≡ 0) → turn F result c ≡ joined F result c
-  unfolding turn
-  turn-nonzero result c h = rw (ne-eqb (significant c) 0 h)
+  pub with-nonzero : (result : Result) (c : List ℕ) → ¬ (significant c ≡ 0) → withList F result c ≡ joined F result c
+  unfolding withList
+  with-nonzero result c h = rw (ne-eqb (significant c) 0 h)
 
   pub fold-none : (result : Result) → foldGcd F result [] ≡ result
   unfolding foldGcd
   fold-none result = refl
 
-  pub fold-more : (result : Result) (c : List ℕ) (lists : List (List ℕ)) → foldGcd F result (c ∷ lists) ≡ foldGcd F (turn F result c) lists
+  pub fold-more : (result : Result) (c : List ℕ) (lists : List (List ℕ)) → foldGcd F result (c ∷ lists) ≡ foldGcd F (withList F result c) lists
   unfolding foldGcd
   fold-more result c lists = refl
 
-  -- a loop's turn at list i
+  -- a loop at list i
   pub fold-drop : (result : Result) (lists : List (List ℕ)) (i : ℕ) → i < length lists
-      → foldGcd F result (drop i lists) ≡ foldGcd F (turn F result (getD lists i [])) (drop (suc i) lists)
+      → foldGcd F result (drop i lists) ≡ foldGcd F (withList F result (getD lists i [])) (drop (suc i) lists)
   fold-drop result lists i l = ap (foldGcd F result) (drop-cons lists i [] l) ∙ fold-more result _ _
 
   -- the definition's fold
@@ -76,10 +70,10 @@ module _ (F : PrimeField) where
           → Dec (significant c ≡ 0) → gcdFrom F result (c ∷ lists) ≡ foldGcd F result (c ∷ lists)
       go ih ih′ (yes e) =
           from-zero F result c lists e ∙ ih
-          ∙ sym (fold-more result c lists ∙ ap (λ r. foldGcd F r lists) (turn-zero result c e))
+          ∙ sym (fold-more result c lists ∙ ap (λ r. foldGcd F r lists) (with-zero result c e))
       go ih ih′ (no e) =
           from-nonzero F result c lists e ∙ ih′
-          ∙ sym (fold-more result c lists ∙ ap (λ r. foldGcd F r lists) (turn-nonzero result c e))
+          ∙ sym (fold-more result c lists ∙ ap (λ r. foldGcd F r lists) (with-nonzero result c e))
 
   coefficients-start : Coefficients F (0 ∷ [])
   coefficients-start = record { short = let l = positive F in omega arith; below = below }
@@ -130,10 +124,10 @@ module _ (F : PrimeField) where
       go ih (yes e) zero l = absurd (omega arith)
       go ih (yes e) (suc i) l =
           album-zero F c lists e ∙ ih i l
-          ∙ sym (fold-more zeroStart c lists ∙ ap (λ r. foldGcd F r lists) (turn-zero zeroStart c e))
+          ∙ sym (fold-more zeroStart c lists ∙ ap (λ r. foldGcd F r lists) (with-zero zeroStart c e))
       go ih (no e) i l =
           album-nonzero F c lists e ∙ fold-from (record { list = ended F c; rounds = 0 }) lists
-          ∙ sym (fold-more zeroStart c lists ∙ ap (λ r. foldGcd F r lists) (turn-nonzero zeroStart c e ∙ first))
+          ∙ sym (fold-more zeroStart c lists ∙ ap (λ r. foldGcd F r lists) (with-nonzero zeroStart c e ∙ first))
         where
           none : 0 + roundsOf F (0 ∷ []) c ≡ 0
           none = let z = start-rounds c in omega arith
@@ -145,20 +139,20 @@ module _ (F : PrimeField) where
   pub start-listed : (most : ℕ) → 0 < most → IsList (F .p) most (0 ∷ [])
   start-listed most l = record { some = omega arith; short = omega arith; words = coefficients-start .below }
 
-  pub turn-listed : (most : ℕ) (result : Result) (c : List ℕ) → most ≤ F .p → IsList (F .p) most (result .list) → IsList (F .p) most c
-      → IsList (F .p) most (turn F result c .list)
-  turn-listed most result c l hr hc = go (ℕ-discrete (significant c) 0)
+  pub with-listed : (most : ℕ) (result : Result) (c : List ℕ) → most ≤ F .p → IsList (F .p) most (result .list) → IsList (F .p) most c
+      → IsList (F .p) most (withList F result c .list)
+  with-listed most result c l hr hc = go (ℕ-discrete (significant c) 0)
     where
       short : length (gcdOf F (result .list) c) ≤ most
       short =
-          let size = size-le (F .series) (scalarField F) (room (result .list) c) (euclidOf F (result .list) c .last) in
-          let first = hr .short in
-          let second = hc .short in
+          let s = size-le (F .series) (scalarField F) (room (result .list) c) (euclidOf F (result .list) c .last) in
+          let a = hr .short in
+          let b = hc .short in
           unfold gcdOf room in rw (length-unscaled F _ _) (omega arith)
 
-      go : Dec (significant c ≡ 0) → IsList (F .p) most (turn F result c .list)
-      go (yes e) = rw (turn-zero result c e) hr
+      go : Dec (significant c ≡ 0) → IsList (F .p) most (withList F result c .list)
+      go (yes e) = rw (with-zero result c e) hr
       go (no e) =
-          let head = head-gcd F (result .list) c (coefficients-listed F l hr) (coefficients-listed F l hc) (omega arith) in
-          let words = head .words in
-          rw (turn-nonzero result c e) (record { some = omega arith; short = short; words = head .coefficients .below })
+          let h = head-gcd F (result .list) c (coefficients-listed F l hr) (coefficients-listed F l hc) (omega arith) in
+          let w = h .words in
+          rw (with-nonzero result c e) (record { some = omega arith; short = short; words = h .coefficients .below })

@@ -1,0 +1,83 @@
+// Words as bytes: two bytes to a word, low byte first. Each function is total: past the end of some bytes stand zeros.
+ghost use mathlib.Core.Path.{_≡_};
+ghost use Prim.Native.Nat.{_/_, _%_, _<_};
+ghost use lib.ListN.{length, getD};
+ghost use Rattle.refusal.specs.Contract.{given, final};
+ghost use Rattle.lists.specs.Bytes.{byteValues, wordAt, wordsOf};
+ghost use Rattle.words.specs.Transfer.{wordsInto, bytesInto};
+
+// Byte i, as a number.
+pub fn byte_at(bytes: &[u8], i: usize) -> usize
+    ensures { λ r. ⌜ (r ≡ getD (given bytes) i 0) × (r < byteValues) ⌝ }
+{
+    if i < bytes.len() {
+        bytes[i] as usize
+    } else {
+        0
+    }
+}
+
+// The word at a place, as a number.
+pub fn word_at(bytes: &[u8], at: usize) -> usize
+    ensures { λ r. ⌜ (r ≡ wordAt (given bytes) at) × (r < 65536) ⌝ }
+{
+    if at < bytes.len() {
+        byte_at(bytes, at) + 256 * byte_at(bytes, at + 1)
+    } else {
+        0
+    }
+}
+
+// The low byte of a word.
+pub fn low(word: u16) -> u8
+    ensures { λ r. ⌜ r ≡ word % 256 ⌝ }
+{
+    (word % 256) as u8
+}
+
+// The high byte of a word.
+pub fn high(word: u16) -> u8
+    ensures { λ r. ⌜ r ≡ word / 256 ⌝ }
+{
+    (word / 256) as u8
+}
+
+// Word k of some bytes; 0 where they have no more whole words.
+fn word_or_zero(bytes: &[u8], k: usize) -> u16
+    ensures { λ r. ⌜ r ≡ getD (wordsOf (given bytes)) k 0 ⌝ }
+{
+    if k < bytes.len() / 2 {
+        word_at(bytes, 2 * k) as u16
+    } else {
+        0
+    }
+}
+
+// The words of some bytes, as many as the slice takes, zeros after them.
+pub fn read_words(bytes: &[u8], words: &mut [u16])
+    ensures { λ _. ⌜ final words ≡ wordsInto (length (given words)) (given bytes) ⌝ }
+{
+    let mut k = 0;
+    while k < words.len() {
+        words[k] = word_or_zero(bytes, k);
+        k += 1;
+    }
+}
+
+// The bytes of some words, in a slice of exactly so many bytes; nothing in another.
+pub fn write_words(words: &[u16], bytes: &mut [u8])
+    ensures { λ _. ⌜ final bytes ≡ bytesInto (given words) (given bytes) ⌝ }
+{
+    if bytes.len() % 2 == 1 {
+        return;
+    }
+    if bytes.len() / 2 != words.len() {
+        return;
+    }
+    let mut k = 0;
+    while k < words.len() {
+        bytes[2 * k] = low(words[k]);
+        bytes[2 * k + 1] = high(words[k]);
+        k += 1;
+    }
+}

@@ -11,13 +11,11 @@ use lib.ListN.{length, getD, take, drop}
 use borrow.Author.Tests.{lt-ltb, le-ltb}
 use Rattle.algebra.specs.PrimeField.{PrimeField}
 use Rattle.refusal.specs.Limits.{maxLists}
-use Rattle.refusal.specs.Refusal.{written}
 use Rattle.lists.specs.Bytes.{Bytes, bytesOf}
 use Rattle.lists.proofs.Bytes.{length-bytesOf}
 use Rattle.lists.specs.Degrees.{naiveDegree}
 use Rattle.lists.specs.Refused.{hasLoose, anyOf}
 use Rattle.album_layout.specs.Layout.{count, degreeAt, startAt, wrongCount, brokenLayout, listsOf}
-use Rattle.album_layout.specs.Calls.{bodyOf}
 use Rattle.album_layout.proofs.Reading.{album-is-read}
 use Rattle.album_layout.proofs.Whole.{body-whole}
 use Rattle.album_layout.proofs.Places.{length-list, length-lists, list-at, obeys}
@@ -54,15 +52,13 @@ module _ (F : PrimeField) where
     size i l = length-bytesOf (getD (listsOf s) i []) ∙ ap (λ n. 2 * n) (ap length (list-at s i l) ∙ length-list s i)
 
     pub contained : anyOf (hasLoose (F .p)) (listsOf s) ≡ false → Contained F s (listsOf s)
-    unfolding bodyOf
     contained tight =
-        let passes = album-is-read s counted laid (F .p) tight in
         record {
           number = length-lists s;
-          passes = passes;
+          passes = album-is-read s counted laid (F .p) tight;
           words = λ i l. sym (list-at s i l);
           degree = degree-of;
-          bytes = λ i l. ap (λ o. written o (take (2 * (degreeAt s i + 1)) (drop (startAt s i) s)) []) (passes i l) ∙ part i l;
+          bytes = part;
           records =
               λ i l. (
                 ap (λ e. e .degree) (record-is i l) ∙ degree-of i l,

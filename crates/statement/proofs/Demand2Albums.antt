@@ -5,30 +5,30 @@
 use mathlib.Core.Path.{_≡_, refl, sym, _∙_, ap, ap₂, subst}
 use mathlib.Core.Bool.{false, _||_}
 use mathlib.Core.List.{List, [], _∷_}
-use Prim.Native.Nat.{ℕ, zero, suc, _<_}
+use Prim.Native.Nat.{ℕ, zero, suc, _+_, _*_, _<_}
 use native.Mathlib.Decide.{decLt}
 use native.Mathlib.Omega.{arith}
 use lib.Dec.{leb}
-use lib.ListN.{length, getD, List·getD-eq-default}
+use lib.ListN.{length, getD, take, drop, List·getD-eq-default}
 use borrow.Author.Tests.{leb-false, eq-eqb}
 use Rattle.refusal.specs.Limits.{maxLists, maxWords}
 use Rattle.refusal.specs.Refusal.{Reply, reply, written}
 use Rattle.refusal.specs.Lowest.{lowest}
 use Rattle.refusal.specs.declared.Outcome.the-variants.{Done}
 use Rattle.refusal.proofs.First.{first-is, first-then, refuse-done, or-else-done}
-use Rattle.field.specs.Fields.{p, F65521, fieldAt}
+use Rattle.field.specs.Fields.{p, F65521, fieldAt, longest}
 use Rattle.field.proofs.FieldsLaws.{modulus-high, modulus-some}
 use Rattle.lists.specs.Bytes.{Bytes, bytesOf}
 use Rattle.lists.specs.Refused.{hasLoose, anyOf}
 use Rattle.lists.proofs.Search.{tight}
 use Rattle.lists.specs.Padded.{padded}
-use Rattle.album_layout.specs.Layout.{count, degreeAt, entryWords, wrongCount, brokenLayout, listAt, listsOf}
+use Rattle.album_layout.specs.Layout.{count, degreeAt, startAt, entryWords, wrongCount, brokenLayout, listAt, listsOf}
 use Rattle.album_layout.specs.Calls.{albumRefusals, checkRefusals, bodyOf}
 use Rattle.album_layout.specs.Internal.{Passed}
 use Rattle.album_layout.proofs.Places.{length-lists}
 use Rattle.album_layout.specs.Written.{Writable}
 use Rattle.album_layout.proofs.Passed.{passed-obeys, passed-each}
-use Rattle.album_reader.specs.Calls.{readRows}
+use Rattle.album_reader.specs.Calls.{readRows, readAnswer, readWritten}
 use Rattle.album_reader.proofs.Judged.{read-done}
 use Rattle.album_contents.specs.Calls.{recordsFrom, contentsRefusals, filled}
 use Rattle.album_contents.specs.declared.Entry.{Entry}
@@ -121,9 +121,8 @@ held-fine s lists h =
     )
 
 pub read-so : (s : List ℕ) (i : ℕ) (old : List ℕ) {out : List ℕ} {r : Reply} → Bytes s
-    → r ≡ reply (lowest (readRows p maxWords s i old)) (degreeAt s i ∷ [])
-    → out ≡ written (lowest (readRows p maxWords s i old)) (padded maxWords (listAt s i)) old → ReadSo F65521 s i old out r
-unfolding fieldAt
+    → r ≡ readAnswer 0 s i old → out ≡ readWritten 0 s i old → ReadSo F65521 s i old out r
+unfolding fieldAt longest
 read-so s i old {out} {r} bytes e w =
     record {
       reads =
@@ -139,11 +138,14 @@ read-so s i old {out} {r} bytes e w =
           (listsOf s, holds s bytes (f .0), handed s bytes (f .0) i old e w d (f .1));
     }
 
-pub body-so : (s : List ℕ) (i : ℕ) {part : List ℕ} → part ≡ bodyOf p s i → BodySo F65521 s i part
-unfolding fieldAt
+pub body-so : (s : List ℕ) (i : ℕ) {part : List ℕ} → part ≡ bodyOf 0 s i → BodySo F65521 s i part
+unfolding fieldAt bodyOf
 body-so s i e lists h l =
     let k = held-fine s lists h in
-    e ∙ contained s (k .1) (k .2) .bytes i (omega (arith, length-lists s, ap length (k .0))) ∙ ap (λ x. bytesOf (getD x i [])) (k .0)
+    let inside : i < count s = omega (arith, length-lists s, ap length (k .0)) in
+    let c = contained s (k .1) (k .2) in
+    e ∙ ap (λ o. written o (take (2 * (degreeAt s i + 1)) (drop (startAt s i) s)) []) (c .passes i inside) ∙ c .bytes i inside
+    ∙ ap (λ x. bytesOf (getD x i [])) (k .0)
 
 length-records : (s : List ℕ) (k n : ℕ) → length (recordsFrom s k n) ≡ n
 unfolding recordsFrom

@@ -13,9 +13,8 @@ use Prim.Native.Nat.{ℕ}
 use native.Mathlib.Omega.{arith}
 use lib.ListN.{length, set}
 use borrow.Author.Tests.{eq-eqb, ne-eqb}
-use Rattle.refusal.specs.Refusal.{outcomeNumber, Reply, reply, outcomeReply, written}
+use Rattle.refusal.specs.Refusal.{outcomeNumber, Reply, outcomeReply}
 use Rattle.refusal.specs.declared.Outcome.{Outcome}
-use Rattle.refusal.specs.declared.Outcome.the-variants.{Done, Refused}
 use Rattle.refusal.proofs.Answers.{number-is}
 use Rattle.test_calls.specs.Lent.{fitted}
 

@@ -1,10 +1,6 @@
 -- `test_calls::test_cofactors` meets its contract: what the call ensures, with the number in place of the answer.
 -- Assumes nothing.
 use borrow.Author.Needs.{needs}
-use Rattle.refusal.specs.Lowest.{lowest}
-use Rattle.field.specs.Fields.{F65521, p}
-use Rattle.list_gcd.specs.Calls.{gcdValues}
-use Rattle.list_cofactors.specs.Calls.{cofactorRefusals}
 use Rattle.test_calls.proofs.Answers.{told}
 use Rattle.test_calls.proofs.test_cofactors.Statement.{statement}
 use Rattle.test_calls.proofs.test_cofactors.Tie as tie

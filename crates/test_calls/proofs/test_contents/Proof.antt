@@ -2,7 +2,7 @@
 -- `contents` for good, at its own lifetime and name: what the function has on entry is what `contents` asks (`goes`), and what that says of
 -- the last records is what is had of them at exit (`exits`).
 -- Assumes nothing.
-use mathlib.Core.Path.{_≡_, refl, sym, _∙_, ap}
+use mathlib.Core.Path.{_≡_, refl}
 use mathlib.Core.List.{[], _∷_, List}
 use Prim.Native.Nat.{ℕ, _<_, _^_}
 use lib.ListN.{length}

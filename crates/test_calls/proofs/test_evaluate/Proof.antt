@@ -1,11 +1,7 @@
 -- `test_calls::test_evaluate` meets its contract: what the call ensures, with the number in place of the answer.
 -- Assumes nothing.
 use borrow.Author.Needs.{needs}
-use mathlib.Core.List.{[], _∷_}
-use Rattle.refusal.specs.Lowest.{lowest}
-use Rattle.field.specs.Fields.{F65521, p}
 use Rattle.lists.specs.Operations.{evaluate}
-use Rattle.list_value.specs.Calls.{evaluateRefusals}
 use Rattle.test_calls.proofs.Answers.{told}
 use Rattle.test_calls.proofs.test_evaluate.Statement.{statement}
 use Rattle.test_calls.proofs.test_evaluate.Tie as tie

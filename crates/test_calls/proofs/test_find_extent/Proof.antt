@@ -1,9 +1,6 @@
 -- `test_calls::test_find_extent` meets its contract: what the call ensures, with the number in place of the answer.
 -- Assumes nothing.
 use borrow.Author.Needs.{needs}
-use Rattle.refusal.specs.Lowest.{lowest}
-use Rattle.field.specs.Fields.{p}
-use Rattle.list_extent.specs.Calls.{extentRefusals, extentValues}
 use Rattle.test_calls.proofs.Answers.{told}
 use Rattle.test_calls.proofs.test_find_extent.Statement.{statement}
 use Rattle.test_calls.proofs.test_find_extent.Tie as tie

@@ -1,9 +1,6 @@
 -- `test_calls::test_gcd` meets its contract: what the call ensures, with the number in place of the answer.
 -- Assumes nothing.
 use borrow.Author.Needs.{needs}
-use Rattle.refusal.specs.Lowest.{lowest}
-use Rattle.field.specs.Fields.{F65521, p}
-use Rattle.list_gcd.specs.Calls.{gcdRefusals, gcdValues}
 use Rattle.test_calls.proofs.Answers.{told}
 use Rattle.test_calls.proofs.test_gcd.Statement.{statement}
 use Rattle.test_calls.proofs.test_gcd.Tie as tie

@@ -1,10 +1,6 @@
 -- `test_calls::test_gcd_of_album` meets its contract: what the call ensures, with the number in place of the answer.
 -- Assumes nothing.
 use borrow.Author.Needs.{needs}
-use Rattle.refusal.specs.Lowest.{lowest}
-use Rattle.field.specs.Fields.{F65521, p}
-use Rattle.album_layout.specs.Layout.{listsOf}
-use Rattle.album_gcd.specs.Calls.{albumGcdRefusals, albumGcdValues}
 use Rattle.test_calls.proofs.Answers.{told}
 use Rattle.test_calls.proofs.test_gcd_of_album.Statement.{statement}
 use Rattle.test_calls.proofs.test_gcd_of_album.Tie as tie

@@ -1,11 +1,6 @@
 -- `test_calls::test_read_list` meets its contract: what the call ensures, with the number in place of the answer.
 -- Assumes nothing.
 use borrow.Author.Needs.{needs}
-use mathlib.Core.List.{[], _∷_}
-use Rattle.refusal.specs.Lowest.{lowest}
-use Rattle.field.specs.Fields.{p}
-use Rattle.album_layout.specs.Layout.{degreeAt}
-use Rattle.album_reader.specs.Calls.{readRefusals}
 use Rattle.test_calls.proofs.Answers.{told}
 use Rattle.test_calls.proofs.test_read_list.Statement.{statement}
 use Rattle.test_calls.proofs.test_read_list.Tie as tie

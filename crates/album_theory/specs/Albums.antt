@@ -7,7 +7,6 @@
 -- Theorems, each in the module of proofs/ that is named:
 --     album-is-greatest     (1-t)^c·h is the greatest common divisor of the lists' polynomials (Greatest)
 --     album-is-the          h and the rounds are those of the definition list by list (Defined)
---     fold-album            a loop over the lists from [0] ends with it (Folds)
 -- Assumes nothing.
 use mathlib.Core.Bool.{cond}
 use mathlib.Core.List.{List, [], _∷_}

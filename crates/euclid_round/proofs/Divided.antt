@@ -20,7 +20,7 @@ use Rattle.lists.proofs.Extents.{significant-le, extent-largest}
 use Rattle.word_division.specs.Reduction.{reduced, digits, reduceFits}
 use Rattle.word_division.proofs.Loops.{reduce-fits}
 use Rattle.euclid_round.specs.Round.{lastWord, roundSteps, roundFits, remaining, quotientWords}
-use Rattle.euclid_round.proofs.Turns.{round-ready}
+use Rattle.euclid_round.proofs.Rounds.{round-ready}
 
 unfit : (p : ℕ) (x y q : List ℕ) → (0 < significant y → lastWord y < p → roundSteps x y ≤ length q → ⊥) → roundFits p x y q ≡ false
 unfolding roundFits

@@ -1,4 +1,5 @@
-pub mod Turns
+pub mod Significant
+pub mod Rounds
 pub mod Partway
 pub mod Written
 pub mod Divided

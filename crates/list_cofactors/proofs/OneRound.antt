@@ -19,7 +19,7 @@ use Rattle.word_division.specs.Reduction.{lessProduct}
 use Rattle.word_division.proofs.Cut.{lessProduct-cut}
 use Rattle.euclid_round.specs.Round.{roundSteps, roundFits, remaining, quotientWords}
 use Rattle.euclid_round.proofs.Parts.{Rounded}
-use Rattle.euclid_round.proofs.Turns.{round-fits, length-remaining, length-quotientWords, roundSteps-le}
+use Rattle.euclid_round.proofs.Rounds.{round-fits, length-remaining, length-quotientWords, roundSteps-le}
 use Rattle.list_gcd.specs.Internal.{Buffer}
 use Rattle.list_cofactors.specs.Internal.{partX, partS, partT, reach, Cut, lessQuotient, remainingRow}
 use Rattle.list_cofactors.proofs.Parts.{rest, rest-is, put-back}

@@ -1,25 +1,23 @@
--- What is written from the row of the last x, and what a call answers.
+-- The rounds on rows are those of the definition, what is written from the last row is what the definitions name, and what a call answers.
+-- Theorems:
+--     found                  the row at the end of the rounds holds the last x of f and g, with its cofactors
+--     results                what is written from it is h, a and b
+--     cofactors-answered     what a call answers and writes that refuses nothing
 -- Assumes nothing.
-use mathlib.Core.Path.{_≡_, sym, _∙_, ap, ap₂, refl, subst}
-use mathlib.Core.Bool.{cond}
-use mathlib.Core.List.{List, _++_, [], _∷_}
+use mathlib.Core.Path.{_≡_, sym, _∙_, ap}
+use mathlib.Core.List.{List, [], _∷_}
 use Prim.Native.Nat.{ℕ, _+_, _-_, _≤_, _<_}
 use native.Mathlib.Omega.{arith}
-use lib.ListN.{getD, length, take, drop}
-use lib.Seq.{take-at, getD-take, length-take-le}
+use lib.ListN.{length}
 use Rattle.algebra.specs.Ring.{CommRing}
 use Rattle.algebra.specs.Series.{C}
 use Rattle.algebra.proofs.Series.{coeff-C-mul}
 use Rattle.algebra.specs.Euclid.{euclid}
-use Rattle.algebra.specs.PrimeField.{PrimeField, scalarField, residue, scalars, value, inverse}
-use Rattle.lists.specs.Degrees.{significant, naiveDegree}
-use Rattle.lists.proofs.Extents.{significant-le}
+use Rattle.algebra.specs.PrimeField.{PrimeField, scalarField, scalars, value, inverse}
+use Rattle.lists.specs.Degrees.{naiveDegree}
 use Rattle.lists.specs.Lists.{scaled, binomial, unscaled}
 use Rattle.lists.specs.Words.{seriesOf, Low}
 use Rattle.lists.proofs.Words.{coeff-seriesOf}
-use Rattle.field_tables.specs.Factorials.{Tables}
-use Rattle.euclid_round.specs.Round.{multiplied, writeFits, writtenWords, writtenList}
-use Rattle.euclid_round.proofs.Written.{write-is}
 use Rattle.algebra.specs.Monic.{topInverse}
 use Rattle.refusal.specs.Refusal.{reply, written}
 use Rattle.refusal.specs.declared.Outcome.{Outcome}
@@ -28,31 +26,19 @@ use Rattle.refusal.proofs.Answers.{result}
 use Rattle.lists.specs.declared.NaiveDegree.{NaiveDegree}
 use Rattle.lists.specs.declared.Power.{Power}
 use Rattle.lists.proofs.Tabulate.{tabulate-ext}
-use Rattle.lists.proofs.Unscaled.{length-unscaled}
 use Rattle.euclid_theory.specs.Gcd.{euclidOf, gcdOf, commonPower, cofactorA, cofactorB}
 use Rattle.lists.specs.Padded.{padded}
 use Rattle.euclid_theory.proofs.Cofactors.{cofactors-are, cofactors-only}
 use Rattle.euclid_theory.proofs.Loops.{rounds-room, topInverse-room}
-use Rattle.lists.proofs.Padded.{padded-is}
-use Rattle.field.specs.Field.{inverseOrZero}
 use Rattle.list_gcd.specs.declared.Gcd.{Gcd}
 use Rattle.list_gcd.specs.declared.Rounds.{Rounds}
 use Rattle.list_gcd.specs.declared.Gcd.the-variants as G
 use Rattle.list_gcd.specs.Calls.{gcdReply, gcdValues, Greatest}
 use Rattle.list_gcd.specs.Internal.{Ready, euclidOn, gcdDone}
-use Rattle.list_gcd.proofs.Finish.{gcd-done, ready-euclid, ready-count, ready-last, last-inverse, gcd-written, answered}
+use Rattle.list_gcd.proofs.Finish.{gcd-done, ready-euclid, ready-count, ready-last, answered}
 use Rattle.list_cofactors.specs.Calls.{CofactorsSo, Cofactors}
 use Rattle.list_cofactors.specs.Internal.{Slices, partX, partS, partT, Started, RowEnds, timesList, lastInverse, overLast, LastRowOf, NonzeroRow, Wrote, Results}
-use Rattle.list_cofactors.proofs.Parts.{rest, rest-is}
 use Rattle.list_cofactors.proofs.Slices.{few-a, few-b}
-
--- a list that fills its slice
-padded-whole : (c : List ℕ) (n : ℕ) → length c ≡ n → padded n c ≡ c
-padded-whole c n e = sym (padded-is n c c (omega arith) e (λ k l. refl))
-
--- the front of a slice, after its rest was lent
-pub front-kept : (n : ℕ) (row rest : List ℕ) → n ≤ length row → take n (take n row ++ rest) ≡ take n row
-front-kept n row rest l = take-at (take n row) rest n (length-take-le n row l)
 
 module _ (F : PrimeField) where
   open CommRing (scalars F) using (Carrier as K, mul as _⊗_)
@@ -61,7 +47,7 @@ module _ (F : PrimeField) where
   infixl 70 _⊗_
   infixl 70 _*ˢ_
   pub nonzero-row : {n : ℕ} {f g row : List ℕ} {rounds : ℕ} → LastRowOf F n f g row rounds → NonzeroRow F n row
-  nonzero-row e = record { size = e .size; buffer = e .gcd .buffer; some = let l = e .gcd .size in omega arith }
+  nonzero-row e = record { size = e .size; buffer = e .gcd .buffer; some = let size = e .gcd .size in omega arith }
 
   -- the rounds on rows are those of the definition
   pub found : (n : ℕ) (f g : List ℕ) {u v row : List ℕ} {rounds : ℕ} → Ready F n f g → Started F n n u (scaled F g)
@@ -118,64 +104,14 @@ module _ (F : PrimeField) where
       }
     where
       degree : w .0 ≡ naiveDegree (gcdOf F f g)
-      degree = let a = o .degree in let b = e .gcd .size in omega arith
+      degree = let words = o .degree in let size = e .gcd .size in omega arith
 
   pub slices-short : (n : ℕ) → 1 < n → {f g h a b : List ℕ} → Ready F n f g → Slices n f g h a b → (length h ≡ n) × (length a ≤ n) × (length b ≤ n)
   slices-short n more {f} {g} r sl =
-      let la = few-a f g n (r .short-g) more in
-      let lb = few-b f g n (r .short-f) more in
+      let most-a = few-a f g n (r .short-g) more in
+      let most-b = few-b f g n (r .short-f) more in
       (sl .size-h, omega (arith, sl .size-a), omega (arith, sl .size-b))
 
-  -- a cofactor on words; lent is its form as it stands in the row
-  pub pair-written : {p : ℕ} → F .p ≡ p → (n : ℕ) → n ≤ F .p → (whole part : List ℕ) → Tables F n whole part
-      → (words m : ℕ) (form out : List ℕ) {lent form′ out′ : List ℕ} → lent ≡ form → length form ≡ n → words ≡ length out → length out ≤ n
-      → (form′ ≡ cond (writeFits words whole part lent out) (multiplied p m lent) lent)
-      × (out′ ≡ cond (writeFits words whole part lent out) (writtenWords p whole part words m lent out) out)
-      → out′ ≡ timesList F (length out) (residue F m) form
-  unfolding timesList writtenList
-  pair-written at n short whole part t words m form out {lent} ef lf ew few q =
-      let e = ap length ef in
-      write-is F at n short whole part t words m lent out (omega arith) (omega arith) (omega arith) q .1
-      ∙ ap₂ (λ k l. writtenList F k m l out) ew ef ∙ padded-whole _ (length out) (length-unscaled F (length out) _)
-
-  -- h, and the inverse for all three
-  module _ (n : ℕ) (row : List ℕ) (l : NonzeroRow F n row) where
-    last-at : getD row (significant (partX n row) - 1) 0 ≡ getD (partX n row) (significant (partX n row) - 1) 0
-    last-at =
-        let h = significant-le (partX n row) in
-        let e = l .buffer .size in
-        let s = l .some in
-        sym (getD-take n row (significant (partX n row) - 1) 0 (omega arith))
-
-    module _ (k m : ℕ) (ek : k ≡ significant (partX n row)) (em : m ≡ inverseOrZero F (getD row (k - 1) 0)) where
-      inverse-is : m ≡ inverseOrZero F (getD (partX n row) (k - 1) 0)
-      inverse-is =
-          em ∙ ap (λ i. inverseOrZero F (getD row (i - 1) 0)) ek ∙ ap (inverseOrZero F) last-at
-          ∙ sym (ap (λ i. inverseOrZero F (getD (partX n row) (i - 1) 0)) ek)
-
-      residue-is : residue F m ≡ lastInverse F n (partX n row)
-      residue-is =
-          ap (residue F) (inverse-is ∙ ap (λ i. inverseOrZero F (getD (partX n row) (i - 1) 0)) ek)
-          ∙ last-inverse F n (partX n row) (l .buffer) (l .some)
-
-      pub row-written : {p : ℕ} → F .p ≡ p → n ≤ F .p → (whole part : List ℕ) → Tables F n whole part
-          → (h a b : List ℕ) (w : ℕ) {lent form′ h′ a′ b′ : List ℕ} → length h ≡ n → lent ≡ partX n row → w + 1 ≡ k
-          → (form′ ≡ cond (writeFits k whole part lent h) (multiplied p m lent) lent)
-          × (h′ ≡ cond (writeFits k whole part lent h) (writtenWords p whole part k m lent h) h)
-          → a′ ≡ timesList F (length a) (residue F m) (drop n (rest n row))
-          → b′ ≡ timesList F (length b) (residue F m) (take n (rest n row)) → Wrote F n row a b w h′ a′ b′
-      unfolding overLast
-      row-written {p} at short whole part t h a b w {lent} {form′} {h′} eh ef ew qh qa qb =
-          record {
-            degree = ew ∙ ek;
-            gcd =
-                gcd-written F n (partX n row) (l .buffer) (l .some) at short whole part t h k m eh ek inverse-is
-                (subst (λ x. (form′ ≡ cond (writeFits k whole part x h) (multiplied p m x) x) × (h′ ≡ cond (writeFits k whole part x h) (writtenWords p whole part k m x h) h)) ef qh);
-            cofactor-a = qa ∙ ap₂ (λ c l. timesList F (length a) c (drop n l)) residue-is (rest-is n row);
-            cofactor-b = qb ∙ ap₂ (λ c l. timesList F (length b) c (take n l)) residue-is (rest-is n row);
-          }
-
-  -- what a call knows that refuses nothing
   -- what a call answers, and what it leaves in the slices
   pub cofactors-answered : (n : ℕ) (f g h a b : List ℕ) {found : Outcome} {r : Gcd} {h′ a′ b′ : List ℕ} → found ≡ Done → Ready F n f g
       → Results F n f g r h′ a′ b′
@@ -183,12 +119,12 @@ module _ (F : PrimeField) where
       × (a′ ≡ written found (cofactorA F f g) a) × (b′ ≡ written found (cofactorB F f g) b) × Greatest F f g h′ r × Cofactors F f g a′ b′ r
   unfolding gcdDone
   cofactors-answered n f g h a b e y o =
-      let z = answered F n f g h e y (o .answer) (o .gcd) in (
-        z .0,
-        z .1,
+      let of-gcd = answered F n f g h e y (o .answer) (o .gcd) in (
+        of-gcd .0,
+        of-gcd .1,
         result (cofactorA F f g) a e (o .cofactor-a),
         result (cofactorB F f g) b e (o .cofactor-b),
-        z .2,
+        of-gcd .2,
         rw (o .answer, o .cofactor-a, o .cofactor-b) so,
       )
     where

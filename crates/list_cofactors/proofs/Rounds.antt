@@ -16,7 +16,7 @@ use Rattle.lists.proofs.Words.{zero-later}
 use Rattle.word_division.proofs.LessProduct.{less-product-low, length-lessProduct}
 use Rattle.word_division.proofs.Cut.{lessProduct-zero}
 use Rattle.euclid_round.specs.Round.{roundSteps, remaining, quotientWords}
-use Rattle.euclid_round.proofs.Turns.{end-euclid, round-euclid, round-quotient, length-remaining, length-quotientWords}
+use Rattle.euclid_round.proofs.Rounds.{end-euclid, round-euclid, round-quotient, length-remaining, length-quotientWords}
 use Rattle.list_gcd.specs.Internal.{Buffer, euclidOn, Led}
 use Rattle.list_gcd.proofs.Alternating.{LedOn, led-remaining, led-end}
 use Rattle.list_cofactors.specs.Internal.{partX, partS, partT, reach, Short, Cut, lessQuotient, remainingRow, Leads, roundsOn, Carried, RowEnds}

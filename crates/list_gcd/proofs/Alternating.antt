@@ -19,7 +19,7 @@ use Rattle.lists.specs.Degrees.{significant}
 use Rattle.lists.specs.Words.{seriesOf}
 use Rattle.euclid_round.specs.Round.{remaining}
 use Rattle.euclid_round.proofs.Parts.{Shorten, Rounded, shortened}
-use Rattle.euclid_round.proofs.Turns.{end-euclid, rounds-few, length-remaining, remaining-low, round-euclid, round-smaller, round-fits}
+use Rattle.euclid_round.proofs.Rounds.{end-euclid, rounds-few, length-remaining, remaining-low, round-euclid, round-smaller, round-fits}
 use Rattle.list_gcd.specs.Internal.{Buffer, euclidOn, Led, Ends}
 
 module _ (F : PrimeField) (n : ℕ) where

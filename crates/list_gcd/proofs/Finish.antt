@@ -37,7 +37,7 @@ use Rattle.euclid_theory.proofs.Greatest.{gcd-is-greatest}
 use Rattle.euclid_theory.proofs.Loops.{count-room, size-room, gcd-room}
 use Rattle.lists.proofs.Padded.{getD-padded}
 use Rattle.euclid_round.specs.Round.{multiplied, writeFits, writtenWords, writtenList}
-use Rattle.euclid_round.proofs.Turns.{significant-series}
+use Rattle.euclid_round.proofs.Significant.{significant-series}
 use Rattle.euclid_round.proofs.Written.{write-is}
 use Rattle.list_gcd.specs.declared.Gcd.{Gcd}
 use Rattle.list_gcd.specs.declared.Rounds.{Rounds}

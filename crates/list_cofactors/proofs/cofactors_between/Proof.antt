@@ -5,7 +5,7 @@ use native.Mathlib.Omega.{arith}
 use lib.ListN.{length-take}
 use Rattle.refusal.specs.Limits.{maxWords}
 use Rattle.field.proofs.FieldsLaws.{longest-room}
-use Rattle.list_cofactors.proofs.Start.{rows-part}
+use Rattle.list_cofactors.proofs.StartRow.{rows-part}
 use borrow.Author.Needs.{needs}
 use Rattle.list_cofactors.proofs.cofactors_between.Statement.{statement}
 use Rattle.list_cofactors.proofs.cofactors_between.Tie as tie

@@ -2,7 +2,7 @@
 -- Assumes nothing.
 use Rattle.refusal.specs.Limits.{maxWords}
 use borrow.Author.Needs.{needs}
-use Rattle.list_cofactors.proofs.Start.{rows-arrays}
+use Rattle.list_cofactors.proofs.StartRow.{rows-arrays}
 use Rattle.list_cofactors.proofs.cofactors_with.Statement.{statement}
 use Rattle.list_cofactors.proofs.cofactors_with.Tie as tie
 

@@ -5,7 +5,7 @@ use lib.ListN.{length-take}
 use borrow.Author.Needs.{needs}
 use Rattle.field.specs.Fields.{fieldAt}
 use Rattle.field.proofs.FieldsLaws.{p-at, longest-in}
-use Rattle.list_cofactors.proofs.Start.{row-started}
+use Rattle.list_cofactors.proofs.StartRow.{row-started}
 use Rattle.list_cofactors.proofs.start_row.Statement.{statement}
 use Rattle.list_cofactors.proofs.start_row.Tie as tie
 

@@ -9,7 +9,7 @@ use borrow.Author.Needs.{needs}
 use Rattle.field.specs.Fields.{fieldAt}
 use Rattle.field.proofs.FieldsLaws.{p-at, longest-in}
 use Rattle.list_cofactors.proofs.Parts.{rest-is}
-use Rattle.list_cofactors.proofs.Results.{front-kept, pair-written}
+use Rattle.list_cofactors.proofs.WrittenRow.{front-kept, pair-written}
 use Rattle.list_cofactors.proofs.write_pair.Statement.{statement}
 use Rattle.list_cofactors.proofs.write_pair.Tie as tie
 

@@ -9,7 +9,7 @@ use Rattle.field.specs.Fields.{fieldAt}
 use Rattle.field.proofs.FieldsLaws.{p-at, longest-in}
 use Rattle.lists.proofs.Extents.{significant-le}
 use Rattle.list_cofactors.proofs.Parts.{length-rest}
-use Rattle.list_cofactors.proofs.Results.{front-kept, row-written}
+use Rattle.list_cofactors.proofs.WrittenRow.{front-kept, row-written}
 use Rattle.list_cofactors.proofs.write_row.Statement.{statement}
 use Rattle.list_cofactors.proofs.write_row.Tie as tie
 

@@ -1,19 +1,20 @@
--- What a loop of rounds needs: on words below p, one of Euclid's rounds on words is one on series, for every prime field F.
---     significant-size, significant-series    the number of significant words is the size of the series
---     round-remainder, round-quotient         the words of a round stand for the remainder and for the quotient
---     round-euclid, round-smaller             a round goes on with (y, remainder), and y falls
---     end-euclid, rounds-few                  where y is zero, no round is left; at most n rounds in buffers of n words
---     round-fits                              what the guard asks
+-- On words below p, one of Euclid's rounds on words is one on series, for every prime field F: what a loop of rounds needs.
+-- Theorems:
+--     round-ready, round-fits              what the guard asks
+--     length-remaining, remaining-low      what a round leaves has as many words, each below p
+--     round-remainder, round-quotient      the words of a round stand for the remainder and for the quotient
+--     round-euclid, round-smaller          a round goes on with (y, remainder), and y falls
+--     end-euclid, rounds-few               where y is zero, no round is left; at most n rounds in buffers of n words
 -- Assumes nothing.
-use mathlib.Core.Path.{_≡_, refl, sym, _∙_, ap, subst}
+use mathlib.Core.Path.{_≡_, sym, _∙_, ap, subst}
 use mathlib.Core.Bool.{true}
 use mathlib.Core.List.{List}
 use Prim.Native.Nat.{ℕ, suc, _+_, _-_, _≤_, _<_}
 use native.Mathlib.Nat as N
-use native.Mathlib.Decide.{decLe, decLt}
+use native.Mathlib.Decide.{decLe}
 use native.Mathlib.Omega.{arith}
-use lib.ListN.{length, getD, take, drop, length-append, length-take, length-drop, List·getD-eq-default}
-use lib.Seq.{getD-take, getD-drop, length-take-le}
+use lib.ListN.{length, getD, take, drop, length-append, length-drop}
+use lib.Seq.{getD-drop}
 use borrow.Author.Tests.{le-leb, lt-ltb}
 use Rattle.algebra.specs.Ring.{CommRing}
 use Rattle.algebra.proofs.Series.{coeff-0}
@@ -30,25 +31,14 @@ use Rattle.algebra.proofs.PrimeField.{residue-0}
 use Rattle.field.specs.Field.{inverseOf}
 use Rattle.field.proofs.Theorems.{residue-inverse}
 use Rattle.lists.specs.Degrees.{significant}
-use Rattle.lists.proofs.Extents.{significant-le, after-significant, significantIn-size}
+use Rattle.lists.proofs.Extents.{significant-le, after-significant}
 use Rattle.lists.specs.Words.{seriesOf}
-use Rattle.lists.proofs.Words.{coeff-seriesOf, Carries, carries-seriesOf, carries-zero, carries-nonzero, seriesOf-carries}
+use Rattle.lists.proofs.Words.{coeff-seriesOf, Carries, carries-seriesOf, seriesOf-carries}
 use Rattle.lists.proofs.Parts.{getD-then-zeros}
 use Rattle.word_division.specs.Reduction.{reduced, digits}
 use Rattle.word_division.proofs.Steps.{length-reduced, length-digits, reduced-remainder, digits-quotient}
 use Rattle.euclid_round.specs.Round.{lastWord, roundSteps, roundFits, remaining, quotientWords}
-
--- the significant words are all that a list says
-getD-significant : (c : List ℕ) (k : ℕ) → getD (take (significant c) c) k 0 ≡ getD c k 0
-getD-significant c k = go (decLt k (significant c))
-  where
-    go : Dec (k < significant c) → getD (take (significant c) c) k 0 ≡ getD c k 0
-    go (yes h) = getD-take (significant c) c k 0 h
-    go (no h) =
-        List·getD-eq-default (take (significant c) c) 0 (simp length-take (omega arith)) ∙ sym (after-significant c k (omega arith))
-
-length-significant : (c : List ℕ) → length (take (significant c) c) ≡ significant c
-length-significant c = length-take-le (significant c) c (significant-le c)
+use Rattle.euclid_round.proofs.Significant.{getD-significant, length-significant, below-seriesOf, significant-size}
 
 pub roundSteps-le : (x y : List ℕ) → roundSteps x y ≤ length x
 unfolding roundSteps
@@ -62,31 +52,18 @@ round-ready p x y q some low room =
 module _ (F : PrimeField) where
   open CommRing (F .series .ring) using (Carrier as S)
 
-  below-seriesOf : (x : List ℕ) → Below (F .series) (length x) (seriesOf F x)
-  below-seriesOf x =
-      record { at = λ k l. coeff-seriesOf F x k ∙ ap (residue F) (List·getD-eq-default x 0 l) ∙ residue-0 F }
-
-  pub significant-size : (n : ℕ) {x : List ℕ} {s : S} → Carries F x s → length x ≡ n → significant x ≡ size (F .series) (scalarField F) n s
-  unfolding significant
-  significant-size n {x} {s} c e =
-      significantIn-size F (length x) x s (λ k l. carries-zero F c k) (λ k l. carries-nonzero F c k) ∙ ap (λ i. size (F .series) (scalarField F) i s) e
-
-  pub significant-series : (x : List ℕ) → ((k : ℕ) → getD x k 0 < F .p)
-      → significant x ≡ size (F .series) (scalarField F) (length x) (seriesOf F x)
-  significant-series x lx = significant-size (length x) (carries-seriesOf F lx) refl
-
   module _ (n : ℕ) (x y : List ℕ) (lx : (k : ℕ) → getD x k 0 < F .p) (ly : (k : ℕ) → getD y k 0 < F .p) (ex : length x ≡ n) (ey : length y ≡ n) where
     size-x : significant x ≡ size (F .series) (scalarField F) n (seriesOf F x)
-    size-x = significant-size n (carries-seriesOf F lx) ex
+    size-x = significant-size F n (carries-seriesOf F lx) ex
 
     size-y : significant y ≡ size (F .series) (scalarField F) n (seriesOf F y)
-    size-y = significant-size n (carries-seriesOf F ly) ey
+    size-y = significant-size F n (carries-seriesOf F ly) ey
 
     below-x : Below (F .series) n (seriesOf F x)
-    below-x = subst (λ i. Below (F .series) i (seriesOf F x)) ex (below-seriesOf x)
+    below-x = subst (λ i. Below (F .series) i (seriesOf F x)) ex (below-seriesOf F x)
 
     below-y : Below (F .series) n (seriesOf F y)
-    below-y = subst (λ i. Below (F .series) i (seriesOf F y)) ey (below-seriesOf y)
+    below-y = subst (λ i. Below (F .series) i (seriesOf F y)) ey (below-seriesOf F y)
 
     pub end-euclid : significant y ≡ 0
         → euclid (F .series) (scalarField F) n n (seriesOf F x) (seriesOf F y) ≡ done (F .series) (scalarField F) (seriesOf F x)
@@ -206,7 +183,7 @@ module _ (F : PrimeField) where
 
       pub round-smaller : significant (remaining F x y) < significant y
       round-smaller =
-          let e = significant-size n round-remainder length-remaining in
-          let l = size-least (F .series) (scalarField F) n (significant y - 1)
+          let count = significant-size F n round-remainder length-remaining in
+          let most = size-least (F .series) (scalarField F) n (significant y - 1)
           (remainder-small (F .series) (scalarField F) n (significant y - 1) below-x below-y size-suc) in
-          omega (arith, e, l)
+          omega (arith, count, most)

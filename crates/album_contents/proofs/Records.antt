@@ -3,19 +3,18 @@
 -- Assumes nothing.
 use mathlib.Core.Path.{_≡_, refl, sym, ap, ap₂, _∙_}
 use mathlib.Core.List.{List, [], _∷_, _++_}
-use Prim.Native.Nat.{ℕ, zero, suc, _+_, _*_, _≤_, _<_}
-use native.Mathlib.Nat.{add-assoc}
+use Prim.Native.Nat.{ℕ, zero, suc, _+_, _≤_, _<_}
 use native.Mathlib.Omega.{arith}
-use lib.ListN.{length, take, getD, set, length-set}
+use lib.ListN.{length, take, set, length-set}
 use lib.Seq.{take-all, take-suc-set}
 use borrow.Author.Tests.{lt-ltb, le-ltb}
 use Rattle.refusal.specs.Limits.{maxLists}
 use Rattle.refusal.specs.Lowest.{lowest}
 use Rattle.refusal.specs.declared.Outcome.{Outcome}
 use Rattle.refusal.specs.declared.Outcome.the-variants.{Done, Refused}
-use Rattle.album_layout.specs.Layout.{count, entryAt, offsetAt}
-use Rattle.album_contents.specs.Calls.{recordAt, recordsFrom, contentsRefusals, filled}
-use Rattle.album_contents.specs.Internal.{fitRefusals, recordsDue}
+use Rattle.album_layout.specs.Layout.{count, degreeAt, offsetAt}
+use Rattle.album_contents.specs.Calls.{recordAt, recordsFrom, contentsRows, filled}
+use Rattle.album_contents.specs.Internal.{recordsDue}
 use Rattle.album_contents.specs.declared.Entry.{Entry}
 use Rattle.album_contents.proofs.Judged.{fit-all}
 
@@ -23,13 +22,10 @@ abbrev entry : ℕ → ℕ → Entry
 entry o d = record { offset = o; degree = d }
 
 module _ (s : List ℕ) (k : ℕ) where
-  -- of the bytes that an entry has
-  pub record-listed : k < count s → {degree low high : ℕ} → degree ≡ getD s (entryAt k) 0
-      → low ≡ getD s (entryAt k + 1) 0 → high ≡ getD s (entryAt k + 2) 0 → entry (low + 256 * high) degree ≡ recordAt s k
+  -- of what an entry says
+  pub record-listed : k < count s → {degree offset : ℕ} → degree ≡ degreeAt s k → offset ≡ offsetAt s k → entry offset degree ≡ recordAt s k
   unfolding recordAt
-  record-listed l {degree} {low} {high} d e f =
-      let o : low + 256 * high ≡ offsetAt s k = omega (arith, ap (λ j. getD s j 0) (add-assoc (entryAt k) 1 1)) in
-      ap₂ entry o d ∙ sym (simp (lt-ltb k (count s) l))
+  record-listed l d o = ap₂ entry o d ∙ sym (simp (lt-ltb k (count s) l))
 
   pub record-past : count s ≤ k → entry 0 0 ≡ recordAt s k
   unfolding recordAt
@@ -63,20 +59,15 @@ after-all s xs n e = sym (take-all n (after s xs n) (omega (arith, length-after 
 
 module _ (p : ℕ) (s : List ℕ) (xs : List Entry) where
   -- what is due fits the slice
-  pub due-fits : (o : Outcome) → o ≡ lowest (fitRefusals p s (length xs)) → recordsDue o ≤ length xs
+  pub due-fits : (o : Outcome) → o ≡ lowest (contentsRows p s (length xs)) → recordsDue o ≤ length xs
   due-fits Done e = omega (arith, fit-all p s (length xs) (sym e))
   due-fits (Refused why) e = omega arith
 
-  -- the tests of the code are those of the call
-  pub judged : lowest (fitRefusals p s (length xs)) ≡ lowest (contentsRefusals p s xs)
-  unfolding fitRefusals contentsRefusals
-  judged = refl
-
   -- the slice after what is due is written
-  pub after-due : (o : Outcome) → o ≡ lowest (fitRefusals p s (length xs)) → (d : ℕ) → d ≡ recordsDue o
-      → after s xs d ≡ filled (lowest (contentsRefusals p s xs)) (recordsFrom s 0 maxLists) xs
-  after-due o e d q = due o e q ∙ ap (λ r. filled r (recordsFrom s 0 maxLists) xs) (e ∙ judged)
+  pub after-due : (o : Outcome) → o ≡ lowest (contentsRows p s (length xs)) → (d : ℕ) → d ≡ recordsDue o
+      → after s xs d ≡ filled (lowest (contentsRows p s (length xs))) (recordsFrom s 0 maxLists) xs
+  after-due o e d q = due o e q ∙ ap (λ r. filled r (recordsFrom s 0 maxLists) xs) e
     where
-      due : (o : Outcome) → o ≡ lowest (fitRefusals p s (length xs)) → d ≡ recordsDue o → after s xs d ≡ filled o (recordsFrom s 0 maxLists) xs
+      due : (o : Outcome) → o ≡ lowest (contentsRows p s (length xs)) → d ≡ recordsDue o → after s xs d ≡ filled o (recordsFrom s 0 maxLists) xs
       due Done e q = after-all s xs d (fit-all p s (length xs) (sym e) ∙ sym q) ∙ ap (recordsFrom s 0) q
       due (Refused why) e q = ap (after s xs) q

@@ -64,10 +64,10 @@ use Rattle.refusal.specs.declared.Outcome.{Outcome}
 use Rattle.refusal.proofs.Outcome as S
 use Rattle.refusal.proofs.Outcome.Laws as S′
 use Rattle.field.specs.Fields.{p}
-use Rattle.album_contents.specs.Calls.{recordAt, recordsFrom, contentsRefusals, filled}
-use Rattle.album_contents.specs.Internal.{fitRefusals, recordsDue}
+use Rattle.album_contents.specs.Calls.{recordAt, recordsFrom, contentsRows, filled}
+use Rattle.album_contents.specs.Internal.{recordsDue}
 use Rattle.album_contents.specs.declared.Entry.{Entry}
-use Rattle.album_contents.proofs.Records.{after, length-after, due-fits, judged, after-due}
+use Rattle.album_contents.proofs.Records.{after, length-after, due-fits, after-due}
 use Rattle.album_contents.proofs.Entry as T
 use Rattle.album_contents.proofs.Entry.Laws as T′
 use Rattle.album_contents.proofs.judge_contents as judge
@@ -150,11 +150,11 @@ module _ {M : Type 1} (𝓤 : URA M) (H : Heap 𝓤) (A : Atoms 𝓤) (W : Given
 
   -- what the judge found
   abbrev Judged : Outcome → Type 0
-  Judged r = r ≡ lowest (fitRefusals p (now s) n)
+  Judged r = r ≡ lowest (contentsRows p (now s) n)
 
   -- the contract's two clauses, and what the types own at exit
   abbrev Refusals : Outcome
-  Refusals = lowest (contentsRefusals p (now s) xs)
+  Refusals = lowest (contentsRows p (now s) (length xs))
 
   abbrev Answers : Outcome → Type 0
   Answers r = outcomeReply r ≡ reply Refusals []
@@ -171,7 +171,7 @@ module _ {M : Type 1} (𝓤 : URA M) (H : Heap 𝓤) (A : Atoms 𝓤) (W : Given
       qed W (‵ (fobs γ (codedHoleys T.the-row .code (heres T.the-row (at d)))) ∷ ‵ (fbor κ′ (Held T.the-row (length (at d)) b o γ)) ∷ ‵ (flft κ′ q′) ∷ ‵ (flft κ q) ∷ ‵ Own ∷ []) ∵
       suffices ! _ (ends-at 𝓤 H A contents.ended stayed (contents.clauses 𝓤 H A mem run) W bound u r (tt, (at d, tt)) (tt, (length-after (now s) xs d, tt))) $
       suffices ! (sep 𝓤 (sep 𝓤 (Exit r u d) (fact 𝓤 (Answers r))) (fact 𝓤 (Writes d))) (assoc∗ 𝓤 (Exit r u d) (fact 𝓤 (Answers r)) (fact 𝓤 (Writes d))) $
-      says ! (after-due p (now s) xs r e d f) $ says ! (ap outcomeReply (e ∙ judged p (now s) xs)) $
+      says ! (after-due p (now s) xs r e d f) $ says ! (ap outcomeReply e) $
       -- the tokens
       nothing ! $ move ! (3 ∷ 0 ∷ []) $ join ! $ move ! (3 ∷ 0 ∷ []) $ join ! $ frame ! $
       -- [obs; the borrow; what s owns]

@@ -1,8 +1,8 @@
 -- `album_contents::record_at` meets its contract.
 -- Assumes nothing.
 use native.Mathlib.Omega.{arith}
-use borrow.Author.Needs.{needs}
 use Rattle.album_contents.proofs.Records.{record-listed, record-past}
+use borrow.Author.Needs.{needs}
 use Rattle.album_contents.proofs.record_at.Statement.{statement}
 use Rattle.album_contents.proofs.record_at.Tie as tie
 
@@ -18,33 +18,20 @@ add-e c = search needs
 byte-at-requires-2 : tie.Need-byte-at-requires-2
 byte-at-requires-2 c κs = search needs
 
-add-byte-at : tie.Need-add-byte-at
-add-byte-at c = search needs
+add-word-at : tie.Need-add-word-at
+add-word-at c = search needs
 
-byte-at-requires-3 : tie.Need-byte-at-requires-3
-byte-at-requires-3 c κs = search needs
+word-at-requires : tie.Need-word-at-requires
+word-at-requires c κs = search needs
 
-add-byte-at-2 : tie.Need-add-byte-at-2
-add-byte-at-2 c = search needs
+cast-t10 : tie.Need-cast-t10
+cast-t10 c = search needs
 
-byte-at-requires-4 : tie.Need-byte-at-requires-4
-byte-at-requires-4 c κs = search needs
-
-mul-offset : tie.Need-mul-offset
-mul-offset c = search needs
-
-add-offset : tie.Need-add-offset
-add-offset c = search needs
-
-cast-t14 : tie.Need-cast-t14
-cast-t14 c = search needs
-
-cast-t15 : tie.Need-cast-t15
-cast-t15 c = search needs
+cast-t11 : tie.Need-cast-t11
+cast-t11 c = search needs
 
 returns : tie.Need-returns
-returns c =
-    record-listed _ _ (omega arith) (c .before .before .byte-at2 .ensures .0) (c .before .byte-at3 .ensures .0) (c .byte-at4 .ensures .0)
+returns c = record-listed _ _ (omega arith) (c .before .byte-at2 .ensures .0) (c .word-at .ensures .0)
 
 returns-2 : tie.Need-returns-2
 returns-2 c = record-past _ _ (omega arith)
@@ -57,13 +44,9 @@ record-at-spec =
     mul-e
     add-e
     byte-at-requires-2
-    add-byte-at
-    byte-at-requires-3
-    add-byte-at-2
-    byte-at-requires-4
-    mul-offset
-    add-offset
-    cast-t14
-    cast-t15
+    add-word-at
+    word-at-requires
+    cast-t10
+    cast-t11
     returns
     returns-2)

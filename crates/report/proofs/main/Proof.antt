@@ -40,7 +40,7 @@ enum-known-k : tie.Need-enum-known-k
 enum-known-k c = search needs
 
 -- the text is no longer than the array
-inside : (c : tie.After-k) → c .k .given .0 .0 ≤ length (c .before .before .before .report-over .last .1 .0)
+inside : (c : tie.After-k) → c .k .given .0 .0 ≤ length (c .before .before .before .report-over .last .1 .1 .0)
 inside c = let ensures = c .before .before .before .report-over .ensures in text-inside _ _ (c .k .given .1) (ensures .0) (ensures .1)
 
 array-share-prefix-text : tie.Need-array-share-prefix-text

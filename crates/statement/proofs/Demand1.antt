@@ -10,6 +10,7 @@
 use mathlib.Core.Path.{_≡_, refl, _∙_, ap}
 use mathlib.Core.List.{List, [], _∷_}
 use Prim.Native.Nat.{ℕ}
+use lib.ListN.{length}
 use Rattle.refusal.specs.Limits.{maxLists}
 use Rattle.refusal.specs.Refusal.{number, outcomeNumber, Reply, reply, outcomeReply, written}
 use Rattle.refusal.specs.Lowest.{Condition, IsLowest, lowest, lowest-is}
@@ -19,7 +20,7 @@ use Rattle.refusal.specs.declared.Refusal.{Refusal}
 use Rattle.refusal.proofs.Answers.{number-range, number-is}
 use native.Mathlib.Omega.{arith}
 use Rattle.field.specs.Fields.{p}
-use Rattle.album_contents.specs.Calls.{contentsRefusals, recordsFrom, filled}
+use Rattle.album_contents.specs.Calls.{contentsRows, recordsFrom, filled, contentsAnswer, contentsWritten}
 use Rattle.album_contents.specs.declared.Entry.{Entry}
 use Rattle.statement.specs.Demand1.{Slice, sliceOf, Demand1, EmptyRefused, Left}
 
@@ -60,9 +61,7 @@ empty-by-outcome rows (Refused low) is new part e = λ why a. e
 pub empty-refused : (rows : List Condition) (new part : List ℕ) → part ≡ written (lowest rows) new [] → EmptyRefused rows part
 empty-refused rows new part e = empty-by-outcome rows (lowest rows) (lowest-is rows) new part e
 
-pub of-contents : (s : List ℕ) (old after : List Entry) (answer : Outcome)
-    → outcomeReply answer ≡ reply (lowest (contentsRefusals p s old)) []
-    → after ≡ filled (lowest (contentsRefusals p s old)) (recordsFrom s 0 maxLists) old
-    → Demand1 (contentsRefusals p s old) (outcomeReply answer .number) (sliceOf old after ∷ [])
+pub of-contents : (s : List ℕ) (old after : List Entry) (answer : Outcome) → outcomeReply answer ≡ contentsAnswer 0 s old → after ≡ contentsWritten 0 s old
+    → Demand1 (contentsRows p s (length old)) (outcomeReply answer .number) (sliceOf old after ∷ [])
 of-contents s old after answer e f =
     replies [] e (record { unchanged = λ why r. (f ∙ ap (λ o. filled o (recordsFrom s 0 maxLists) old) r, tt) })

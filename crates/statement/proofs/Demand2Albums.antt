@@ -30,7 +30,7 @@ use Rattle.album_layout.specs.Written.{Writable}
 use Rattle.album_layout.proofs.Passed.{passed-obeys, passed-each}
 use Rattle.album_reader.specs.Calls.{readRows, readAnswer, readWritten}
 use Rattle.album_reader.proofs.Judged.{read-done}
-use Rattle.album_contents.specs.Calls.{recordsFrom, contentsRefusals, filled}
+use Rattle.album_contents.specs.Calls.{recordsFrom, contentsRows, filled, contentsAnswer, contentsWritten}
 use Rattle.album_contents.specs.declared.Entry.{Entry}
 use Rattle.statement.proofs.Demand1.{done-reply}
 use Rattle.statement.specs.Contained.{Contained}
@@ -163,12 +163,12 @@ entries s bytes fine =
       zeros = λ i l m. c .zeros i (omega arith) m;
     }
 
-contents-done : (s : List ℕ) (old : List Entry) → Fine s → length old ≡ maxLists → lowest (contentsRefusals p s old) ≡ Done
-unfolding lowest contentsRefusals albumRefusals
+contents-done : (s : List ℕ) (old : List Entry) → Fine s → length old ≡ maxLists → lowest (contentsRows p s (length old)) ≡ Done
+unfolding lowest contentsRows albumRefusals
 contents-done s old f q = simp (f .counted, f .laid, f .tight, eq-eqb (length old) maxLists q)
 
-pub contents-so : (s : List ℕ) (old : List Entry) {after : List Entry} {r : Reply} → r ≡ reply (lowest (contentsRefusals p s old)) []
-    → after ≡ filled (lowest (contentsRefusals p s old)) (recordsFrom s 0 maxLists) old → ContentsSo F65521 s old after r
+pub contents-so : (s : List ℕ) (old : List Entry) {after : List Entry} {r : Reply} → r ≡ contentsAnswer 0 s old
+    → after ≡ contentsWritten 0 s old → ContentsSo F65521 s old after r
 contents-so s old {after} e w lists h q =
     let k = held-fine s lists h in
     let d = contents-done s old (k .2) q in (

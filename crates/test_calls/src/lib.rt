@@ -5,16 +5,22 @@
 ghost use mathlib.Core.Path.{_≡_};
 ghost use mathlib.Core.List.{[], _∷_};
 ghost use lib.ListN.{length};
-ghost use Rattle.refusal.specs.Limits.{maxLists};
-ghost use Rattle.refusal.specs.Refusal.{outcomeNumber};
-ghost use Rattle.refusal.specs.Lowest.{lowest};
-ghost use Rattle.field.specs.Fields.{p};
+ghost use Rattle.refusal.specs.Contract.{given, final};
 ghost use Rattle.field.specs.Field.{wordReply};
-ghost use Rattle.list_extent.specs.Calls.{extentReply};
-ghost use Rattle.list_gcd.specs.Calls.{gcdReply};
-ghost use Rattle.album_layout.specs.Calls.{bodyOf};
-ghost use Rattle.album_reader.specs.Calls.{listedReply};
-ghost use Rattle.album_contents.specs.Calls.{contentsRefusals, filled, recordsFrom};
+ghost use Rattle.field.specs.Calls.{wordSumAnswer, wordDifferenceAnswer, wordProductAnswer};
+ghost use Rattle.field_inverse.specs.Calls.{inverseAnswer};
+ghost use Rattle.list_product.specs.Calls.{productAnswer, productWritten, raiseAnswer, raiseWritten};
+ghost use Rattle.list_sum.specs.Calls.{sumAnswer, sumWritten, differenceWritten};
+ghost use Rattle.list_extent.specs.Calls.{extentReply, extentAnswer, trimAnswer, trimWritten};
+ghost use Rattle.list_derivative.specs.Calls.{derivativeAnswer, derivativeWritten};
+ghost use Rattle.list_value.specs.Calls.{evaluateAnswer};
+ghost use Rattle.list_division.specs.Calls.{divideAnswer, quotientWritten, remainderWritten};
+ghost use Rattle.list_gcd.specs.Calls.{gcdReply, gcdAnswer, gcdWritten};
+ghost use Rattle.list_cofactors.specs.Calls.{cofactorAnswer, cofactorGcd, cofactorsWrittenA, cofactorsWrittenB};
+ghost use Rattle.album_layout.specs.Calls.{checkAnswer, bodyOf};
+ghost use Rattle.album_reader.specs.Calls.{listedReply, readAnswer, readWritten};
+ghost use Rattle.album_contents.specs.Calls.{contentsAnswer, contentsWritten};
+ghost use Rattle.album_gcd.specs.Calls.{albumGcdAnswer, albumGcdWritten};
 ghost use Rattle.test_calls.specs.Lent.{fitted};
 use album_contents::Entry;
 use album_reader::Listed;
@@ -184,8 +190,8 @@ pub extern "C" fn test_check(album: &[u8], i: usize) -> u8
 // The bytes of list i, in a slice of exactly their number. The call has no number to return: the number of its bytes, 0 when refused.
 #[no_mangle]
 pub extern "C" fn test_body(album: &[u8], i: usize, out: &mut [u8]) -> usize
-    ensures answer { λ r. ⌜ r ≡ length (bodyOf p (now (album .entry)) i) ⌝ }
-    ensures writes { λ _. ⌜ now (out .exit) ≡ fitted (bodyOf p (now (album .entry)) i) (now (out .entry)) ⌝ }
+    ensures answer { λ r. ⌜ r ≡ length (bodyOf 0 (given album) i) ⌝ }
+    ensures writes { λ _. ⌜ final out ≡ fitted (bodyOf 0 (given album) i) (given out) ⌝ }
 {
     let part = album_calls::body(album, i);
     if out.len() == part.len() {
@@ -212,8 +218,8 @@ pub extern "C" fn test_read_list(
 // The contents of an album as records.
 #[no_mangle]
 pub extern "C" fn test_contents(album: &[u8], out: &mut [Entry]) -> u8
-    ensures number { λ r. ⌜ r ≡ outcomeNumber (lowest (contentsRefusals p (now (album .entry)) (now (out .entry)))) ⌝ }
-    ensures writes { λ _. ⌜ now (out .exit) ≡ filled (lowest (contentsRefusals p (now (album .entry)) (now (out .entry)))) (recordsFrom (now (album .entry)) 0 maxLists) (now (out .entry)) ⌝ }
+    ensures number { λ r. ⌜ r ≡ contentsAnswer 0 (given album) (now (out .entry)) .number ⌝ }
+    ensures writes { λ _. ⌜ now (out .exit) ≡ contentsWritten 0 (given album) (now (out .entry)) ⌝ }
 {
     refusal::outcome_number(album_contents::contents(album, out))
 }
@@ -230,7 +236,7 @@ pub extern "C" fn test_gcd_of_album(album: &[u8], h: &mut [u16], answer: &mut [u
 
 fn note_word(found: Word, answer: &mut [usize]) -> u8
     ensures number { λ r. ⌜ r ≡ wordReply found .number ⌝ }
-    ensures values { λ _. ⌜ now (answer .exit) ≡ fitted (wordReply found .values) (now (answer .entry)) ⌝ }
+    ensures values { λ _. ⌜ final answer ≡ fitted (wordReply found .values) (given answer) ⌝ }
 {
     match found {
         Word::Done(word) => {
@@ -243,7 +249,7 @@ fn note_word(found: Word, answer: &mut [usize]) -> u8
 
 fn note_found(found: Found, answer: &mut [usize]) -> u8
     ensures number { λ r. ⌜ r ≡ extentReply found .number ⌝ }
-    ensures values { λ _. ⌜ now (answer .exit) ≡ fitted (extentReply found .values) (now (answer .entry)) ⌝ }
+    ensures values { λ _. ⌜ final answer ≡ fitted (extentReply found .values) (given answer) ⌝ }
 {
     match found {
         Found::At(extent) => {
@@ -257,7 +263,7 @@ fn note_found(found: Found, answer: &mut [usize]) -> u8
 
 fn note_listed(found: Listed, answer: &mut [usize]) -> u8
     ensures number { λ r. ⌜ r ≡ listedReply found .number ⌝ }
-    ensures values { λ _. ⌜ now (answer .exit) ≡ fitted (listedReply found .values) (now (answer .entry)) ⌝ }
+    ensures values { λ _. ⌜ final answer ≡ fitted (listedReply found .values) (given answer) ⌝ }
 {
     match found {
         Listed::Done(degree) => {
@@ -270,7 +276,7 @@ fn note_listed(found: Listed, answer: &mut [usize]) -> u8
 
 fn note_gcd(found: Gcd, answer: &mut [usize]) -> u8
     ensures number { λ r. ⌜ r ≡ gcdReply found .number ⌝ }
-    ensures values { λ _. ⌜ now (answer .exit) ≡ fitted (gcdReply found .values) (now (answer .entry)) ⌝ }
+    ensures values { λ _. ⌜ final answer ≡ fitted (gcdReply found .values) (given answer) ⌝ }
 {
     match found {
         Gcd::Done(w, c, rounds) => {
@@ -282,7 +288,7 @@ fn note_gcd(found: Gcd, answer: &mut [usize]) -> u8
 }
 
 fn note_one(value: usize, answer: &mut [usize])
-    ensures { λ _. ⌜ now (answer .exit) ≡ fitted (value ∷ []) (now (answer .entry)) ⌝ }
+    ensures { λ _. ⌜ final answer ≡ fitted (value ∷ []) (given answer) ⌝ }
 {
     if answer.len() == 1 {
         answer[0] = value;
@@ -290,7 +296,7 @@ fn note_one(value: usize, answer: &mut [usize])
 }
 
 fn note_three(w: usize, c: usize, rounds: usize, answer: &mut [usize])
-    ensures { λ _. ⌜ now (answer .exit) ≡ fitted (w ∷ c ∷ rounds ∷ []) (now (answer .entry)) ⌝ }
+    ensures { λ _. ⌜ final answer ≡ fitted (w ∷ c ∷ rounds ∷ []) (given answer) ⌝ }
 {
     if answer.len() == 3 {
         answer[0] = w;
@@ -301,7 +307,7 @@ fn note_three(w: usize, c: usize, rounds: usize, answer: &mut [usize])
 
 fn copy(from: &[u8], to: &mut [u8])
     requires { ⌜ length (now from) ≡ length (now to) ⌝ }
-    ensures { λ _. ⌜ now (to .exit) ≡ now (from .entry) ⌝ }
+    ensures { λ _. ⌜ final to ≡ given from ⌝ }
 {
     let mut i = 0;
     while i < to.len() {

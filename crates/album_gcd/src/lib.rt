@@ -167,7 +167,7 @@ fn join_list(
         Gcd::Done(w, _, more) => SoFar {
             words: w.0 + 1,
             rounds: rounds + more.0,
-            least: lists::smaller(least, power.0),
+            least: words::smaller(least, power.0),
         },
         Gcd::Refused(_) => SoFar {
             words: used,

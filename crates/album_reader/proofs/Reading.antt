@@ -12,7 +12,7 @@ use Rattle.refusal.specs.declared.Refusal.{Refusal}
 use Rattle.refusal.specs.declared.Refusal.the-variants.{Misfit}
 use Rattle.refusal.specs.declared.Outcome.the-variants.{Done, Refused}
 use Rattle.field.specs.Fields.{modulus, longest}
-use Rattle.field.proofs.FieldsLaws.{longest-full}
+use Rattle.field.proofs.Fields.{longest-full}
 use Rattle.lists.specs.Padded.{padded}
 use Rattle.lists.specs.Bytes.{Bytes, wordCount, wordsOf}
 use Rattle.lists.proofs.Bytes.{length-wordsOf, words-of-bytes}

@@ -29,7 +29,7 @@ use Rattle.algebra.proofs.EuclidCorrect.{euclid-ok}
 use Rattle.algebra.specs.PrimeField.{PrimeField, scalarField, positive, residue, inverse}
 use Rattle.algebra.proofs.PrimeField.{residue-0}
 use Rattle.field.specs.Field.{inverseOf}
-use Rattle.field.proofs.Theorems.{residue-inverse}
+use Rattle.field.proofs.Field.{residue-inverse}
 use Rattle.lists.specs.Degrees.{significant}
 use Rattle.lists.proofs.Extents.{significant-le, after-significant}
 use Rattle.lists.specs.Words.{seriesOf}

@@ -29,8 +29,8 @@ pub fn shorten(
     ensures left { λ _. ⌜ final x ≡ wordsLeft field (take nx (given x)) (take ny (given y)) (given q) ++ drop nx (given x) ⌝ }
     ensures quotient { λ _. ⌜ final q ≡ quotientLeft field (take nx (given x)) (take ny (given y)) (given q) ⌝ }
 {
-    let mx = lists::smaller(nx, x.len());
-    let my = lists::smaller(ny, y.len());
+    let mx = words::smaller(nx, x.len());
+    let my = words::smaller(ny, y.len());
     let steps = round(field, inverses, &mut x[..mx], &y[..my], q);
     let left = lists::significant_words(&x[..mx]);
     Shortened { steps, left }

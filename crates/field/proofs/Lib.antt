@@ -1,4 +1,4 @@
 pub mod Words
 pub mod Answers
-pub mod FieldsLaws
-pub mod Theorems
+pub mod Fields
+pub mod Field

@@ -12,7 +12,7 @@ use Rattle.refusal.specs.declared.Refusal.the-variants.{LooseWord, AllZero}
 use Rattle.refusal.specs.declared.Outcome.the-variants.{Done, Refused}
 use Rattle.refusal.proofs.First.{first-is}
 use Rattle.field.specs.Field.{inverseRefusals, inverseOf, IsInverse}
-use Rattle.field.proofs.Theorems.{inverse-is, inverse-only, has-inverse}
+use Rattle.field.proofs.Field.{inverse-is, inverse-only, has-inverse}
 
 module _ (p a : ℕ) where
   pub inverse-loose : p ≤ a → lowest (inverseRefusals p a) ≡ Refused LooseWord

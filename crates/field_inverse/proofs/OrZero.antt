@@ -11,7 +11,7 @@ use Rattle.algebra.specs.PrimeField.{PrimeField, positive}
 use Rattle.refusal.specs.Refusal.{Reply, reply}
 use Rattle.refusal.specs.Lowest.{lowest}
 use Rattle.field.specs.Field.{wordReply, inverseRefusals, inverseOf, inverseOrZero}
-use Rattle.field.proofs.Theorems.{inverse-is}
+use Rattle.field.proofs.Field.{inverse-is}
 use Rattle.field.specs.declared.Word.{Word}
 use Rattle.field_inverse.proofs.Answers.{inverse-loose, inverse-zero, answered}
 

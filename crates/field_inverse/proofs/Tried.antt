@@ -9,7 +9,7 @@ use lib.Dec.{ltb, eqb}
 use borrow.Author.Tests.{ltb-true, eqb-true}
 use Rattle.algebra.specs.PrimeField.{PrimeField}
 use Rattle.field.specs.Field.{IsInverse, inverseOf}
-use Rattle.field.proofs.Theorems.{inverse-is}
+use Rattle.field.proofs.Field.{inverse-is}
 use Rattle.field_inverse.specs.Internal.{Leaves}
 use Rattle.field_inverse.proofs.Answers.{Found}
 

@@ -13,7 +13,7 @@ use lib.ListN.{length}
 use mir.Facts.{and-yes}
 use Rattle.algebra.specs.PrimeField.{PrimeField}
 use Rattle.field_tables.specs.Inverses.{inversesFrom, inverseTable}
-use Rattle.field.proofs.Theorems.{inverse-only}
+use Rattle.field.proofs.Field.{inverse-only}
 
 -- entry x of the number k: a word below p, and k · x leaves 1 modulo p; k counts on from entry to entry
 abbrev right : ℕ → ℕ → List ℕ → Bool

@@ -11,7 +11,7 @@ use native.Mathlib.Omega.{arith}
 use lib.ListN.{length, getD}
 use Rattle.algebra.specs.PrimeField.{PrimeField}
 use Rattle.field.specs.Field.{inverseOf}
-use Rattle.field.proofs.Theorems.{inverse-is}
+use Rattle.field.proofs.Field.{inverse-is}
 use Rattle.field_tables.specs.Inverses.{inversesFrom, inverseTable}
 
 module _ (F : PrimeField) where

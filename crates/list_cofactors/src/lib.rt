@@ -112,7 +112,7 @@ fn words_read(n: usize, nu: usize, nv: usize) -> usize
     requires { ⌜ (n ≤ maxWords) × (nu ≤ n) × (nv ≤ n) × (0 < nv) ⌝ }
     ensures { λ r. ⌜ (suc n - max nu nv ≤ r) × (r ≤ n) ⌝ }
 {
-    lists::smaller(n, (n + 8 - lists::larger(nu, nv)) / 8 * 8)
+    words::smaller(n, (n + 8 - words::larger(nu, nv)) / 8 * 8)
 }
 
 // One of Euclid's rounds on rows: u less the quotient times v. Their parts x have nu and nv significant words. The number of those that

@@ -31,7 +31,7 @@ fn judge_derivative(field: u8, f: &[u16], out: &[u16]) -> Outcome
     if let Outcome::Refused(why) = lists::judge_list(field, f) {
         return Outcome::Refused(why);
     }
-    if out.len() != lists::larger(f.len() - 1, 1) {
+    if out.len() != words::larger(f.len() - 1, 1) {
         return Outcome::Refused(Refusal::Misfit);
     }
     Outcome::Done

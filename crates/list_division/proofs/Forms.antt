@@ -10,7 +10,7 @@ use lib.ListN.{length, getD}
 use Rattle.algebra.specs.PrimeField.{PrimeField, scalarField, residue, inverse}
 use Rattle.algebra.specs.Division.{quotient, remainder}
 use Rattle.field.specs.Field.{inverseOf, inverseOrZero}
-use Rattle.field.proofs.Theorems.{residue-inverse}
+use Rattle.field.proofs.Field.{residue-inverse}
 use Rattle.field_inverse.proofs.OrZero.{inverse-some}
 use Rattle.lists.specs.Degrees.{naiveDegree}
 use Rattle.lists.specs.Lists.{word, scaled, unscaled}

@@ -20,7 +20,7 @@ use Rattle.refusal.specs.declared.Outcome.{Outcome}
 use Rattle.refusal.specs.declared.Outcome.the-variants.{Done, Refused}
 use Rattle.refusal.proofs.Answers.{result, kept}
 use Rattle.field.specs.Field.{inverseOf, inverseOrZero}
-use Rattle.field.proofs.Theorems.{residue-inverse}
+use Rattle.field.proofs.Field.{residue-inverse}
 use Rattle.field_inverse.proofs.OrZero.{inverse-some}
 use Rattle.field_tables.specs.Factorials.{Tables}
 use Rattle.lists.specs.declared.NaiveDegree.{NaiveDegree}

@@ -52,7 +52,7 @@ fn judge_sum(field: u8, f: &[u16], g: &[u16], out: &[u16]) -> Outcome
     if let Outcome::Refused(of_lists) = lists::judge_lists(field, f, g) {
         return Outcome::Refused(of_lists);
     }
-    if out.len() != lists::larger(f.len(), g.len()) {
+    if out.len() != words::larger(f.len(), g.len()) {
         return Outcome::Refused(Refusal::Misfit);
     }
     Outcome::Done

@@ -1,7 +1,7 @@
 // Lists of words: their two counters and the power between them, and what every call refuses in a list.
 ghost use mathlib.Core.Path.{_≡_};
 ghost use mathlib.Core.List.{[], _∷_};
-ghost use Prim.Native.Nat.{max, min, _-_};
+ghost use Prim.Native.Nat.{_-_};
 ghost use Rattle.refusal.specs.Lowest.{lowest};
 ghost use Rattle.field.specs.Fields.{modulus, longest};
 ghost use Rattle.lists.specs.Degrees.{naiveDegree, significant, extent, power};
@@ -19,7 +19,7 @@ pub struct Extent(pub usize);
 pub struct Power(pub usize);
 
 // The power by the two counters; 0 where the extent is the larger one, which no list has.
-pub fn power_of(degree: NaiveDegree, extent: Extent) -> Power
+fn power_of(degree: NaiveDegree, extent: Extent) -> Power
     ensures { λ r. ⌜ r .0 ≡ degree .0 - extent .0 ⌝ }
 {
     if degree.0 < extent.0 {
@@ -36,20 +36,6 @@ pub fn degree_of(list: &[u16]) -> NaiveDegree
         return NaiveDegree(0);
     }
     NaiveDegree(list.len() - 1)
-}
-
-// The larger of two numbers.
-pub fn larger(a: usize, b: usize) -> usize
-    ensures { λ r. ⌜ r ≡ max a b ⌝ }
-{
-    if a < b { b } else { a }
-}
-
-// The smaller of two numbers.
-pub fn smaller(a: usize, b: usize) -> usize
-    ensures { λ r. ⌜ r ≡ min a b ⌝ }
-{
-    if a < b { a } else { b }
 }
 
 // Whether a list has 0 words, or more than a list over the field may have.

@@ -16,12 +16,12 @@ use Rattle.algebra.proofs.Evaluation.{eval-more}
 use Rattle.algebra.specs.PrimeField.{PrimeField, positive, scalars, residue, value}
 use Rattle.algebra.proofs.PrimeField.{value-residue}
 use Rattle.field.specs.Fields.{longest, F65521}
-use Rattle.field.proofs.FieldsLaws.{longest-in}
+use Rattle.field.proofs.Fields.{longest-in}
 use Rattle.refusal.specs.Limits.{maxWords}
 use Rattle.refusal.specs.Lowest.{lowest}
 use Rattle.refusal.specs.declared.Outcome.the-variants.{Done}
 use Rattle.refusal.proofs.First.{first-then, refuse-done, or-else-done}
-use Rattle.field.proofs.Theorems.{residue-sum, residue-difference, residue-product, sum-lt, difference-lt, product-lt, inverse-is}
+use Rattle.field.proofs.Field.{residue-sum, residue-difference, residue-product, sum-lt, difference-lt, product-lt, inverse-is}
 use Rattle.lists.proofs.Bytes.{words-of-bytes, bytes-words}
 use Rattle.lists.specs.Degrees.{naiveDegree, significant}
 use Rattle.lists.specs.Refused.{listRefusals}

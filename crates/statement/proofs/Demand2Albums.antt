@@ -17,7 +17,7 @@ use Rattle.refusal.specs.Lowest.{lowest}
 use Rattle.refusal.specs.declared.Outcome.the-variants.{Done}
 use Rattle.refusal.proofs.First.{first-is, first-then, refuse-done, or-else-done}
 use Rattle.field.specs.Fields.{p, F65521, fieldAt, longest}
-use Rattle.field.proofs.FieldsLaws.{modulus-high, modulus-some}
+use Rattle.field.proofs.Fields.{modulus-high, modulus-some}
 use Rattle.lists.specs.Bytes.{Bytes, bytesOf}
 use Rattle.lists.specs.Refused.{hasLoose, anyOf}
 use Rattle.lists.proofs.Search.{tight}

@@ -9,7 +9,7 @@ use native.Mathlib.Omega.{arith}
 use lib.ListN.{getD}
 use Rattle.algebra.specs.PrimeField.{PrimeField}
 use Rattle.field.specs.Fields.{longest, F65521}
-use Rattle.field.proofs.FieldsLaws.{longest-in}
+use Rattle.field.proofs.Fields.{longest-in}
 use Rattle.refusal.specs.Limits.{maxWords}
 use Rattle.refusal.specs.Lowest.{lowest}
 use Rattle.refusal.specs.declared.Outcome.the-variants.{Done}

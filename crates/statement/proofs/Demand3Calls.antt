@@ -13,7 +13,7 @@ use Rattle.refusal.specs.Limits.{maxWords}
 use Rattle.refusal.specs.Refusal.{Reply, written}
 use Rattle.refusal.specs.Lowest.{lowest}
 use Rattle.field.specs.Fields.{p, longest, F65521, fieldAt}
-use Rattle.field.proofs.FieldsLaws.{longest-in}
+use Rattle.field.proofs.Fields.{longest-in}
 use Rattle.lists.specs.Degrees.{naiveDegree, significant}
 use Rattle.lists.specs.Lists.{Coefficients, meaning}
 use Rattle.euclid_theory.specs.Gcd.{identityDegree, gcdOf, cofactorA, cofactorB}

@@ -12,7 +12,7 @@ use Prim.Native.Nat.{ℕ, _+_, _-_, _*_, _/_, _%_, _<_, _≤_}
 use native.Mathlib.Nat.{mod-lt, mod-add-div, mod-add-mod, add-mod-mod, mul-comm, zero-add}
 use native.Mathlib.Omega.{arith}
 use Rattle.field.specs.Fields.{modulus, wordInverse, square}
-use Rattle.field.proofs.FieldsLaws.{modulus-half, word-inverse, square-is}
+use Rattle.field.proofs.Fields.{modulus-half, word-inverse, square-is}
 use Rattle.word_montgomery.proofs.Words.{remainder, same}
 use Rattle.word_row.specs.Montgomery.{Modulus, Factor}
 

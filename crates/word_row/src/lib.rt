@@ -10,7 +10,7 @@ ghost use Rattle.word_row.specs.Montgomery.{Modulus, Factor};
 pub fn add_row(field: u8, x: &mut [u16], m: u16, y: &[u16])
     ensures { λ _. ⌜ now (x .exit) ≡ row (modulus field) (now (x .entry)) m (now (y .entry)) ⌝ }
 {
-    let n = lists::smaller(x.len(), y.len());
+    let n = words::smaller(x.len(), y.len());
     let wide = n - n % 8;
     montgomery_row(
         x,
@@ -28,7 +28,7 @@ pub fn add_row(field: u8, x: &mut [u16], m: u16, y: &[u16])
 fn add_rest(field: u8, x: &mut [u16], m: u16, y: &[u16])
     ensures { λ _. ⌜ now (x .exit) ≡ row (modulus field) (now (x .entry)) m (now (y .entry)) ⌝ }
 {
-    let n = lists::smaller(x.len(), y.len());
+    let n = words::smaller(x.len(), y.len());
     let mut i = 0;
     while i < n {
         x[i] = field::add_mul(field, x[i], m, y[i]);

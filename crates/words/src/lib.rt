@@ -1,6 +1,7 @@
-// Words as bytes: two bytes to a word, low byte first. Each function is total: past the end of some bytes stand zeros.
+// Words as bytes: two bytes to a word, low byte first. Each function is total: past the end of some bytes stand zeros. And the larger and the
+// smaller of two numbers.
 ghost use mathlib.Core.Path.{_≡_};
-ghost use Prim.Native.Nat.{_/_, _%_, _<_};
+ghost use Prim.Native.Nat.{max, min, _/_, _%_, _<_};
 ghost use lib.ListN.{length, getD};
 ghost use Rattle.refusal.specs.Contract.{given, final};
 ghost use Rattle.lists.specs.Bytes.{byteValues, wordAt, wordsOf};
@@ -80,4 +81,18 @@ pub fn write_words(words: &[u16], bytes: &mut [u8])
         bytes[2 * k + 1] = high(words[k]);
         k += 1;
     }
+}
+
+// The larger of two numbers.
+pub fn larger(a: usize, b: usize) -> usize
+    ensures { λ r. ⌜ r ≡ max a b ⌝ }
+{
+    if a < b { b } else { a }
+}
+
+// The smaller of two numbers.
+pub fn smaller(a: usize, b: usize) -> usize
+    ensures { λ r. ⌜ r ≡ min a b ⌝ }
+{
+    if a < b { a } else { b }
 }

@@ -3,7 +3,7 @@
 use mathlib.Core.Path.{sym, _∙_}
 use native.Mathlib.Omega.{arith}
 use Rattle.field.specs.Fields.{fieldAt}
-use Rattle.field.proofs.FieldsLaws.{longest-in, longest-full}
+use Rattle.field.proofs.Fields.{longest-in, longest-full}
 use Rattle.album_layout.specs.Layout.{listsOf}
 use Rattle.album_layout.proofs.Passed.{passed-each}
 use Rattle.album_gcd.proofs.Judging.{judged-zero, judged-misfit, judged-done}

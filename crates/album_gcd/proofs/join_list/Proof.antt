@@ -5,7 +5,7 @@ use Prim.Native.Nat.{min}
 use native.Mathlib.Omega.{arith}
 use lib.ListN.{take}
 use Rattle.field.specs.Fields.{modulus, fieldAt, longest}
-use Rattle.field.proofs.FieldsLaws.{longest-in, longest-room}
+use Rattle.field.proofs.Fields.{longest-in, longest-room}
 use Rattle.lists.specs.Degrees.{significant}
 use Rattle.lists.specs.Refused.{IsList}
 use Rattle.list_gcd.specs.Calls.{gcdReply}

@@ -6,7 +6,7 @@ use Prim.Native.Nat.{_≤_, _-_}
 use native.Mathlib.Omega.{arith}
 use lib.ListN.{length}
 use Rattle.field.specs.Fields.{modulus, fieldAt, longest}
-use Rattle.field.proofs.FieldsLaws.{longest-full, longest-room}
+use Rattle.field.proofs.Fields.{longest-full, longest-room}
 use Rattle.album_layout.specs.Layout.{listAt, listsOf}
 use Rattle.album_layout.proofs.Places.{length-lists, list-at}
 use Rattle.album_layout.proofs.Passed.{passed-obeys, passed-each}

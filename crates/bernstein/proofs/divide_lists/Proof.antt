@@ -5,7 +5,7 @@ use Prim.Native.Nat.{ℕ}
 use native.Mathlib.Omega.{arith}
 use borrow.Author.Needs.{needs}
 use Rattle.field.specs.Fields.{longest}
-use Rattle.field.proofs.FieldsLaws.{longest-room}
+use Rattle.field.proofs.Fields.{longest-room}
 use Rattle.lists.specs.Bytes.{wordCount}
 use Rattle.bernstein.specs.Internal.{roomOf}
 use Rattle.bernstein.proofs.Fits.{good-half, list-part, room-short, room-part}

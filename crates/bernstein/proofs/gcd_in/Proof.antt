@@ -3,7 +3,7 @@
 use native.Mathlib.Omega.{arith}
 use borrow.Author.Needs.{needs}
 use Rattle.field.specs.Fields.{modulus, fieldAt, longest}
-use Rattle.field.proofs.FieldsLaws.{longest-some, longest-room}
+use Rattle.field.proofs.Fields.{longest-some, longest-room}
 use Rattle.bernstein.proofs.Calls.{GcdCall, gcd-fits, gcd-small, gcd-done, gcd-refused}
 use Rattle.bernstein.proofs.gcd_in.Statement.{statement}
 use Rattle.bernstein.proofs.gcd_in.Tie as tie

@@ -4,7 +4,7 @@ use mathlib.Core.Path.{sym, ap, _∙_}
 use Prim.Native.Nat.{ℕ, _*_}
 use native.Mathlib.Omega.{arith}
 use borrow.Author.Needs.{needs}
-use Rattle.field.proofs.FieldsLaws.{longest-room}
+use Rattle.field.proofs.Fields.{longest-room}
 use Rattle.bernstein.proofs.Fits.{no-h, no-answer, both}
 use Rattle.bernstein.proofs.gcd_room.Statement.{statement}
 use Rattle.bernstein.proofs.gcd_room.Tie as tie

@@ -4,7 +4,7 @@ use native.Mathlib.Omega.{arith}
 use lib.ListN.{length-take}
 use borrow.Author.Needs.{needs}
 use Rattle.field.specs.Fields.{fieldAt}
-use Rattle.field.proofs.FieldsLaws.{p-at}
+use Rattle.field.proofs.Fields.{p-at}
 use Rattle.lists.proofs.Extents.{significant-le}
 use Rattle.euclid_round.proofs.Divided.{zero-divisor, loose-last, no-step, no-room, divided}
 use Rattle.euclid_round.proofs.round.Statement.{statement}

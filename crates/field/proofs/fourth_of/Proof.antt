@@ -1,7 +1,7 @@
 -- `field::fourth_of` meets its contract.
 -- Assumes nothing.
 use Rattle.field.specs.Fields.{fourth}
-use Rattle.field.proofs.FieldsLaws.{third}
+use Rattle.field.proofs.Fields.{third}
 use Rattle.field.proofs.fourth_of.Statement.{statement}
 use Rattle.field.proofs.fourth_of.Tie as tie
 

@@ -1,7 +1,7 @@
 -- `field::modulus_of` meets its contract.
 -- Assumes nothing.
 use Rattle.field.specs.Fields.{modulus}
-use Rattle.field.proofs.FieldsLaws.{third}
+use Rattle.field.proofs.Fields.{third}
 use Rattle.field.proofs.modulus_of.Statement.{statement}
 use Rattle.field.proofs.modulus_of.Tie as tie
 

@@ -2,7 +2,7 @@
 -- Assumes nothing.
 use borrow.Author.Needs.{needs}
 use Rattle.field.specs.Fields.{modulus}
-use Rattle.field.proofs.FieldsLaws.{third}
+use Rattle.field.proofs.Fields.{third}
 use Rattle.field.proofs.reduce.Statement.{statement}
 use Rattle.field.proofs.reduce.Tie as tie
 

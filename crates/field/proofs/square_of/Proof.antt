@@ -1,7 +1,7 @@
 -- `field::square_of` meets its contract.
 -- Assumes nothing.
 use Rattle.field.specs.Fields.{square}
-use Rattle.field.proofs.FieldsLaws.{third}
+use Rattle.field.proofs.Fields.{third}
 use Rattle.field.proofs.square_of.Statement.{statement}
 use Rattle.field.proofs.square_of.Tie as tie
 

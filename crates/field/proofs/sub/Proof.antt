@@ -6,7 +6,7 @@ use native.Mathlib.Nat.{mod-lt}
 use native.Mathlib.Omega.{arith}
 use borrow.Author.Needs.{needs}
 use Rattle.field.specs.Fields.{modulus}
-use Rattle.field.proofs.FieldsLaws.{modulus-some}
+use Rattle.field.proofs.Fields.{modulus-some}
 use Rattle.field.proofs.sub.Statement.{statement}
 use Rattle.field.proofs.sub.Tie as tie
 

@@ -1,7 +1,7 @@
 -- `field::word_inverse_of` meets its contract.
 -- Assumes nothing.
 use Rattle.field.specs.Fields.{wordInverse}
-use Rattle.field.proofs.FieldsLaws.{third}
+use Rattle.field.proofs.Fields.{third}
 use Rattle.field.proofs.word_inverse_of.Statement.{statement}
 use Rattle.field.proofs.word_inverse_of.Tie as tie
 

@@ -5,7 +5,7 @@ use Prim.Native.Nat.{ℕ, _+_, _-_, _%_}
 use native.Mathlib.Omega.{arith}
 use borrow.Author.Needs.{needs}
 use Rattle.field.specs.Fields.{modulus}
-use Rattle.field.proofs.FieldsLaws.{modulus-high}
+use Rattle.field.proofs.Fields.{modulus-high}
 use Rattle.field_inverse.proofs.Signed.{Negated, negated, Kept, kept}
 use Rattle.field_inverse.proofs.brought_back.Statement.{statement}
 use Rattle.field_inverse.proofs.brought_back.Tie as tie

@@ -2,7 +2,7 @@
 -- Assumes nothing.
 use mathlib.Core.Path.{sym, _∙_}
 use Rattle.field.specs.Fields.{fieldAt}
-use Rattle.field.proofs.FieldsLaws.{p-at}
+use Rattle.field.proofs.Fields.{p-at}
 use Rattle.field_inverse.proofs.Tried.{tried, of-one}
 use borrow.Author.Needs.{needs}
 use Rattle.field_inverse.proofs.find.Statement.{statement}

@@ -3,7 +3,7 @@
 use mathlib.Core.Path.{sym, _∙_, ap}
 use borrow.Author.Needs.{needs}
 use Rattle.field.specs.Fields.{fieldAt}
-use Rattle.field.proofs.FieldsLaws.{p-at}
+use Rattle.field.proofs.Fields.{p-at}
 use Rattle.field_inverse.proofs.OrZero.{wordOrZero, inverse-word}
 use Rattle.field_inverse.proofs.inverse_or_zero.Statement.{statement}
 use Rattle.field_inverse.proofs.inverse_or_zero.Tie as tie

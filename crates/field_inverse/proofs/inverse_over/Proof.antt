@@ -5,7 +5,7 @@ use mathlib.Core.Logic.{inl, inr}
 use native.Mathlib.Omega.{arith}
 use Rattle.field.specs.Field.{inverseOf}
 use Rattle.field.specs.Fields.{fieldAt, modulus}
-use Rattle.field.proofs.FieldsLaws.{p-at}
+use Rattle.field.proofs.Fields.{p-at}
 use Rattle.field_inverse.proofs.Answers.{inverse-loose, inverse-zero, answered}
 use Rattle.field_inverse.proofs.Tried.{is-found, not-zero}
 use borrow.Author.Needs.{needs}

@@ -7,7 +7,7 @@ use native.Mathlib.Nat.{mod-lt}
 use native.Mathlib.Omega.{arith}
 use borrow.Author.Needs.{needs}
 use Rattle.field.specs.Fields.{modulus, prime-at}
-use Rattle.field.proofs.FieldsLaws.{modulus-high}
+use Rattle.field.proofs.Fields.{modulus-high}
 use Rattle.field_inverse.specs.Internal.{Leaves}
 use Rattle.field_inverse.proofs.Euclid.{Steps, started, divided, falling, second-low, Stepped, stepped}
 use Rattle.field_inverse.proofs.LastStep.{some-left, Ended, ended}

@@ -4,7 +4,7 @@ use Prim.Native.Nat.{_<_}
 use native.Mathlib.Omega.{arith}
 use borrow.Author.Needs.{needs}
 use Rattle.field.specs.Fields.{fieldAt}
-use Rattle.field.proofs.FieldsLaws.{longest-more}
+use Rattle.field.proofs.Fields.{longest-more}
 use Rattle.list_cofactors.proofs.Results.{nonzero-row, slices-short, results}
 use Rattle.list_cofactors.proofs.cofactors_in.Statement.{statement}
 use Rattle.list_cofactors.proofs.cofactors_in.Tie as tie

@@ -6,7 +6,7 @@ use Prim.Native.Nat.{ℕ}
 use native.Mathlib.Omega.{arith}
 use Rattle.algebra.specs.PrimeField.{PrimeField}
 use Rattle.field.specs.Fields.{fieldAt}
-use Rattle.field.proofs.FieldsLaws.{longest-more, longest-room}
+use Rattle.field.proofs.Fields.{longest-more, longest-room}
 use Rattle.field_tables.specs.Factorials.{Tables}
 use Rattle.list_cofactors.specs.Internal.{Started}
 use Rattle.list_cofactors.proofs.Results.{found}

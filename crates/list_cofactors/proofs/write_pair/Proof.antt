@@ -7,7 +7,7 @@ use native.Mathlib.Omega.{arith}
 use lib.ListN.{length, take, drop, length-take, length-drop}
 use borrow.Author.Needs.{needs}
 use Rattle.field.specs.Fields.{fieldAt}
-use Rattle.field.proofs.FieldsLaws.{p-at, longest-in}
+use Rattle.field.proofs.Fields.{p-at, longest-in}
 use Rattle.list_cofactors.proofs.Parts.{rest-is}
 use Rattle.list_cofactors.proofs.WrittenRow.{front-kept, pair-written}
 use Rattle.list_cofactors.proofs.write_pair.Statement.{statement}

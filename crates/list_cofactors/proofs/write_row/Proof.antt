@@ -6,7 +6,7 @@ use native.Mathlib.Omega.{arith}
 use lib.ListN.{length, take, drop, length-take}
 use borrow.Author.Needs.{needs}
 use Rattle.field.specs.Fields.{fieldAt}
-use Rattle.field.proofs.FieldsLaws.{p-at, longest-in}
+use Rattle.field.proofs.Fields.{p-at, longest-in}
 use Rattle.lists.proofs.Extents.{significant-le}
 use Rattle.list_cofactors.proofs.Parts.{length-rest}
 use Rattle.list_cofactors.proofs.WrittenRow.{front-kept, row-written}

@@ -6,7 +6,7 @@ use native.Mathlib.Omega.{arith}
 use lib.ListN.{length, length-set}
 use borrow.Author.Needs.{needs}
 use Rattle.field.specs.Fields.{fieldAt}
-use Rattle.field.proofs.FieldsLaws.{p-at, longest-room}
+use Rattle.field.proofs.Fields.{p-at, longest-room}
 use Rattle.lists.specs.Operations.{derivative}
 use Rattle.lists.proofs.Filled.{Filled, fill-start, fill-step, fill-end}
 use Rattle.list_derivative.proofs.Derived.{length-is, word-is}

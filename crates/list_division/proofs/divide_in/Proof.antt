@@ -2,7 +2,7 @@
 -- Assumes nothing.
 use mathlib.Core.Path.{_∙_}
 use Rattle.field.specs.Fields.{fieldAt}
-use Rattle.field.proofs.FieldsLaws.{p-at, longest-in}
+use Rattle.field.proofs.Fields.{p-at, longest-in}
 use Rattle.list_division.proofs.Forms.{last-inverse, quotient-is, remainder-is}
 use borrow.Author.Needs.{needs}
 use Rattle.list_division.proofs.divide_in.Statement.{statement}

@@ -4,7 +4,7 @@ use mathlib.Core.Path.{_≡_, sym, _∙_}
 use mathlib.Core.List.{List}
 use Prim.Native.Nat.{ℕ}
 use Rattle.field.specs.Fields.{modulus, fieldAt, longest}
-use Rattle.field.proofs.FieldsLaws.{longest-in}
+use Rattle.field.proofs.Fields.{longest-in}
 use Rattle.refusal.specs.Lowest.{lowest}
 use Rattle.refusal.specs.declared.Outcome.the-variants.{Done}
 use Rattle.list_division.specs.Calls.{divideRows}

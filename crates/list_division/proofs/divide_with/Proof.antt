@@ -3,7 +3,7 @@
 use mathlib.Core.Path.{refl, sym}
 use native.Mathlib.Omega.{arith}
 use Rattle.refusal.specs.Limits.{maxWords}
-use Rattle.field.proofs.FieldsLaws.{longest-room}
+use Rattle.field.proofs.Fields.{longest-room}
 use Rattle.lists.proofs.Parts.{prefix-length}
 use borrow.Author.Needs.{needs}
 use Rattle.list_division.proofs.divide_with.Statement.{statement}

@@ -2,7 +2,7 @@
 -- Assumes nothing.
 use borrow.Author.Needs.{needs}
 use Rattle.field.specs.Fields.{fieldAt}
-use Rattle.field.proofs.FieldsLaws.{p-at, longest-in}
+use Rattle.field.proofs.Fields.{p-at, longest-in}
 use Rattle.word_scaling.proofs.Weights.{scale-is}
 use Rattle.list_extent.proofs.Trimmed.{trimmed}
 use Rattle.list_extent.proofs.trim_in.Statement.{statement}

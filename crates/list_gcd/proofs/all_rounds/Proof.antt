@@ -7,7 +7,7 @@ use Prim.Native.Nat.{_+_}
 use lib.ListN.{length}
 use borrow.Author.Needs.{needs}
 use Rattle.field.specs.Fields.{fieldAt, longest}
-use Rattle.field.proofs.FieldsLaws.{longest-room}
+use Rattle.field.proofs.Fields.{longest-room}
 use Rattle.lists.specs.Degrees.{significant}
 use Rattle.list_gcd.specs.Internal.{Led}
 use Rattle.list_gcd.proofs.Alternating.{LedOn, led-start, led-on, led-end}

@@ -5,7 +5,7 @@ use mathlib.Core.List.{List}
 use Prim.Native.Nat.{ℕ}
 use lib.ListN.{length}
 use Rattle.field.specs.Fields.{modulus, fieldAt, longest}
-use Rattle.field.proofs.FieldsLaws.{longest-in}
+use Rattle.field.proofs.Fields.{longest-in}
 use Rattle.refusal.specs.Lowest.{lowest}
 use Rattle.refusal.specs.declared.Outcome.the-variants.{Done}
 use Rattle.list_gcd.specs.Calls.{gcdRows}

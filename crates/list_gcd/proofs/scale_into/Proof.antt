@@ -3,7 +3,7 @@
 use native.Mathlib.Omega.{arith}
 use lib.ListN.{length-take}
 use Rattle.field.specs.Fields.{fieldAt}
-use Rattle.field.proofs.FieldsLaws.{p-at, longest-in}
+use Rattle.field.proofs.Fields.{p-at, longest-in}
 use Rattle.list_gcd.proofs.Buffers.{holds-scaled}
 use borrow.Author.Needs.{needs}
 use Rattle.list_gcd.proofs.scale_into.Statement.{statement}

@@ -2,7 +2,7 @@
 -- Assumes nothing.
 use native.Mathlib.Omega.{arith}
 use Rattle.field.specs.Fields.{fieldAt}
-use Rattle.field.proofs.FieldsLaws.{p-at, longest-in}
+use Rattle.field.proofs.Fields.{p-at, longest-in}
 use Rattle.lists.proofs.Extents.{significant-le}
 use Rattle.list_gcd.proofs.Finish.{gcd-written}
 use borrow.Author.Needs.{needs}

@@ -5,7 +5,7 @@ use mathlib.Core.List.{[], _∷_}
 use native.Mathlib.Omega.{arith}
 use borrow.Author.Needs.{needs}
 use Rattle.field.specs.Fields.{modulus, longest}
-use Rattle.field.proofs.FieldsLaws.{modulus-some, longest-room}
+use Rattle.field.proofs.Fields.{modulus-some, longest-room}
 use Rattle.refusal.specs.Lowest.{lowest}
 use Rattle.refusal.specs.declared.Outcome.the-variants.{Done}
 use Rattle.lists.specs.Refused.{listRefusals}

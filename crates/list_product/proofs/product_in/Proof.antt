@@ -2,7 +2,7 @@
 -- Assumes nothing.
 use borrow.Author.Needs.{needs}
 use Rattle.field.specs.Fields.{fieldAt}
-use Rattle.field.proofs.FieldsLaws.{p-at, longest-in, longest-room}
+use Rattle.field.proofs.Fields.{p-at, longest-in, longest-room}
 use Rattle.list_product.proofs.Products.{product-is}
 use Rattle.list_product.proofs.product_in.Statement.{statement}
 use Rattle.list_product.proofs.product_in.Tie as tie

@@ -3,7 +3,7 @@
 use mathlib.Core.Path.{ap, sym, _∙_}
 use borrow.Author.Needs.{needs}
 use Rattle.field.specs.Fields.{fieldAt}
-use Rattle.field.proofs.FieldsLaws.{modulus-some}
+use Rattle.field.proofs.Fields.{modulus-some}
 use Rattle.lists.specs.Operations.{raise}
 use Rattle.refusal.proofs.Answers.{done, refused}
 use Rattle.list_product.proofs.Judged.{raise-fits}

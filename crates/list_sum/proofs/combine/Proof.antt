@@ -2,7 +2,7 @@
 -- Assumes nothing.
 use mathlib.Core.Path.{sym, _∙_}
 use borrow.Author.Needs.{needs}
-use Rattle.field.proofs.FieldsLaws.{modulus-some}
+use Rattle.field.proofs.Fields.{modulus-some}
 use Rattle.refusal.proofs.Answers.{done, refused}
 use Rattle.list_sum.proofs.Judged.{sum-fits}
 use Rattle.list_sum.proofs.combine.Statement.{statement}

@@ -2,7 +2,7 @@
 -- Assumes nothing.
 use borrow.Author.Needs.{needs}
 use Rattle.field.specs.Fields.{fieldAt}
-use Rattle.field.proofs.FieldsLaws.{modulus-some}
+use Rattle.field.proofs.Fields.{modulus-some}
 use Rattle.list_sum.proofs.Sums.{combined-is}
 use Rattle.list_sum.proofs.combine_in.Statement.{statement}
 use Rattle.list_sum.proofs.combine_in.Tie as tie

@@ -6,7 +6,7 @@ use native.Mathlib.Omega.{arith}
 use lib.ListN.{length, length-set}
 use borrow.Author.Needs.{needs}
 use Rattle.field.specs.Fields.{fieldAt}
-use Rattle.field.proofs.FieldsLaws.{p-at}
+use Rattle.field.proofs.Fields.{p-at}
 use Rattle.lists.proofs.Filled.{Filled, fill-start, fill-step, fill-end}
 use Rattle.list_sum.specs.Internal.{combinedWords}
 use Rattle.list_sum.proofs.Sums.{combined-word, length-combinedWords}

@@ -3,7 +3,7 @@
 use mathlib.Core.Path.{sym, _∙_}
 use native.Mathlib.Omega.{arith}
 use borrow.Author.Needs.{needs}
-use Rattle.field.proofs.FieldsLaws.{modulus-some}
+use Rattle.field.proofs.Fields.{modulus-some}
 use Rattle.list_sum.proofs.Judged.{sum-refused, sum-misfit, sum-done}
 use Rattle.list_sum.proofs.judge_sum.Statement.{statement}
 use Rattle.list_sum.proofs.judge_sum.Tie as tie

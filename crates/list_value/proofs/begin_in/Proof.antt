@@ -3,7 +3,7 @@
 use mathlib.Core.Path.{_∙_, ap}
 use borrow.Author.Needs.{needs}
 use Rattle.field.specs.Fields.{fieldAt}
-use Rattle.field.proofs.FieldsLaws.{p-at}
+use Rattle.field.proofs.Fields.{p-at}
 use Rattle.list_value.specs.Internal.{powerOf}
 use Rattle.list_value.proofs.Weights.{weights-are}
 use Rattle.list_value.proofs.Groups.{ungrouped}

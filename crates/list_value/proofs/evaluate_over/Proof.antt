@@ -4,7 +4,7 @@ use mathlib.Core.Path.{sym, ap, _∙_}
 use mathlib.Core.List.{[], _∷_}
 use Prim.Native.Nat.{ℕ}
 use borrow.Author.Needs.{needs}
-use Rattle.field.proofs.FieldsLaws.{modulus-some}
+use Rattle.field.proofs.Fields.{modulus-some}
 use Rattle.refusal.specs.Refusal.{reply}
 use Rattle.refusal.specs.declared.Outcome.the-variants.{Done}
 use Rattle.list_value.proofs.Judged.{evaluate-short}

@@ -7,7 +7,7 @@ use native.Mathlib.Omega.{arith}
 use lib.ListN.{length, length-set}
 use borrow.Author.Needs.{needs}
 use Rattle.field.specs.Fields.{fieldAt}
-use Rattle.field.proofs.FieldsLaws.{p-at, modulus-half}
+use Rattle.field.proofs.Fields.{p-at, modulus-half}
 use Rattle.lists.proofs.Filled.{Filled, fill-start, fill-step, fill-end}
 use Rattle.list_value.specs.Internal.{powerOf, powersOf}
 use Rattle.list_value.proofs.Weights.{length-powers, word-powers, power-start, power-next}

@@ -7,7 +7,7 @@ use native.Mathlib.Omega.{arith}
 use lib.ListN.{length}
 use borrow.Author.Needs.{needs}
 use Rattle.field.specs.Fields.{fieldAt}
-use Rattle.field.proofs.FieldsLaws.{p-at}
+use Rattle.field.proofs.Fields.{p-at}
 use Rattle.list_value.specs.Internal.{groups, Terms}
 use Rattle.list_value.proofs.Values.{terms-start, terms-next}
 use Rattle.list_value.proofs.Groups.{group-sum}

@@ -3,7 +3,7 @@
 use mathlib.Core.Path.{_∙_}
 use borrow.Author.Needs.{needs}
 use Rattle.field.specs.Fields.{fieldAt}
-use Rattle.field.proofs.FieldsLaws.{p-at, longest-in}
+use Rattle.field.proofs.Fields.{p-at, longest-in}
 use Rattle.word_scaling.proofs.Weights.{scale-is}
 use Rattle.list_value.proofs.Values.{evaluated}
 use Rattle.list_value.proofs.value_in.Statement.{statement}

@@ -8,7 +8,7 @@ use native.Mathlib.Omega.{arith}
 use lib.ListN.{length}
 use borrow.Author.Needs.{needs}
 use Rattle.field.specs.Fields.{modulus}
-use Rattle.field.proofs.FieldsLaws.{modulus-some}
+use Rattle.field.proofs.Fields.{modulus-some}
 use Rattle.lists.specs.Refused.{hasLoose}
 use Rattle.lists.proofs.Largest.{looseFrom, loose-start, loose-larger, loose-smaller, loose-end}
 use Rattle.lists.proofs.has_loose.Statement.{statement}

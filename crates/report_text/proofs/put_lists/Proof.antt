@@ -1,7 +1,7 @@
 -- `report_text::put_lists` meets its contract. The loop's invariant: the lines of the lists below i are put, and the room for a list keeps
 -- its length. The measure is the number of lists left.
 -- Assumes nothing.
-use Rattle.field.proofs.FieldsLaws.{longest-full}
+use Rattle.field.proofs.Fields.{longest-full}
 use mathlib.Core.Path.{_≡_, refl, sym, _∙_, ap}
 use mathlib.Core.List.{[]}
 use Prim.Native.Nat.{_-_, _≤_}

@@ -6,7 +6,7 @@ use native.Mathlib.Omega.{arith}
 use lib.ListN.{length-take}
 use borrow.Author.Needs.{needs}
 use Rattle.refusal.specs.Limits.{maxWords}
-use Rattle.field.proofs.FieldsLaws.{longest-room}
+use Rattle.field.proofs.Fields.{longest-room}
 use Rattle.list_gcd.proofs.Buffers.{length-part}
 use Rattle.report_text.proofs.report_between.Statement.{statement}
 use Rattle.report_text.proofs.report_between.Tie as tie

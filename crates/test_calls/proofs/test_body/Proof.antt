@@ -17,10 +17,10 @@ same-length : tie.Need-same-length
 same-length c = search needs
 
 returns : tie.Need-returns
-returns c = copied (bodyOf 0 (c .before .before .before .before .before .before .before .before .args .album .now) (c .before .before .before .before .before .before .before .before .args .i)) (c .before .before .before .before .before .before .before .before .args .out .now) (c .before .before .before .before .before .body .result .now) (c .before .before .before .before .before .body .ensures) (c .before .before .before .before .if1 .taken) (c .before .before .copy .ensures)
+returns c = copied (bodyOf 0 (c .before .before .before .before .before .before .before .before .args .album .now) (c .before .before .before .before .before .before .before .before .args .i)) (c .before .before .before .before .before .before .before .before .args .out .now) (c .before .before .before .before .before .body .result .now) (c .before .before .before .before .before .body .ensures .0) (c .before .before .before .before .if1 .taken) (c .before .before .copy .ensures)
 
 returns-2 : tie.Need-returns-2
-returns-2 c = left-out (bodyOf 0 (c .before .before .before .before .args .album .now) (c .before .before .before .before .args .i)) (c .before .before .before .before .args .out .now) (c .before .body .result .now) (c .before .body .ensures) (c .if1 .left)
+returns-2 c = left-out (bodyOf 0 (c .before .before .before .before .args .album .now) (c .before .before .before .before .args .i)) (c .before .before .before .before .args .out .now) (c .before .body .result .now) (c .before .body .ensures .0) (c .if1 .left)
 
 pub test-body-spec : {M : Type 1} → statement M
 test-body-spec =

@@ -38,9 +38,7 @@ use denote.Triple.Spec.{Meets, tripleOf}
 use denote.Triple.Table.{entered, cited}
 use denote.Triple.Clauses.{ensured, lasts}
 use denote.Triple.Walked.{says, onExit, Stays, stay-dropped, gave-slice, walkOf, goes-dropped, goes-gave-slice, Walks, ends-at, walked, walk-meets}
-use Rattle.refusal.specs.Limits.{maxLists}
-use Rattle.refusal.specs.Refusal.{outcomeNumber, reply, outcomeReply}
-use Rattle.refusal.specs.Lowest.{lowest}
+use Rattle.refusal.specs.Refusal.{outcomeNumber, outcomeReply}
 use Rattle.refusal.specs.declared.Outcome.{Outcome}
 use Rattle.refusal.proofs.Outcome as S
 use Rattle.refusal.proofs.Outcome.Laws as S′
@@ -48,8 +46,7 @@ use Rattle.refusal.proofs.outcome_number as number
 use Rattle.refusal.proofs.outcome_number.Symbol as number-def
 use Rattle.refusal.proofs.outcome_number.Symbol.{name as #number}
 use Rattle.refusal.proofs.outcome_number.Met as number-thm
-use Rattle.field.specs.Fields.{p}
-use Rattle.album_contents.specs.Calls.{contentsRefusals, filled, recordsFrom}
+use Rattle.album_contents.specs.Calls.{contentsAnswer, contentsWritten}
 use Rattle.album_contents.specs.declared.Entry.{Entry}
 use Rattle.album_contents.proofs.Entry as T
 use Rattle.album_contents.proofs.contents as contents
@@ -95,17 +92,14 @@ module _ {M : Type 1} (𝓤 : URA M) (H : Heap 𝓤) (A : Atoms 𝓤) (W : Given
   abbrev Post : Val → SProp 𝓤
   Post = walkOf 𝓤 H A test.ended stayed (test.clauses 𝓤 H A mem run) .post bound
 
-  abbrev Refusals : Outcome
-  Refusals = lowest (contentsRefusals p (now s) xs)
-
   abbrev Answers : Outcome → Type 0
-  Answers r = outcomeReply r ≡ reply Refusals []
+  Answers r = outcomeReply r ≡ contentsAnswer 0 (now s) xs
 
   abbrev Numbered : ℕ → Type 0
-  Numbered m = m ≡ outcomeNumber Refusals
+  Numbered m = m ≡ contentsAnswer 0 (now s) xs .number
 
   abbrev Writes : List Entry → Type 0
-  Writes ws = ws ≡ filled Refusals (recordsFrom (now s) 0 maxLists) xs
+  Writes ws = ws ≡ contentsWritten 0 (now s) xs
 
   abbrev Exit : ℕ → Val → List Entry → SProp 𝓤
   Exit m v ws = onExit 𝓤 H A test.ended stayed (κ, (κ′, tt)) (q, (q′, tt)) vals v m a (tt, (ws, tt))
@@ -167,7 +161,7 @@ module _ {M : Type 1} (𝓤 : URA M) (H : Heap 𝓤) (A : Atoms 𝓤) (W : Given
       -- [the tokens; the last records; _5; …; _0; …]
       returns ! (look ! 12 refl) $ forget ! 2 refl $ forget ! 4 refl $ forget ! 6 refl $ forget ! 8 refl $ forget ! 10 refl $ forget ! 12 refl $
       move ! (12 ∷ 13 ∷ []) $ free1 ! $ move ! (10 ∷ 11 ∷ []) $ free1 ! $ move ! (8 ∷ 9 ∷ []) $ free1 ! $ move ! (6 ∷ 7 ∷ []) $ free1 ! $ move ! (4 ∷ 5 ∷ []) $ free1 ! $ move ! (2 ∷ 3 ∷ []) $ free1 ! $ free0 ! $
-      by ! (exits m v js (counted Refusals r e f) (ws .1 .0) w len))))))))))))))))))
+      by ! (exits m v js (counted r e f) (ws .1 .0) w len))))))))))))))))))
 
 module _ {M : Type 1} (𝓤 : URA M) (H : Heap 𝓤) (A : Atoms 𝓤) (W : Given 𝓤 H A) (mem : Memory → SProp 𝓤) (run : Routine → Fun 𝓤) (𝓣 : Tables 𝓤 H)
     (known : Triple 𝓤 (𝓣 .C #contents) (Contents 𝓤 H A mem run)) (known-number : Triple 𝓤 (𝓣 .C #number) (Number 𝓤 H A mem run)) where

@@ -4,7 +4,7 @@ use mathlib.Core.Path.{_∙_}
 use native.Mathlib.Omega.{arith}
 use lib.ListN.{length}
 use Rattle.field.specs.Fields.{fieldAt}
-use Rattle.field.proofs.FieldsLaws.{p-at}
+use Rattle.field.proofs.Fields.{p-at}
 use Rattle.word_product.proofs.Convolution.{convolution-is}
 use borrow.Author.Needs.{needs}
 use Rattle.word_product.proofs.convolve_in.Statement.{statement}

@@ -5,7 +5,7 @@ use Prim.Native.Nat.{ℕ, _*_, _%_, _<_}
 use native.Mathlib.Nat.{mod-lt}
 use native.Mathlib.Omega.{arith}
 use Rattle.field.specs.Fields.{modulus, fieldAt}
-use Rattle.field.proofs.FieldsLaws.{modulus-some, p-at, fourth-is}
+use Rattle.field.proofs.Fields.{modulus-some, p-at, fourth-is}
 use Rattle.word_montgomery.specs.Montgomery.{montgomery}
 use Rattle.word_montgomery.proofs.Montgomery.{montgomery-below}
 use Rattle.word_scaling.proofs.Products.{constants-of, product-of-four}

@@ -11,7 +11,7 @@
 --     hasInverse p a            some word below p is
 --     operandRefusals p a b     the rows of document 01's table for a call on two operands
 --     inverseRefusals p a       those for the inverse
--- Theorems (proofs/Theorems), on words below p, for every prime field:
+-- Theorems (proofs/Field), on words below p, for every prime field:
 --     residue-sum, residue-difference, residue-product, residue-inverse     each operation is the field's, on residues
 --     sum-lt, difference-lt, product-lt                                     each result is a coefficient
 --     inverse-is                                                            every coefficient but 0 has its inverse, and inverseOf is it

@@ -8,7 +8,7 @@
 --     fourth k          2^64 modulo p
 --     p, F65521         document 01's p and its field: those of field 0
 --     computes          stands for all that a closed computation over a field has to open: say `unfolding computes`
--- Theorems (proofs/FieldsLaws):
+-- Theorems (proofs/Fields):
 --     word-inverse, square-is, fourth-is     the constants are what their names say
 --     longest-fits                           no list over a field has more than p words
 -- Assumes nothing.

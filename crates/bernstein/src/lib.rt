@@ -150,7 +150,8 @@ fn product_in(
     out: &mut [u8],
 ) -> u8
     requires { ⌜ (badList (longest field) (now f) ≡ false) × (badList (longest field) (now g) ≡ false) ⌝ }
-    requires { ⌜ (length (now a) ≡ wordCount (now f)) × (length (now b) ≡ wordCount (now g)) × (length (now c) ≡ roomOf (longest field) 0 (now out)) ⌝ }
+    requires { ⌜ (length (now a) ≡ wordCount (now f)) × (length (now b) ≡ wordCount (now g))
+        × (length (now c) ≡ roomOf (longest field) 0 (now out)) ⌝ }
     ensures { λ r. ⌜ r ≡ hostProductAnswer field (given f) (given g) (given out) ⌝ }
     ensures { λ _. ⌜ final out ≡ hostProductWritten field (given f) (given g) (given out) ⌝ }
 {
@@ -194,7 +195,8 @@ fn divide_in(
     r: &mut [u8],
 ) -> u8
     requires { ⌜ (badList (longest field) (now g) ≡ false) × (badList (longest field) (now f) ≡ false) ⌝ }
-    requires { ⌜ (length (now a) ≡ wordCount (now g)) × (length (now b) ≡ wordCount (now f)) × (length (now c) ≡ roomOf (longest field) 0 (now q)) × (length (now d) ≡ roomOf (longest field) (longest field) (now r)) ⌝ }
+    requires { ⌜ (length (now a) ≡ wordCount (now g)) × (length (now b) ≡ wordCount (now f))
+        × (length (now c) ≡ roomOf (longest field) 0 (now q)) × (length (now d) ≡ roomOf (longest field) (longest field) (now r)) ⌝ }
     ensures { λ a. ⌜ a ≡ hostDivisionAnswer field (given g) (given f) (given q) (given r) ⌝ }
     ensures { λ _. ⌜ final q ≡ hostQuotientWritten field (given g) (given f) (given q) (given r) ⌝ }
     ensures { λ _. ⌜ final r ≡ hostRemainderWritten field (given g) (given f) (given q) (given r) ⌝ }
@@ -261,7 +263,8 @@ fn gcd_in(
     answer: &mut [u8],
 ) -> u8
     requires { ⌜ (badList (longest field) (now f) ≡ false) × (badList (longest field) (now g) ≡ false) ⌝ }
-    requires { ⌜ (length (now a) ≡ wordCount (now f)) × (length (now b) ≡ wordCount (now g)) × (length (now c) ≡ gcdRoom (longest field) (now h) (now answer)) ⌝ }
+    requires { ⌜ (length (now a) ≡ wordCount (now f)) × (length (now b) ≡ wordCount (now g))
+        × (length (now c) ≡ gcdRoom (longest field) (now h) (now answer)) ⌝ }
     ensures { λ r. ⌜ r ≡ hostGcdAnswer field (given f) (given g) (given h) (given answer) ⌝ }
     ensures { λ _. ⌜ final h ≡ hostGcdWritten field (given f) (given g) (given h) (given answer) ⌝ }
     ensures { λ _. ⌜ final answer ≡ hostValuesWritten field (given f) (given g) (given h) (given answer) ⌝ }

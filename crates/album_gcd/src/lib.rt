@@ -78,7 +78,8 @@ fn gcd_in(
     h: &mut [u16],
 ) -> Gcd
     requires { ⌜ Passed (modulus field) (now album) ⌝ }
-    requires { ⌜ (length (now list) ≡ longest field) × (length (now last) ≡ longest field) × (length (now result) ≡ longest field) ⌝ }
+    requires { ⌜ (length (now list) ≡ longest field) × (length (now last) ≡ longest field)
+        × (length (now result) ≡ longest field) ⌝ }
     requires { ⌜ ((k : ℕ) → getD (now result) k 0 ≡ 0) ⌝ }
     ensures { λ r. ⌜ Answered (fieldAt field) (longest field) (given album) (given h) (final h) r ⌝ }
 {
@@ -115,9 +116,11 @@ fn join_lists(
     result: &mut [u16],
 ) -> SoFar
     requires { ⌜ Passed (modulus field) (now album) ⌝ }
-    requires { ⌜ (length (now list) ≡ longest field) × (length (now last) ≡ longest field) × (length (now result) ≡ longest field) ⌝ }
+    requires { ⌜ (length (now list) ≡ longest field) × (length (now last) ≡ longest field)
+        × (length (now result) ≡ longest field) ⌝ }
     requires { ⌜ ((k : ℕ) → getD (now result) k 0 ≡ 0) ⌝ }
-    ensures { λ r. ⌜ Folded (fieldAt field) (longest field) (listsOf (given album)) (final result) (r .words) (r .rounds) (r .least) ⌝ }
+    ensures { λ r. ⌜ Folded (fieldAt field) (longest field) (listsOf (given album))
+        (final result) (r .words) (r .rounds) (r .least) ⌝ }
 {
     let n = words::byte_at(album, 0);
     let mut used = 1;
@@ -152,7 +155,8 @@ fn join_list(
     requires { ⌜ IsList (modulus field) (longest field) (now list) ⌝ }
     requires { ⌜ Held (modulus field) (longest field) (now result) used (take used (now result)) ⌝ }
     requires { ⌜ (length (now last) ≡ longest field) × (rounds ≤ maxWords * maxLists) ⌝ }
-    ensures { λ r. ⌜ Joined (fieldAt field) (longest field) (take used (given result)) rounds least (given list) (final result) (r .words) (r .rounds) (r .least) ⌝ }
+    ensures { λ r. ⌜ Joined (fieldAt field) (longest field) (take used (given result)) rounds least (given list)
+        (final result) (r .words) (r .rounds) (r .least) ⌝ }
 {
     if lists::significant_words(list) == 0 {
         return SoFar {

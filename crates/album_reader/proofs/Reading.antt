@@ -6,7 +6,7 @@ use Prim.Native.Nat.{ℕ, _+_, _-_, _/_, _≤_, _<_}
 use native.Mathlib.Omega.{arith}
 use lib.ListN.{length}
 use borrow.Author.Tests.{lt-ltb, le-ltb}
-use Rattle.refusal.specs.Refusal.{number, reply, written}
+use Rattle.refusal.specs.Refusal.{number}
 use Rattle.refusal.specs.Lowest.{lowest}
 use Rattle.refusal.specs.declared.Refusal.{Refusal}
 use Rattle.refusal.specs.declared.Refusal.the-variants.{Misfit}
@@ -24,7 +24,7 @@ use Rattle.album_layout.specs.Internal.{Obeys, bodyAt}
 use Rattle.album_layout.proofs.Places.{length-list}
 use Rattle.album_layout.proofs.Judged.{call-fine}
 use Rattle.album_layout.proofs.Bodies.{body-bytes}
-use Rattle.album_reader.specs.Calls.{readRows, readAnswer, readWritten}
+use Rattle.album_reader.specs.Calls.{readAnswer, readWritten}
 use Rattle.album_reader.specs.Internal.{wordsRead, leftAt}
 use Rattle.album_reader.proofs.Judged.{read-refused, read-misfit, read-done}
 

@@ -30,7 +30,7 @@ use Rattle.list_gcd.specs.declared.Rounds.{Rounds}
 use Rattle.list_gcd.specs.Calls as E
 use Rattle.list_gcd.specs.Calls.{gcdReply, gcdValues, Greatest}
 use Rattle.lists.specs.Bytes.{wordsOf, bytesOf}
-use Rattle.bernstein.specs.Calls.{productRowsOver, divisionRowsOver, gcdRowsOver}
+use Rattle.bernstein.specs.Calls.{hostProductRows, hostDivisionRows, hostGcdRows}
 use Rattle.bernstein.specs.Internal.{badList, roomOf, gcdRoom}
 use Rattle.bernstein.proofs.Fits.{good-list, both}
 use Rattle.bernstein.proofs.Rows.{product-rows, product-whole, division-rows, division-whole, gcd-rows, gcd-whole}
@@ -64,12 +64,12 @@ module _ (most : ℕ) where
 
 module _ {most : ℕ} where
   module _ {p : ℕ} {f g out a b c : List ℕ} {answer : Outcome} (call : ProductCall most p f g out a b c answer) where
-    product-same : lowest (P.productRows p most a b c) ≡ lowest (productRowsOver p most f g out)
+    product-same : lowest (P.productRows p most a b c) ≡ lowest (hostProductRows p most f g out)
     product-same =
         ap₂ (λ x y. lowest (P.productRows p most x y c)) (call .words-f) (call .words-g)
         ∙ product-rows most p f g out c (call .good-f) (call .good-g) (call .room)
 
-    product-completes : answer ≡ Done → lowest (productRowsOver p most f g out) ≡ Done
+    product-completes : answer ≡ Done → lowest (hostProductRows p most f g out) ≡ Done
     product-completes d =
         sym product-same ∙ done-reply (lowest (P.productRows p most a b c)) [] [] (sym (ap outcomeReply d) ∙ call .says) .0
 
@@ -78,8 +78,8 @@ module _ {most : ℕ} where
 
     pub product-done : answer ≡ Done → (F : PrimeField) {c′ out′ : List ℕ}
         → c′ ≡ written (lowest (P.productRows p most a b c)) (product F a b) c → out′ ≡ bytesOf c′
-        → (0 ≡ outcomeNumber (lowest (productRowsOver p most f g out)))
-        × (out′ ≡ written (lowest (productRowsOver p most f g out)) (bytesOf (product F (wordsOf f) (wordsOf g))) out)
+        → (0 ≡ outcomeNumber (lowest (hostProductRows p most f g out)))
+        × (out′ ≡ written (lowest (hostProductRows p most f g out)) (bytesOf (product F (wordsOf f) (wordsOf g))) out)
     product-done d F w o = (
       sym (ap outcomeNumber (product-completes d)),
       wrote (product F (wordsOf f) (wordsOf g)) out c product-same (product-completes d)
@@ -87,18 +87,18 @@ module _ {most : ℕ} where
     )
 
     pub product-refused : {why : Refusal} → answer ≡ Refused why → {n : ℕ} → n ≡ number why → (new : List ℕ)
-        → (n ≡ outcomeNumber (lowest (productRowsOver p most f g out))) × (out ≡ written (lowest (productRowsOver p most f g out)) new out)
+        → (n ≡ outcomeNumber (lowest (hostProductRows p most f g out))) × (out ≡ written (lowest (hostProductRows p most f g out)) new out)
     product-refused {why} r e new =
         let h = refused-reply why (lowest (P.productRows p most a b c)) [] (sym (ap outcomeReply r) ∙ call .says) in
         (e ∙ h .0 ∙ ap outcomeNumber product-same, h .1 new out ∙ ap (λ o. written o new out) product-same)
 
   module _ {p : ℕ} {g f q r a b c d : List ℕ} {answer : Outcome} (call : DivisionCall most p g f q r a b c d answer) where
-    division-same : lowest (D.divideRows p most a b c d) ≡ lowest (divisionRowsOver p most g f q r)
+    division-same : lowest (D.divideRows p most a b c d) ≡ lowest (hostDivisionRows p most g f q r)
     division-same =
         ap₂ (λ x y. lowest (D.divideRows p most x y c d)) (call .words-g) (call .words-f)
         ∙ division-rows most p g f q r (call .good-g) (call .good-f) c d (call .room-q) (call .room-r)
 
-    division-completes : answer ≡ Done → lowest (divisionRowsOver p most g f q r) ≡ Done
+    division-completes : answer ≡ Done → lowest (hostDivisionRows p most g f q r) ≡ Done
     division-completes e =
         sym division-same ∙ done-reply (lowest (D.divideRows p most a b c d)) [] [] (sym (ap outcomeReply e) ∙ call .says) .0
 
@@ -111,9 +111,9 @@ module _ {most : ℕ} where
         → c′ ≡ written (lowest (D.divideRows p most a b c d)) (quotientOf F a b) c
         → d′ ≡ written (lowest (D.divideRows p most a b c d)) (remainderOf F a b) d
         → q′ ≡ bytesOf c′ → r′ ≡ bytesOf d′
-        → (0 ≡ outcomeNumber (lowest (divisionRowsOver p most g f q r)))
-        × ((q′ ≡ written (lowest (divisionRowsOver p most g f q r)) (bytesOf (quotientOf F (wordsOf g) (wordsOf f))) q)
-        × (r′ ≡ written (lowest (divisionRowsOver p most g f q r)) (bytesOf (remainderOf F (wordsOf g) (wordsOf f))) r))
+        → (0 ≡ outcomeNumber (lowest (hostDivisionRows p most g f q r)))
+        × ((q′ ≡ written (lowest (hostDivisionRows p most g f q r)) (bytesOf (quotientOf F (wordsOf g) (wordsOf f))) q)
+        × (r′ ≡ written (lowest (hostDivisionRows p most g f q r)) (bytesOf (remainderOf F (wordsOf g) (wordsOf f))) r))
     division-done e F wc wd oq or = (
       sym (ap outcomeNumber (division-completes e)),
       (
@@ -125,8 +125,8 @@ module _ {most : ℕ} where
     )
 
     pub division-refused : {why : Refusal} → answer ≡ Refused why → {n : ℕ} → n ≡ number why → (new-q new-r : List ℕ)
-        → (n ≡ outcomeNumber (lowest (divisionRowsOver p most g f q r))) × ((q ≡ written (lowest (divisionRowsOver p most g f q r)) new-q q)
-        × (r ≡ written (lowest (divisionRowsOver p most g f q r)) new-r r))
+        → (n ≡ outcomeNumber (lowest (hostDivisionRows p most g f q r))) × ((q ≡ written (lowest (hostDivisionRows p most g f q r)) new-q q)
+        × (r ≡ written (lowest (hostDivisionRows p most g f q r)) new-r r))
     division-refused {why} w e new-q new-r =
         let h = refused-reply why (lowest (D.divideRows p most a b c d)) [] (sym (ap outcomeReply w) ∙ call .says) in (
           e ∙ h .0 ∙ ap outcomeNumber division-same,
@@ -134,7 +134,7 @@ module _ {most : ℕ} where
         )
 
   module _ (some : 0 < most) (room : most ≤ maxWords) {F : PrimeField} {p : ℕ} {f g h answer a b c : List ℕ} {found : Gcd} (call : GcdCall most F p f g h answer a b c found) where
-    gcd-same : lowest (E.gcdRows p most a b c) ≡ lowest (gcdRowsOver p most f g h answer)
+    gcd-same : lowest (E.gcdRows p most a b c) ≡ lowest (hostGcdRows p most f g h answer)
     gcd-same =
         ap₂ (λ x y. lowest (E.gcdRows p most x y c)) (call .words-f) (call .words-g)
         ∙ gcd-rows most p f g h answer some c (call .good-f) (call .good-g) (call .room)
@@ -143,7 +143,7 @@ module _ {most : ℕ} where
       told : (lowest (E.gcdRows p most a b c) ≡ Done) × (w .0 ∷ power .0 ∷ rounds .0 ∷ [] ≡ gcdValues F a b)
       told = done-reply (lowest (E.gcdRows p most a b c)) (w .0 ∷ power .0 ∷ rounds .0 ∷ []) (gcdValues F a b) (sym (ap gcdReply d) ∙ call .says)
 
-      gcd-completes : lowest (gcdRowsOver p most f g h answer) ≡ Done
+      gcd-completes : lowest (hostGcdRows p most f g h answer) ≡ Done
       gcd-completes = sym gcd-same ∙ told .0
 
       pub gcd-fits : (length h ≡ 2 * length c) × (length c ≡ most) × (length answer ≡ 6)
@@ -162,9 +162,9 @@ module _ {most : ℕ} where
 
       pub gcd-done : {c′ h′ answer′ : List ℕ} → c′ ≡ written (lowest (E.gcdRows p most a b c)) (padded most (gcdOf F a b)) c
           → h′ ≡ bytesOf c′ → answer′ ≡ bytesOf (w .0 ∷ power .0 ∷ rounds .0 ∷ [])
-          → (0 ≡ outcomeNumber (lowest (gcdRowsOver p most f g h answer)))
-          × ((h′ ≡ written (lowest (gcdRowsOver p most f g h answer)) (bytesOf (padded most (gcdOf F (wordsOf f) (wordsOf g)))) h)
-          × (answer′ ≡ written (lowest (gcdRowsOver p most f g h answer)) (bytesOf (gcdValues F (wordsOf f) (wordsOf g))) answer))
+          → (0 ≡ outcomeNumber (lowest (hostGcdRows p most f g h answer)))
+          × ((h′ ≡ written (lowest (hostGcdRows p most f g h answer)) (bytesOf (padded most (gcdOf F (wordsOf f) (wordsOf g)))) h)
+          × (answer′ ≡ written (lowest (hostGcdRows p most f g h answer)) (bytesOf (gcdValues F (wordsOf f) (wordsOf g))) answer))
       gcd-done wc oh oa = (
         sym (ap outcomeNumber gcd-completes),
         (
@@ -176,8 +176,8 @@ module _ {most : ℕ} where
       )
 
     pub gcd-refused : {why : Refusal} → found ≡ G.Refused why → {n : ℕ} → n ≡ number why → (new-h new-answer : List ℕ)
-        → (n ≡ outcomeNumber (lowest (gcdRowsOver p most f g h answer))) × ((h ≡ written (lowest (gcdRowsOver p most f g h answer)) new-h h)
-        × (answer ≡ written (lowest (gcdRowsOver p most f g h answer)) new-answer answer))
+        → (n ≡ outcomeNumber (lowest (hostGcdRows p most f g h answer))) × ((h ≡ written (lowest (hostGcdRows p most f g h answer)) new-h h)
+        × (answer ≡ written (lowest (hostGcdRows p most f g h answer)) new-answer answer))
     gcd-refused {why} w e new-h new-answer =
         let k = refused-reply why (lowest (E.gcdRows p most a b c)) (gcdValues F a b) (sym (ap gcdReply w) ∙ call .says) in (
           e ∙ k .0 ∙ ap outcomeNumber gcd-same,

@@ -23,7 +23,7 @@ use Rattle.lists.proofs.Bytes.{length-wordsOf, words-of-bytes}
 use Rattle.list_product.specs.Calls as P
 use Rattle.list_division.specs.Calls as D
 use Rattle.list_gcd.specs.Calls as G
-use Rattle.bernstein.specs.Calls.{productRowsOver, divisionRowsOver, gcdRowsOver}
+use Rattle.bernstein.specs.Calls.{hostProductRows, hostDivisionRows, hostGcdRows}
 use Rattle.bernstein.specs.Internal.{badList}
 use Rattle.bernstein.proofs.Fits.{both}
 use Rattle.bernstein.proofs.Rows.{product-bad, product-rows, product-whole, division-bad, division-rows, division-whole, gcd-bad, gcd-rows, gcd-whole}
@@ -53,20 +53,20 @@ module _ (most : ℕ) where
       go true h = let z = ap outcomeNumber (sym e ∙ h refl) in absurd (omega arith)
       go false h = refl
 
-  pub product-judged : (p : ℕ) (f g out : List ℕ) → lowest (productRowsOver p most f g out) ≡ Done
+  pub product-judged : (p : ℕ) (f g out : List ℕ) → lowest (hostProductRows p most f g out) ≡ Done
       → lowest (P.productRows p most (wordsOf f) (wordsOf g) (wordsOf out)) ≡ Done
   product-judged p f g out e =
       let good = good-both f g e (product-bad most p f g out) in
       product-rows most p f g out (wordsOf out) (good .0) (good .1) (words-whole out _ (product-whole most p f g out e)) ∙ e
 
-  pub division-judged : (p : ℕ) (g f q r : List ℕ) → lowest (divisionRowsOver p most g f q r) ≡ Done
+  pub division-judged : (p : ℕ) (g f q r : List ℕ) → lowest (hostDivisionRows p most g f q r) ≡ Done
       → lowest (D.divideRows p most (wordsOf g) (wordsOf f) (wordsOf q) (wordsOf r)) ≡ Done
   division-judged p g f q r e =
       let good = good-both g f e (division-bad most p g f q r) in
       let whole = division-whole most p g f q r (good .0) (good .1) e in
       division-rows most p g f q r (good .0) (good .1) (wordsOf q) (wordsOf r) (words-whole q _ (whole .0)) (words-whole r _ (whole .1)) ∙ e
 
-  pub gcd-judged : 0 < most → (p : ℕ) (f g h answer : List ℕ) → lowest (gcdRowsOver p most f g h answer) ≡ Done
+  pub gcd-judged : 0 < most → (p : ℕ) (f g h answer : List ℕ) → lowest (hostGcdRows p most f g h answer) ≡ Done
       → lowest (G.gcdRows p most (wordsOf f) (wordsOf g) (wordsOf h)) ≡ Done
   gcd-judged some p f g h answer e =
       let good = good-both f g e (gcd-bad most p f g h answer) in

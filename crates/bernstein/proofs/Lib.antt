@@ -1,4 +1,3 @@
-pub mod Words
 pub mod Fits
 pub mod Rows
 pub mod Judged

@@ -20,7 +20,7 @@ use Rattle.list_product.specs.Calls as P
 use Rattle.list_division.specs.Calls as D
 use Rattle.list_gcd.specs.Calls as G
 use Rattle.lists.specs.Bytes.{oddBytes, wordsOf}
-use Rattle.bernstein.specs.Calls.{listsRefused, misfit, productRowsOver, divisionRowsOver, gcdRowsOver}
+use Rattle.bernstein.specs.Calls.{listsRefused, misfit, hostProductRows, hostDivisionRows, hostGcdRows}
 use Rattle.bernstein.specs.Internal.{badList, roomOf, gcdRoom}
 use Rattle.bernstein.proofs.Fits.{good-list, fits, room-fits, room-whole, gcd-room-fits}
 
@@ -60,20 +60,20 @@ module _ (most : ℕ) where
     d : ℕ
     d = naiveDegree (wordsOf f) + naiveDegree (wordsOf g)
 
-    product-chain : lowest (productRowsOver p most f g out) ≡ judged p f g (refuse (ltb most (suc d)) Over (refuse (misfit (suc d) out) Misfit Done))
-    unfolding productRowsOver listsRefused badList d
-    product-chain = first-is (productRowsOver p most f g out) tt
+    product-chain : lowest (hostProductRows p most f g out) ≡ judged p f g (refuse (ltb most (suc d)) Over (refuse (misfit (suc d) out) Misfit Done))
+    unfolding hostProductRows listsRefused badList d
+    product-chain = first-is (hostProductRows p most f g out) tt
 
     product-words : (c : List ℕ) → lowest (P.productRows p most (wordsOf f) (wordsOf g) c)
         ≡ judgedWords p (wordsOf f) (wordsOf g) (refuse (ltb most (suc d)) Over (refuse (not (eqb (length c) (suc d))) Misfit Done))
     unfolding P.productRows listRefusals d
     product-words c = first-is (P.productRows p most (wordsOf f) (wordsOf g) c) tt
 
-    pub product-bad : (badList most f || badList most g) ≡ true → lowest (productRowsOver p most f g out) ≡ Refused Length
+    pub product-bad : (badList most f || badList most g) ≡ true → lowest (hostProductRows p most f g out) ≡ Refused Length
     product-bad e = product-chain ∙ judged-bad p f g _ e
 
     pub product-rows : (c : List ℕ) → badList most f ≡ false → badList most g ≡ false → length c ≡ roomOf most 0 out
-        → lowest (P.productRows p most (wordsOf f) (wordsOf g) c) ≡ lowest (productRowsOver p most f g out)
+        → lowest (P.productRows p most (wordsOf f) (wordsOf g) c) ≡ lowest (hostProductRows p most f g out)
     product-rows c ef eg e =
         product-words c ∙ judged-same p f g _ ef eg
         ∙ ap (judged p f g) (before-misfit (ltb most (suc d)) same)
@@ -83,7 +83,7 @@ module _ (most : ℕ) where
         same b = let l = ltb-false most (suc d) b in rw e (room-fits most 0 (suc d) out (omega arith) (λ z. omega arith))
 
     -- where the call completes, the words of the result are those of its bytes
-    pub product-whole : lowest (productRowsOver p most f g out) ≡ Done → length out ≡ 2 * roomOf most 0 out
+    pub product-whole : lowest (hostProductRows p most f g out) ≡ Done → length out ≡ 2 * roomOf most 0 out
     product-whole e =
         let o = refuse-done (ltb most (suc d)) _ _ (judged-done p f g _ (sym product-chain ∙ e)) in
         let m = refuse-done (misfit (suc d) out) _ _ (o .1) in
@@ -91,13 +91,13 @@ module _ (most : ℕ) where
         room-whole most 0 (suc d) out (omega arith) (m .0)
 
   module _ (p : ℕ) (g f q r : List ℕ) where
-    division-chain : lowest (divisionRowsOver p most g f q r)
+    division-chain : lowest (hostDivisionRows p most g f q r)
         ≡ judged p g f
         (refuse (ltb (length (wordsOf g)) (length (wordsOf f))) Backwards
         (refuse (eqb (getD (wordsOf f) (naiveDegree (wordsOf f)) 0) 0) Vanishes
         (refuse (misfit (steps (wordsOf g) (wordsOf f)) q || misfit (naiveDegree (wordsOf f)) r) Misfit Done)))
-    unfolding divisionRowsOver listsRefused badList
-    division-chain = first-is (divisionRowsOver p most g f q r) tt
+    unfolding hostDivisionRows listsRefused badList
+    division-chain = first-is (hostDivisionRows p most g f q r) tt
 
     division-words : (c d : List ℕ) → lowest (D.divideRows p most (wordsOf g) (wordsOf f) c d)
         ≡ judgedWords p (wordsOf g) (wordsOf f)
@@ -107,7 +107,7 @@ module _ (most : ℕ) where
     unfolding D.divideRows listRefusals
     division-words c d = first-is (D.divideRows p most (wordsOf g) (wordsOf f) c d) tt
 
-    pub division-bad : (badList most g || badList most f) ≡ true → lowest (divisionRowsOver p most g f q r) ≡ Refused Length
+    pub division-bad : (badList most g || badList most f) ≡ true → lowest (hostDivisionRows p most g f q r) ≡ Refused Length
     division-bad e = division-chain ∙ judged-bad p g f _ e
 
     module _ (eg : badList most g ≡ false) (ef : badList most f ≡ false) where
@@ -124,7 +124,7 @@ module _ (most : ℕ) where
       remainder-short = let l = good-list most f ef in omega arith
 
       pub division-rows : (c d : List ℕ) → length c ≡ roomOf most 0 q → length d ≡ roomOf most most r
-          → lowest (D.divideRows p most (wordsOf g) (wordsOf f) c d) ≡ lowest (divisionRowsOver p most g f q r)
+          → lowest (D.divideRows p most (wordsOf g) (wordsOf f) c d) ≡ lowest (hostDivisionRows p most g f q r)
       division-rows c d ec ed =
           let s = remainder-short in
           division-words c d ∙ judged-same p g f _ eg ef
@@ -136,7 +136,7 @@ module _ (most : ℕ) where
           ))
           ∙ sym division-chain
 
-      pub division-whole : lowest (divisionRowsOver p most g f q r) ≡ Done → (length q ≡ 2 * roomOf most 0 q) × (length r ≡ 2 * roomOf most most r)
+      pub division-whole : lowest (hostDivisionRows p most g f q r) ≡ Done → (length q ≡ 2 * roomOf most 0 q) × (length r ≡ 2 * roomOf most most r)
       division-whole e =
           let s = remainder-short in
           let b = refuse-done (ltb (length (wordsOf g)) (length (wordsOf f))) _ _ (judged-done p g f _ (sym division-chain ∙ e)) in
@@ -148,21 +148,21 @@ module _ (most : ℕ) where
     zero : Bool
     zero = eqb (significant (wordsOf f) + significant (wordsOf g)) 0
 
-    gcd-chain : lowest (gcdRowsOver p most f g h answer)
+    gcd-chain : lowest (hostGcdRows p most f g h answer)
         ≡ judged p f g (refuse zero AllZero (refuse (misfit most h || misfit 3 answer) Misfit Done))
-    unfolding gcdRowsOver listsRefused badList zero
-    gcd-chain = first-is (gcdRowsOver p most f g h answer) tt
+    unfolding hostGcdRows listsRefused badList zero
+    gcd-chain = first-is (hostGcdRows p most f g h answer) tt
 
     gcd-words : (c : List ℕ) → lowest (G.gcdRows p most (wordsOf f) (wordsOf g) c)
         ≡ judgedWords p (wordsOf f) (wordsOf g) (refuse zero AllZero (refuse (not (eqb (length c) most)) Misfit Done))
     unfolding G.gcdRows listRefusals zero
     gcd-words c = first-is (G.gcdRows p most (wordsOf f) (wordsOf g) c) tt
 
-    pub gcd-bad : (badList most f || badList most g) ≡ true → lowest (gcdRowsOver p most f g h answer) ≡ Refused Length
+    pub gcd-bad : (badList most f || badList most g) ≡ true → lowest (hostGcdRows p most f g h answer) ≡ Refused Length
     gcd-bad e = gcd-chain ∙ judged-bad p f g _ e
 
     pub gcd-rows : 0 < most → (c : List ℕ) → badList most f ≡ false → badList most g ≡ false → length c ≡ gcdRoom most h answer
-        → lowest (G.gcdRows p most (wordsOf f) (wordsOf g) c) ≡ lowest (gcdRowsOver p most f g h answer)
+        → lowest (G.gcdRows p most (wordsOf f) (wordsOf g) c) ≡ lowest (hostGcdRows p most f g h answer)
     gcd-rows some c ef eg e =
         gcd-words c ∙ judged-same p f g _ ef eg
         ∙ ap (λ m. judged p f g (refuse zero AllZero (refuse m Misfit Done))) same
@@ -171,7 +171,7 @@ module _ (most : ℕ) where
         same : not (eqb (length c) most) ≡ (misfit most h || misfit 3 answer)
         same = rw e (gcd-room-fits most some h answer)
 
-    pub gcd-whole : lowest (gcdRowsOver p most f g h answer) ≡ Done
+    pub gcd-whole : lowest (hostGcdRows p most f g h answer) ≡ Done
         → (length h ≡ 2 * most) × (length answer ≡ 6) × ¬ (significant (wordsOf f) + significant (wordsOf g) ≡ 0)
     unfolding zero
     gcd-whole e =

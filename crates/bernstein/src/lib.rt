@@ -3,19 +3,14 @@
 ghost use mathlib.Core.Path.{_≡_};
 ghost use mathlib.Core.Bool.{false};
 ghost use mathlib.Core.List.{[], _∷_};
-ghost use Prim.Native.Nat.{_+_, _*_, _/_, _%_, _<_};
+ghost use Prim.Native.Nat.{_<_};
 ghost use lib.ListN.{length};
-ghost use Rattle.field.specs.Fields.{modulus, fieldAt, longest, p, F65521};
-ghost use Rattle.refusal.specs.Limits.{maxWords};
-ghost use Rattle.refusal.specs.Refusal.{outcomeNumber, written};
-ghost use Rattle.refusal.specs.Lowest.{lowest};
-ghost use Rattle.lists.specs.Operations as of;
-ghost use Rattle.euclid_theory.specs.Division.{quotientOf, remainderOf};
-ghost use Rattle.euclid_theory.specs.Gcd.{gcdOf};
-ghost use Rattle.lists.specs.Padded.{padded};
-ghost use Rattle.list_gcd.specs.Calls.{gcdValues};
-ghost use Rattle.lists.specs.Bytes.{wordCount, wordsOf, bytesOf};
-ghost use Rattle.bernstein.specs.Calls.{productRows, divisionRows, gcdRows, productRowsOver, divisionRowsOver, gcdRowsOver};
+ghost use Rattle.field.specs.Fields.{longest};
+ghost use Rattle.refusal.specs.Contract.{given, final};
+ghost use Rattle.lists.specs.Bytes.{wordCount, bytesOf};
+ghost use Rattle.bernstein.specs.Calls.{hostProductAnswer, hostProductWritten};
+ghost use Rattle.bernstein.specs.Calls.{hostDivisionAnswer, hostQuotientWritten, hostRemainderWritten};
+ghost use Rattle.bernstein.specs.Calls.{hostGcdAnswer, hostGcdWritten, hostValuesWritten};
 ghost use Rattle.bernstein.specs.Internal.{badList, roomOf, gcdRoom};
 use list_gcd::Gcd;
 use list_gcd::Rounds;
@@ -33,8 +28,10 @@ const ANSWER_BYTES: usize = 6;
 // The product of f and g.
 #[no_mangle]
 pub extern "C" fn bernstein_product(f: &[u8], g: &[u8], out: &mut [u8]) -> u8
-    ensures answer { λ r. ⌜ r ≡ outcomeNumber (lowest (productRows p (now (f .entry)) (now (g .entry)) (now (out .entry)))) ⌝ }
-    ensures writes { λ _. ⌜ now (out .exit) ≡ written (lowest (productRows p (now (f .entry)) (now (g .entry)) (now (out .entry)))) (bytesOf (of.product F65521 (wordsOf (now (f .entry))) (wordsOf (now (g .entry))))) (now (out .entry)) ⌝ }
+    ensures answer { λ r. ⌜ r ≡ hostProductAnswer 0 (given f) (given g) (given out) ⌝ }
+    ensures writes { λ _. ⌜ final out ≡ hostProductWritten 0 (given f) (given g) (given out) ⌝ }
+    ensures demand1 { λ r. ⌜ Demand1 (hostProductRows p maxWords (given f) (given g) (given out)) r (slice out ∷ []) ⌝ }
+    ensures demand2 { λ r. ⌜ HostProductSo F65521 (given f) (given g) (final out) r ⌝ }
 {
     product_over(0, f, g, out)
 }
@@ -42,9 +39,11 @@ pub extern "C" fn bernstein_product(f: &[u8], g: &[u8], out: &mut [u8]) -> u8
 // g divided by f: the quotient goes to q, the remainder to r.
 #[no_mangle]
 pub extern "C" fn bernstein_division(g: &[u8], f: &[u8], q: &mut [u8], r: &mut [u8]) -> u8
-    ensures answer { λ a. ⌜ a ≡ outcomeNumber (lowest (divisionRows p (now (g .entry)) (now (f .entry)) (now (q .entry)) (now (r .entry)))) ⌝ }
-    ensures quotient { λ _. ⌜ now (q .exit) ≡ written (lowest (divisionRows p (now (g .entry)) (now (f .entry)) (now (q .entry)) (now (r .entry)))) (bytesOf (quotientOf F65521 (wordsOf (now (g .entry))) (wordsOf (now (f .entry))))) (now (q .entry)) ⌝ }
-    ensures remainder { λ _. ⌜ now (r .exit) ≡ written (lowest (divisionRows p (now (g .entry)) (now (f .entry)) (now (q .entry)) (now (r .entry)))) (bytesOf (remainderOf F65521 (wordsOf (now (g .entry))) (wordsOf (now (f .entry))))) (now (r .entry)) ⌝ }
+    ensures answer { λ a. ⌜ a ≡ hostDivisionAnswer 0 (given g) (given f) (given q) (given r) ⌝ }
+    ensures quotient { λ _. ⌜ final q ≡ hostQuotientWritten 0 (given g) (given f) (given q) (given r) ⌝ }
+    ensures remainder { λ _. ⌜ final r ≡ hostRemainderWritten 0 (given g) (given f) (given q) (given r) ⌝ }
+    ensures demand1 { λ a. ⌜ Demand1 (hostDivisionRows p maxWords (given g) (given f) (given q) (given r)) a (slice q ∷ slice r ∷ []) ⌝ }
+    ensures demand3 { λ a. ⌜ HostDivisionSo F65521 (given g) (given f) (final q) (final r) a ⌝ }
 {
     divide_over(0, g, f, q, r)
 }
@@ -52,17 +51,19 @@ pub extern "C" fn bernstein_division(g: &[u8], f: &[u8], q: &mut [u8], r: &mut [
 // The GCD of f and g: h, as many words as the longest list has; the answer, three words: w, c and rounds.
 #[no_mangle]
 pub extern "C" fn bernstein_gcd(f: &[u8], g: &[u8], h: &mut [u8], answer: &mut [u8]) -> u8
-    ensures answer { λ r. ⌜ r ≡ outcomeNumber (lowest (gcdRows p (now (f .entry)) (now (g .entry)) (now (h .entry)) (now (answer .entry)))) ⌝ }
-    ensures writes { λ _. ⌜ now (h .exit) ≡ written (lowest (gcdRows p (now (f .entry)) (now (g .entry)) (now (h .entry)) (now (answer .entry)))) (bytesOf (padded maxWords (gcdOf F65521 (wordsOf (now (f .entry))) (wordsOf (now (g .entry)))))) (now (h .entry)) ⌝ }
-    ensures values { λ _. ⌜ now (answer .exit) ≡ written (lowest (gcdRows p (now (f .entry)) (now (g .entry)) (now (h .entry)) (now (answer .entry)))) (bytesOf (gcdValues F65521 (wordsOf (now (f .entry))) (wordsOf (now (g .entry))))) (now (answer .entry)) ⌝ }
+    ensures answer { λ r. ⌜ r ≡ hostGcdAnswer 0 (given f) (given g) (given h) (given answer) ⌝ }
+    ensures writes { λ _. ⌜ final h ≡ hostGcdWritten 0 (given f) (given g) (given h) (given answer) ⌝ }
+    ensures values { λ _. ⌜ final answer ≡ hostValuesWritten 0 (given f) (given g) (given h) (given answer) ⌝ }
+    ensures demand1 { λ r. ⌜ Demand1 (hostGcdRows p maxWords (given f) (given g) (given h) (given answer)) r (slice h ∷ slice answer ∷ []) ⌝ }
+    ensures demand3 { λ r. ⌜ HostGcdSo F65521 (given f) (given g) (final h) (final answer) r ⌝ }
 {
     gcd_over(0, f, g, h, answer)
 }
 
 // The same over a field.
 fn product_over(field: u8, f: &[u8], g: &[u8], out: &mut [u8]) -> u8
-    ensures answer { λ r. ⌜ r ≡ outcomeNumber (lowest (productRowsOver (modulus field) (longest field) (now (f .entry)) (now (g .entry)) (now (out .entry)))) ⌝ }
-    ensures writes { λ _. ⌜ now (out .exit) ≡ written (lowest (productRowsOver (modulus field) (longest field) (now (f .entry)) (now (g .entry)) (now (out .entry)))) (bytesOf (of.product (fieldAt field) (wordsOf (now (f .entry))) (wordsOf (now (g .entry))))) (now (out .entry)) ⌝ }
+    ensures answer { λ r. ⌜ r ≡ hostProductAnswer field (given f) (given g) (given out) ⌝ }
+    ensures writes { λ _. ⌜ final out ≡ hostProductWritten field (given f) (given g) (given out) ⌝ }
 {
     if bad_list(field, f) {
         return refusal::number_of(Refusal::Length);
@@ -75,9 +76,9 @@ fn product_over(field: u8, f: &[u8], g: &[u8], out: &mut [u8]) -> u8
 
 // The same over a field.
 fn divide_over(field: u8, g: &[u8], f: &[u8], q: &mut [u8], r: &mut [u8]) -> u8
-    ensures answer { λ a. ⌜ a ≡ outcomeNumber (lowest (divisionRowsOver (modulus field) (longest field) (now (g .entry)) (now (f .entry)) (now (q .entry)) (now (r .entry)))) ⌝ }
-    ensures quotient { λ _. ⌜ now (q .exit) ≡ written (lowest (divisionRowsOver (modulus field) (longest field) (now (g .entry)) (now (f .entry)) (now (q .entry)) (now (r .entry)))) (bytesOf (quotientOf (fieldAt field) (wordsOf (now (g .entry))) (wordsOf (now (f .entry))))) (now (q .entry)) ⌝ }
-    ensures remainder { λ _. ⌜ now (r .exit) ≡ written (lowest (divisionRowsOver (modulus field) (longest field) (now (g .entry)) (now (f .entry)) (now (q .entry)) (now (r .entry)))) (bytesOf (remainderOf (fieldAt field) (wordsOf (now (g .entry))) (wordsOf (now (f .entry))))) (now (r .entry)) ⌝ }
+    ensures answer { λ a. ⌜ a ≡ hostDivisionAnswer field (given g) (given f) (given q) (given r) ⌝ }
+    ensures quotient { λ _. ⌜ final q ≡ hostQuotientWritten field (given g) (given f) (given q) (given r) ⌝ }
+    ensures remainder { λ _. ⌜ final r ≡ hostRemainderWritten field (given g) (given f) (given q) (given r) ⌝ }
 {
     if bad_list(field, g) {
         return refusal::number_of(Refusal::Length);
@@ -90,9 +91,9 @@ fn divide_over(field: u8, g: &[u8], f: &[u8], q: &mut [u8], r: &mut [u8]) -> u8
 
 // The same over a field.
 fn gcd_over(field: u8, f: &[u8], g: &[u8], h: &mut [u8], answer: &mut [u8]) -> u8
-    ensures answer { λ r. ⌜ r ≡ outcomeNumber (lowest (gcdRowsOver (modulus field) (longest field) (now (f .entry)) (now (g .entry)) (now (h .entry)) (now (answer .entry)))) ⌝ }
-    ensures writes { λ _. ⌜ now (h .exit) ≡ written (lowest (gcdRowsOver (modulus field) (longest field) (now (f .entry)) (now (g .entry)) (now (h .entry)) (now (answer .entry)))) (bytesOf (padded (longest field) (gcdOf (fieldAt field) (wordsOf (now (f .entry))) (wordsOf (now (g .entry)))))) (now (h .entry)) ⌝ }
-    ensures values { λ _. ⌜ now (answer .exit) ≡ written (lowest (gcdRowsOver (modulus field) (longest field) (now (f .entry)) (now (g .entry)) (now (h .entry)) (now (answer .entry)))) (bytesOf (gcdValues (fieldAt field) (wordsOf (now (f .entry))) (wordsOf (now (g .entry))))) (now (answer .entry)) ⌝ }
+    ensures answer { λ r. ⌜ r ≡ hostGcdAnswer field (given f) (given g) (given h) (given answer) ⌝ }
+    ensures writes { λ _. ⌜ final h ≡ hostGcdWritten field (given f) (given g) (given h) (given answer) ⌝ }
+    ensures values { λ _. ⌜ final answer ≡ hostValuesWritten field (given f) (given g) (given h) (given answer) ⌝ }
 {
     if bad_list(field, f) {
         return refusal::number_of(Refusal::Length);
@@ -105,7 +106,7 @@ fn gcd_over(field: u8, f: &[u8], g: &[u8], h: &mut [u8], answer: &mut [u8]) -> u
 
 // Whether some bytes are no list: odd, no words, or more words than a list may have.
 fn bad_list(field: u8, list: &[u8]) -> bool
-    ensures { λ r. ⌜ r ≡ badList (longest field) (now (list .entry)) ⌝ }
+    ensures { λ r. ⌜ r ≡ badList (longest field) (given list) ⌝ }
 {
     if list.len() % 2 == 1 {
         return true;
@@ -119,7 +120,7 @@ fn bad_list(field: u8, list: &[u8]) -> bool
 // The number of words of a result slice, or `never`, a number that does not fit, where it is no result: odd, or more words than a list may
 // have.
 fn room(field: u8, result: &[u8], never: usize) -> usize
-    ensures { λ r. ⌜ r ≡ roomOf (longest field) never (now (result .entry)) ⌝ }
+    ensures { λ r. ⌜ r ≡ roomOf (longest field) never (given result) ⌝ }
 {
     if result.len() % 2 == 1 {
         return never;
@@ -132,7 +133,7 @@ fn room(field: u8, result: &[u8], never: usize) -> usize
 
 // The words handed to the GCD for h: those of the longest list, or 0 where h or the answer does not fit.
 fn gcd_room(field: u8, h: &[u8], answer: &[u8]) -> usize
-    ensures { λ r. ⌜ r ≡ gcdRoom (longest field) (now (h .entry)) (now (answer .entry)) ⌝ }
+    ensures { λ r. ⌜ r ≡ gcdRoom (longest field) (given h) (given answer) ⌝ }
 {
     let n = field::longest_of(field);
     if h.len() != 2 * n {
@@ -142,52 +143,6 @@ fn gcd_room(field: u8, h: &[u8], answer: &[u8]) -> usize
         return 0;
     }
     n
-}
-
-// A word from its two bytes.
-fn word(low: u8, high: u8) -> u16
-    ensures { λ r. ⌜ r ≡ low + 256 * high ⌝ }
-{
-    low as u16 + 256 * (high as u16)
-}
-
-// The low byte of a word.
-fn low(word: u16) -> u8
-    ensures { λ r. ⌜ r ≡ word % 256 ⌝ }
-{
-    (word % 256) as u8
-}
-
-// The high byte of a word.
-fn high(word: u16) -> u8
-    ensures { λ r. ⌜ r ≡ word / 256 ⌝ }
-{
-    (word / 256) as u8
-}
-
-// The words of some bytes.
-fn read_words(bytes: &[u8], words: &mut [u16])
-    requires { ⌜ length (now words) ≡ wordCount (now bytes) ⌝ }
-    ensures { λ _. ⌜ now (words .exit) ≡ wordsOf (now (bytes .entry)) ⌝ }
-{
-    let mut k = 0;
-    while k < words.len() {
-        words[k] = word(bytes[2 * k], bytes[2 * k + 1]);
-        k += 1;
-    }
-}
-
-// The bytes of some words.
-fn write_words(words: &[u16], bytes: &mut [u8])
-    requires { ⌜ length (now bytes) ≡ 2 * length (now words) ⌝ }
-    ensures { λ _. ⌜ now (bytes .exit) ≡ bytesOf (now (words .entry)) ⌝ }
-{
-    let mut k = 0;
-    while k < words.len() {
-        bytes[2 * k] = low(words[k]);
-        bytes[2 * k + 1] = high(words[k]);
-        k += 1;
-    }
 }
 
 // The product by way of words: the lists in a and b, the result in c.
@@ -201,16 +156,17 @@ fn product_in(
     out: &mut [u8],
 ) -> u8
     requires { ⌜ (badList (longest field) (now f) ≡ false) × (badList (longest field) (now g) ≡ false) ⌝ }
-    requires { ⌜ (length (now a) ≡ wordCount (now f)) × (length (now b) ≡ wordCount (now g)) × (length (now c) ≡ roomOf (longest field) 0 (now out)) ⌝ }
-    ensures { λ r. ⌜ r ≡ outcomeNumber (lowest (productRowsOver (modulus field) (longest field) (now (f .entry)) (now (g .entry)) (now (out .entry)))) ⌝ }
-    ensures { λ _. ⌜ now (out .exit) ≡ written (lowest (productRowsOver (modulus field) (longest field) (now (f .entry)) (now (g .entry)) (now (out .entry)))) (bytesOf (of.product (fieldAt field) (wordsOf (now (f .entry))) (wordsOf (now (g .entry))))) (now (out .entry)) ⌝ }
+    requires { ⌜ (length (now a) ≡ wordCount (now f)) × (length (now b) ≡ wordCount (now g))
+        × (length (now c) ≡ roomOf (longest field) 0 (now out)) ⌝ }
+    ensures { λ r. ⌜ r ≡ hostProductAnswer field (given f) (given g) (given out) ⌝ }
+    ensures { λ _. ⌜ final out ≡ hostProductWritten field (given f) (given g) (given out) ⌝ }
 {
-    read_words(f, a);
-    read_words(g, b);
+    words::read_words(f, a);
+    words::read_words(g, b);
     let answer = list_product::product_over(field, a, b, c);
     match answer {
         Outcome::Done => {
-            write_words(c, out);
+            words::write_words(c, out);
             COMPLETED
         }
         Outcome::Refused(why) => refusal::number_of(why),
@@ -220,8 +176,8 @@ fn product_in(
 // The product of two lists that pass.
 fn product_lists(field: u8, f: &[u8], g: &[u8], out: &mut [u8]) -> u8
     requires { ⌜ (badList (longest field) (now f) ≡ false) × (badList (longest field) (now g) ≡ false) ⌝ }
-    ensures { λ r. ⌜ r ≡ outcomeNumber (lowest (productRowsOver (modulus field) (longest field) (now (f .entry)) (now (g .entry)) (now (out .entry)))) ⌝ }
-    ensures { λ _. ⌜ now (out .exit) ≡ written (lowest (productRowsOver (modulus field) (longest field) (now (f .entry)) (now (g .entry)) (now (out .entry)))) (bytesOf (of.product (fieldAt field) (wordsOf (now (f .entry))) (wordsOf (now (g .entry))))) (now (out .entry)) ⌝ }
+    ensures { λ r. ⌜ r ≡ hostProductAnswer field (given f) (given g) (given out) ⌝ }
+    ensures { λ _. ⌜ final out ≡ hostProductWritten field (given f) (given g) (given out) ⌝ }
 {
     let n = f.len() / 2;
     let m = g.len() / 2;
@@ -245,18 +201,19 @@ fn divide_in(
     r: &mut [u8],
 ) -> u8
     requires { ⌜ (badList (longest field) (now g) ≡ false) × (badList (longest field) (now f) ≡ false) ⌝ }
-    requires { ⌜ (length (now a) ≡ wordCount (now g)) × (length (now b) ≡ wordCount (now f)) × (length (now c) ≡ roomOf (longest field) 0 (now q)) × (length (now d) ≡ roomOf (longest field) (longest field) (now r)) ⌝ }
-    ensures { λ a. ⌜ a ≡ outcomeNumber (lowest (divisionRowsOver (modulus field) (longest field) (now (g .entry)) (now (f .entry)) (now (q .entry)) (now (r .entry)))) ⌝ }
-    ensures { λ _. ⌜ now (q .exit) ≡ written (lowest (divisionRowsOver (modulus field) (longest field) (now (g .entry)) (now (f .entry)) (now (q .entry)) (now (r .entry)))) (bytesOf (quotientOf (fieldAt field) (wordsOf (now (g .entry))) (wordsOf (now (f .entry))))) (now (q .entry)) ⌝ }
-    ensures { λ _. ⌜ now (r .exit) ≡ written (lowest (divisionRowsOver (modulus field) (longest field) (now (g .entry)) (now (f .entry)) (now (q .entry)) (now (r .entry)))) (bytesOf (remainderOf (fieldAt field) (wordsOf (now (g .entry))) (wordsOf (now (f .entry))))) (now (r .entry)) ⌝ }
+    requires { ⌜ (length (now a) ≡ wordCount (now g)) × (length (now b) ≡ wordCount (now f))
+        × (length (now c) ≡ roomOf (longest field) 0 (now q)) × (length (now d) ≡ roomOf (longest field) (longest field) (now r)) ⌝ }
+    ensures { λ a. ⌜ a ≡ hostDivisionAnswer field (given g) (given f) (given q) (given r) ⌝ }
+    ensures { λ _. ⌜ final q ≡ hostQuotientWritten field (given g) (given f) (given q) (given r) ⌝ }
+    ensures { λ _. ⌜ final r ≡ hostRemainderWritten field (given g) (given f) (given q) (given r) ⌝ }
 {
-    read_words(g, a);
-    read_words(f, b);
+    words::read_words(g, a);
+    words::read_words(f, b);
     let answer = list_division::divide_over(field, a, b, c, d);
     match answer {
         Outcome::Done => {
-            write_words(c, q);
-            write_words(d, r);
+            words::write_words(c, q);
+            words::write_words(d, r);
             COMPLETED
         }
         Outcome::Refused(why) => refusal::number_of(why),
@@ -266,9 +223,9 @@ fn divide_in(
 // g divided by f, two lists that pass.
 fn divide_lists(field: u8, g: &[u8], f: &[u8], q: &mut [u8], r: &mut [u8]) -> u8
     requires { ⌜ (badList (longest field) (now g) ≡ false) × (badList (longest field) (now f) ≡ false) ⌝ }
-    ensures { λ a. ⌜ a ≡ outcomeNumber (lowest (divisionRowsOver (modulus field) (longest field) (now (g .entry)) (now (f .entry)) (now (q .entry)) (now (r .entry)))) ⌝ }
-    ensures { λ _. ⌜ now (q .exit) ≡ written (lowest (divisionRowsOver (modulus field) (longest field) (now (g .entry)) (now (f .entry)) (now (q .entry)) (now (r .entry)))) (bytesOf (quotientOf (fieldAt field) (wordsOf (now (g .entry))) (wordsOf (now (f .entry))))) (now (q .entry)) ⌝ }
-    ensures { λ _. ⌜ now (r .exit) ≡ written (lowest (divisionRowsOver (modulus field) (longest field) (now (g .entry)) (now (f .entry)) (now (q .entry)) (now (r .entry)))) (bytesOf (remainderOf (fieldAt field) (wordsOf (now (g .entry))) (wordsOf (now (f .entry))))) (now (r .entry)) ⌝ }
+    ensures { λ a. ⌜ a ≡ hostDivisionAnswer field (given g) (given f) (given q) (given r) ⌝ }
+    ensures { λ _. ⌜ final q ≡ hostQuotientWritten field (given g) (given f) (given q) (given r) ⌝ }
+    ensures { λ _. ⌜ final r ≡ hostRemainderWritten field (given g) (given f) (given q) (given r) ⌝ }
 {
     let n = g.len() / 2;
     let m = f.len() / 2;
@@ -294,10 +251,10 @@ fn divide_lists(field: u8, g: &[u8], f: &[u8], q: &mut [u8], r: &mut [u8]) -> u8
 // The three numbers of an answer as words.
 fn write_three(w: NaiveDegree, c: Power, rounds: Rounds, bytes: &mut [u8])
     requires { ⌜ (w .0 < 65536) × (c .0 < 65536) × (rounds .0 < 65536) × (length (now bytes) ≡ 6) ⌝ }
-    ensures { λ _. ⌜ now (bytes .exit) ≡ bytesOf (w .0 ∷ c .0 ∷ rounds .0 ∷ []) ⌝ }
+    ensures { λ _. ⌜ final bytes ≡ bytesOf (w .0 ∷ c .0 ∷ rounds .0 ∷ []) ⌝ }
 {
     let three = [w.0 as u16, c.0 as u16, rounds.0 as u16];
-    write_words(&three, bytes);
+    words::write_words(&three, bytes);
 }
 
 // The GCD by way of words: the lists in a and b, h in c.
@@ -312,17 +269,18 @@ fn gcd_in(
     answer: &mut [u8],
 ) -> u8
     requires { ⌜ (badList (longest field) (now f) ≡ false) × (badList (longest field) (now g) ≡ false) ⌝ }
-    requires { ⌜ (length (now a) ≡ wordCount (now f)) × (length (now b) ≡ wordCount (now g)) × (length (now c) ≡ gcdRoom (longest field) (now h) (now answer)) ⌝ }
-    ensures { λ r. ⌜ r ≡ outcomeNumber (lowest (gcdRowsOver (modulus field) (longest field) (now (f .entry)) (now (g .entry)) (now (h .entry)) (now (answer .entry)))) ⌝ }
-    ensures { λ _. ⌜ now (h .exit) ≡ written (lowest (gcdRowsOver (modulus field) (longest field) (now (f .entry)) (now (g .entry)) (now (h .entry)) (now (answer .entry)))) (bytesOf (padded (longest field) (gcdOf (fieldAt field) (wordsOf (now (f .entry))) (wordsOf (now (g .entry)))))) (now (h .entry)) ⌝ }
-    ensures { λ _. ⌜ now (answer .exit) ≡ written (lowest (gcdRowsOver (modulus field) (longest field) (now (f .entry)) (now (g .entry)) (now (h .entry)) (now (answer .entry)))) (bytesOf (gcdValues (fieldAt field) (wordsOf (now (f .entry))) (wordsOf (now (g .entry))))) (now (answer .entry)) ⌝ }
+    requires { ⌜ (length (now a) ≡ wordCount (now f)) × (length (now b) ≡ wordCount (now g))
+        × (length (now c) ≡ gcdRoom (longest field) (now h) (now answer)) ⌝ }
+    ensures { λ r. ⌜ r ≡ hostGcdAnswer field (given f) (given g) (given h) (given answer) ⌝ }
+    ensures { λ _. ⌜ final h ≡ hostGcdWritten field (given f) (given g) (given h) (given answer) ⌝ }
+    ensures { λ _. ⌜ final answer ≡ hostValuesWritten field (given f) (given g) (given h) (given answer) ⌝ }
 {
-    read_words(f, a);
-    read_words(g, b);
+    words::read_words(f, a);
+    words::read_words(g, b);
     let found = list_gcd::gcd_over(field, a, b, c);
     match found {
         Gcd::Done(w, power, rounds) => {
-            write_words(c, h);
+            words::write_words(c, h);
             write_three(w, power, rounds, answer);
             COMPLETED
         }
@@ -333,9 +291,9 @@ fn gcd_in(
 // The GCD of two lists that pass.
 fn gcd_lists(field: u8, f: &[u8], g: &[u8], h: &mut [u8], answer: &mut [u8]) -> u8
     requires { ⌜ (badList (longest field) (now f) ≡ false) × (badList (longest field) (now g) ≡ false) ⌝ }
-    ensures { λ r. ⌜ r ≡ outcomeNumber (lowest (gcdRowsOver (modulus field) (longest field) (now (f .entry)) (now (g .entry)) (now (h .entry)) (now (answer .entry)))) ⌝ }
-    ensures { λ _. ⌜ now (h .exit) ≡ written (lowest (gcdRowsOver (modulus field) (longest field) (now (f .entry)) (now (g .entry)) (now (h .entry)) (now (answer .entry)))) (bytesOf (padded (longest field) (gcdOf (fieldAt field) (wordsOf (now (f .entry))) (wordsOf (now (g .entry)))))) (now (h .entry)) ⌝ }
-    ensures { λ _. ⌜ now (answer .exit) ≡ written (lowest (gcdRowsOver (modulus field) (longest field) (now (f .entry)) (now (g .entry)) (now (h .entry)) (now (answer .entry)))) (bytesOf (gcdValues (fieldAt field) (wordsOf (now (f .entry))) (wordsOf (now (g .entry))))) (now (answer .entry)) ⌝ }
+    ensures { λ r. ⌜ r ≡ hostGcdAnswer field (given f) (given g) (given h) (given answer) ⌝ }
+    ensures { λ _. ⌜ final h ≡ hostGcdWritten field (given f) (given g) (given h) (given answer) ⌝ }
+    ensures { λ _. ⌜ final answer ≡ hostValuesWritten field (given f) (given g) (given h) (given answer) ⌝ }
 {
     let n = f.len() / 2;
     let m = g.len() / 2;

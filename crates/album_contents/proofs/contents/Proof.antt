@@ -6,7 +6,7 @@
 --     loops            the loop, by `Sound/Loop.antt`'s `loop-rule`.        walk      the MIR up to the loop
 -- All that the proof knows of the functions that are called is that they meet their contracts.
 -- Assumes nothing.
-use mathlib.Core.Path.{_≡_, refl, sym, _∙_, ap, subst}
+use mathlib.Core.Path.{_≡_, refl, sym, ap, subst}
 use Prim.Native.Nat.{ℕ, zero, suc, _+_, _*_, _<_, _^_}
 use native.Mathlib.Nat.{zero-add, lt-suc-self, le-refl}
 use native.Mathlib.Numerals.{add-one}

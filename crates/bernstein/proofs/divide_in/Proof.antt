@@ -1,8 +1,10 @@
 -- `bernstein::divide_in` meets its contract: the answer of the engine's function on the words is that of the call on the bytes.
 -- Assumes nothing.
+use mathlib.Core.Path.{_∙_}
 use native.Mathlib.Omega.{arith}
 use borrow.Author.Needs.{needs}
 use Rattle.field.specs.Fields.{modulus, fieldAt, longest}
+use Rattle.words.proofs.Transfer.{into-exact, bytes-fit}
 use Rattle.bernstein.proofs.Calls.{DivisionCall, division-fits, division-done, division-refused}
 use Rattle.bernstein.proofs.divide_in.Statement.{statement}
 use Rattle.bernstein.proofs.divide_in.Tie as tie
@@ -25,8 +27,8 @@ called c =
     record {
       good-g = start .pre .0 .0;
       good-f = start .pre .0 .1;
-      words-g = c .before .before .before .before .before .before .before .before .before .before .before .read-words .ensures;
-      words-f = c .before .before .before .before .before .before .before .read-words2 .ensures;
+      words-g = c .before .before .before .before .before .before .before .before .before .before .before .read-words .ensures ∙ into-exact (start .args .g .now) _ (start .pre .1 .0);
+      words-f = c .before .before .before .before .before .before .before .read-words2 .ensures ∙ into-exact (start .args .f .now) _ (start .pre .1 .1);
       room-q = start .pre .1 .2;
       room-r = start .pre .1 .3;
       says = c .divide-over .ensures .0;
@@ -36,10 +38,10 @@ enum-told : tie.Need-enum-told
 enum-told c = search needs
 
 write-words-requires : tie.Need-write-words-requires
-write-words-requires c κs = omega (arith, division-fits (called (c .before .before .before .before .before .before .before .before)) (c .before .before .enum-told .given .1) .0)
+write-words-requires c κs = search needs
 
 write-words-requires-2 : tie.Need-write-words-requires-2
-write-words-requires-2 c κs = omega (arith, division-fits (called (c .before .before .before .before .before .before .before .before .before .before .before .before .before)) (c .before .before .before .before .before .before .before .enum-told .given .1) .1)
+write-words-requires-2 c κs = search needs
 
 enum-known-answer : tie.Need-enum-known-answer
 enum-known-answer c = search needs
@@ -67,8 +69,9 @@ same-length-6 c = omega arith
 
 returns : tie.Need-returns
 returns c =
+    let fits = division-fits (called (c .before .before .before .before .before .before .before .before .before .before .before .before .before .before .before .before)) (c .before .before .before .before .before .before .before .before .before .before .enum-told .given .1) in
     division-done (called (c .before .before .before .before .before .before .before .before .before .before .before .before .before .before .before .before)) (c .before .before .before .before .before .before .before .before .before .before .enum-told .given .1) (fieldAt _) (c .before .before .before .before .before .before .before .before .before .before .before .before .before .before .before .before .divide-over .ensures .1 .0) (c .before .before .before .before .before .before .before .before .before .before .before .before .before .before .before .before .divide-over .ensures .1 .1 .0)
-    (c .before .before .before .before .before .before .before .write-words .ensures) (c .before .before .write-words2 .ensures)
+    (c .before .before .before .before .before .before .before .write-words .ensures ∙ bytes-fit _ _ (omega (arith, fits .0))) (c .before .before .write-words2 .ensures ∙ bytes-fit _ _ (omega (arith, fits .1)))
 
 same-length-7 : tie.Need-same-length-7
 same-length-7 c = search needs

@@ -1,9 +1,11 @@
 -- `bernstein::gcd_in` meets its contract: the answer of the engine's function on the words is that of the call on the bytes.
 -- Assumes nothing.
+use mathlib.Core.Path.{_∙_}
 use native.Mathlib.Omega.{arith}
 use borrow.Author.Needs.{needs}
 use Rattle.field.specs.Fields.{modulus, fieldAt, longest}
 use Rattle.field.proofs.Fields.{longest-some, longest-room}
+use Rattle.words.proofs.Transfer.{into-exact, bytes-fit}
 use Rattle.bernstein.proofs.Calls.{GcdCall, gcd-fits, gcd-small, gcd-done, gcd-refused}
 use Rattle.bernstein.proofs.gcd_in.Statement.{statement}
 use Rattle.bernstein.proofs.gcd_in.Tie as tie
@@ -26,8 +28,8 @@ called c =
     record {
       good-f = start .pre .0 .0;
       good-g = start .pre .0 .1;
-      words-f = c .before .before .before .before .before .before .before .before .before .before .read-words .ensures;
-      words-g = c .before .before .before .before .before .before .read-words2 .ensures;
+      words-f = c .before .before .before .before .before .before .before .before .before .before .read-words .ensures ∙ into-exact (start .args .f .now) _ (start .pre .1 .0);
+      words-g = c .before .before .before .before .before .before .read-words2 .ensures ∙ into-exact (start .args .g .now) _ (start .pre .1 .1);
       room = start .pre .1 .2;
       says = c .gcd-over .ensures .0;
     }
@@ -36,7 +38,7 @@ enum-known-found : tie.Need-enum-known-found
 enum-known-found c = search needs
 
 write-words-requires : tie.Need-write-words-requires
-write-words-requires c κs = omega (arith, gcd-fits (longest-some _) (longest-room _) (called (c .before .before .before .before .before .before .before)) (c .before .before .before .found .given .1) .0)
+write-words-requires c κs = search needs
 
 write-three-requires : tie.Need-write-three-requires
 write-three-requires c κs =
@@ -68,7 +70,8 @@ same-length-5 c = search needs
 
 returns : tie.Need-returns
 returns c =
-    gcd-done (longest-some _) (longest-room _) (called (c .before .before .before .before .before .before .before .before .before .before .before .before .before .before)) (c .before .before .before .before .before .before .before .before .before .before .found .given .1) (c .before .before .before .before .before .before .before .before .before .before .before .before .before .before .gcd-over .ensures .1 .0) (c .before .before .before .before .before .before .write-words .ensures) (c .before .before .write-three .ensures)
+    let fits = gcd-fits (longest-some _) (longest-room _) (called (c .before .before .before .before .before .before .before .before .before .before .before .before .before .before)) (c .before .before .before .before .before .before .before .before .before .before .found .given .1) in
+    gcd-done (longest-some _) (longest-room _) (called (c .before .before .before .before .before .before .before .before .before .before .before .before .before .before)) (c .before .before .before .before .before .before .before .before .before .before .found .given .1) (c .before .before .before .before .before .before .before .before .before .before .before .before .before .before .gcd-over .ensures .1 .0) (c .before .before .before .before .before .before .write-words .ensures ∙ bytes-fit _ _ (omega (arith, fits .0))) (c .before .before .write-three .ensures)
 
 same-length-6 : tie.Need-same-length-6
 same-length-6 c = search needs

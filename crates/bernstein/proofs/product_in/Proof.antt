@@ -1,8 +1,10 @@
 -- `bernstein::product_in` meets its contract: the answer of the engine's function on the words is that of the call on the bytes.
 -- Assumes nothing.
+use mathlib.Core.Path.{_∙_}
 use native.Mathlib.Omega.{arith}
 use borrow.Author.Needs.{needs}
 use Rattle.field.specs.Fields.{modulus, fieldAt, longest}
+use Rattle.words.proofs.Transfer.{into-exact, bytes-fit}
 use Rattle.bernstein.proofs.Calls.{ProductCall, product-fits, product-done, product-refused}
 use Rattle.bernstein.proofs.product_in.Statement.{statement}
 use Rattle.bernstein.proofs.product_in.Tie as tie
@@ -25,8 +27,8 @@ called c =
     record {
       good-f = start .pre .0 .0;
       good-g = start .pre .0 .1;
-      words-f = c .before .before .before .before .before .before .before .before .before .before .read-words .ensures;
-      words-g = c .before .before .before .before .before .before .read-words2 .ensures;
+      words-f = c .before .before .before .before .before .before .before .before .before .before .read-words .ensures ∙ into-exact (start .args .f .now) _ (start .pre .1 .0);
+      words-g = c .before .before .before .before .before .before .read-words2 .ensures ∙ into-exact (start .args .g .now) _ (start .pre .1 .1);
       room = start .pre .1 .2;
       says = c .product-over .ensures .0;
     }
@@ -35,7 +37,7 @@ enum-told : tie.Need-enum-told
 enum-told c = search needs
 
 write-words-requires : tie.Need-write-words-requires
-write-words-requires c κs = omega (arith, product-fits (called (c .before .before .before .before .before .before)) (c .before .before .enum-told .given .1))
+write-words-requires c κs = search needs
 
 enum-known-answer : tie.Need-enum-known-answer
 enum-known-answer c = search needs
@@ -57,7 +59,7 @@ same-length-4 c = omega arith
 
 returns : tie.Need-returns
 returns c =
-    product-done (called (c .before .before .before .before .before .before .before .before .before)) (c .before .before .before .before .before .enum-told .given .1) (fieldAt _) (c .before .before .before .before .before .before .before .before .before .product-over .ensures .1) (c .before .before .write-words .ensures)
+    product-done (called (c .before .before .before .before .before .before .before .before .before)) (c .before .before .before .before .before .enum-told .given .1) (fieldAt _) (c .before .before .before .before .before .before .before .before .before .product-over .ensures .1) (c .before .before .write-words .ensures ∙ bytes-fit _ _ (omega (arith, product-fits (called (c .before .before .before .before .before .before .before .before .before)) (c .before .before .before .before .before .enum-told .given .1))))
 
 same-length-5 : tie.Need-same-length-5
 same-length-5 c = search needs

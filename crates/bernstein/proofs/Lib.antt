@@ -1,5 +1,1 @@
-pub mod Fits
-pub mod Rows
-pub mod Judged
-pub mod Answers
-pub mod Calls
+pub mod Demands

@@ -7,7 +7,6 @@ ghost use Rattle.refusal.specs.Contract.{given, final};
 ghost use Rattle.field.specs.Fields.{modulus, fieldAt, longest};
 ghost use Rattle.refusal.specs.Refusal.{outcomeReply, written};
 ghost use Rattle.refusal.specs.Lowest.{lowest};
-ghost use Rattle.lists.specs.Operations as of;
 ghost use Rattle.list_sum.specs.Calls.{sumRows, differenceWritten, sumAnswer, sumWritten};
 ghost use Rattle.list_sum.specs.Internal.{SumFits, combinedWords, combined};
 use lists::NaiveDegree;

@@ -3,6 +3,7 @@
 --     number-is         the number of a reply is that of its outcome
 --     result, kept      what a slice holds afterwards, where the judge found Done and where it found a refusal
 --     done, refused     the same with the answer, of a call that hands back no value
+--     done-reply, refused-reply     what a reply tells of the judge's finding: of a call that completes, and of one that is refused
 -- Assumes nothing.
 use mathlib.Core.Path.{_≡_, refl, sym, _∙_, ap}
 use mathlib.Core.List.{List, []}
@@ -47,3 +48,15 @@ done e d new old q = (ap outcomeReply e, result new old (sym e ∙ d) q)
 pub refused : {answer found : Outcome} {why : Refusal} → answer ≡ found → answer ≡ Refused why → (new old : List ℕ)
     → (outcomeReply answer ≡ reply found []) × (old ≡ written found new old)
 refused e d new old = (ap outcomeReply e, kept new old (sym e ∙ d))
+
+never-zero : (why : Refusal) → 0 ≡ number why → ⊥
+never-zero why e = omega (arith, number-range why)
+
+pub done-reply : (found : Outcome) (v values : List ℕ) → reply Done v ≡ reply found values → (found ≡ Done) × (v ≡ values)
+done-reply Done v values e = (refl, ap (λ r. r .values) e)
+done-reply (Refused why) v values e = absurd (never-zero why (ap (λ r. r .number) e))
+
+pub refused-reply : (why : Refusal) (found : Outcome) (values : List ℕ) → reply (Refused why) [] ≡ reply found values
+    → (number why ≡ outcomeNumber found) × ((new old : List ℕ) → old ≡ written found new old)
+refused-reply why Done values e = absurd (never-zero why (sym (ap (λ r. r .number) e)))
+refused-reply why (Refused other) values e = (ap (λ r. r .number) e, λ new old. refl)

@@ -3,7 +3,6 @@
 --     replies             the same of a call whose answer is given as a reply
 --     no-slice, and-slice what the contracts say of the slices: none, and one more, which holds a result or, refused, what it held
 --     empty-refused       a part that is a result or, refused, empty
---     done-reply          what a reply of a call that completes tells: no refusal applied, and its values
 --     of-contents         demand 1 of `album_contents::contents`, whose slice is of structs: the two clauses of its contract imply it, where s is
 --                         the album, and the slice held `old` and holds `after`
 -- Assumes nothing.
@@ -16,20 +15,11 @@ use Rattle.refusal.specs.Refusal.{number, outcomeNumber, Reply, reply, outcomeR
 use Rattle.refusal.specs.Lowest.{Condition, IsLowest, lowest, lowest-is}
 use Rattle.refusal.specs.declared.Outcome.{Outcome}
 use Rattle.refusal.specs.declared.Outcome.the-variants.{Done, Refused}
-use Rattle.refusal.specs.declared.Refusal.{Refusal}
-use Rattle.refusal.proofs.Answers.{number-range, number-is}
-use native.Mathlib.Omega.{arith}
+use Rattle.refusal.proofs.Answers.{number-is}
 use Rattle.field.specs.Fields.{p}
 use Rattle.album_contents.specs.Calls.{contentsRows, recordsFrom, filled, contentsAnswer, contentsWritten}
 use Rattle.album_contents.specs.declared.Entry.{Entry}
 use Rattle.statement.specs.Demand1.{Slice, sliceOf, Demand1, EmptyRefused, Left}
-
-never-zero : (why : Refusal) → 0 ≡ number why → ⊥
-never-zero why e = omega (arith, number-range why)
-
-pub done-reply : (found : Outcome) (v values : List ℕ) → reply Done v ≡ reply found values → (found ≡ Done) × (v ≡ values)
-done-reply Done v values e = (refl, ap (λ r. r .values) e)
-done-reply (Refused why) v values e = absurd (never-zero why (ap (λ r. r .number) e))
 
 -- by cases on what `lowest` is
 by-outcome : (rows : List Condition) (o : Outcome) → IsLowest rows o

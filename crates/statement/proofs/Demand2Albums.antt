@@ -32,7 +32,7 @@ use Rattle.album_reader.specs.Calls.{readRows, readAnswer, readWritten}
 use Rattle.album_reader.proofs.Judged.{read-done}
 use Rattle.album_contents.specs.Calls.{recordsFrom, contentsRows, filled, contentsAnswer, contentsWritten}
 use Rattle.album_contents.specs.declared.Entry.{Entry}
-use Rattle.statement.proofs.Demand1.{done-reply}
+use Rattle.refusal.proofs.Answers.{done-reply}
 use Rattle.statement.specs.Contained.{Contained}
 use Rattle.statement.proofs.Demand2.{of-engine}
 use Rattle.statement.specs.Demand2Calls.{Holds, Handed, ReadSo, BodySo, Entries, ContentsSo}

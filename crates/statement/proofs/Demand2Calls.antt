@@ -28,7 +28,7 @@ use Rattle.list_derivative.specs.Calls.{derivativeAnswer, derivativeWritten}
 use Rattle.list_value.specs.Calls.{evaluateRows, evaluateAnswer}
 use Rattle.statement.specs.Meant.{TheWord, TheValue, TheList, TheTrim, IsExtent}
 use Rattle.statement.proofs.Demand2.{of-engine}
-use Rattle.statement.proofs.Demand1.{done-reply}
+use Rattle.refusal.proofs.Answers.{done-reply}
 use Rattle.statement.specs.Demand2Calls.{Answers, ProductSo, RaiseSo, SumSo, DifferenceSo, TrimSo, DerivativeSo, ExtentSo, ValueSo, WordSumSo, WordDifferenceSo, WordProductSo, InverseSo}
 
 pub slice-holds : (P : List ℕ → Type 0) (o : Outcome) (new old : List ℕ) {out : List ℕ} {r : Reply} → r ≡ reply o [] → out ≡ written o new old

@@ -25,7 +25,7 @@ use Rattle.euclid_theory.proofs.Cofactors.{cofactors-are, cofactors-only}
 use Rattle.list_gcd.specs.Calls.{gcdValues}
 use Rattle.list_cofactors.specs.Calls.{cofactorRows, cofactorAnswer, cofactorGcd, cofactorsWrittenA, cofactorsWrittenB}
 use Rattle.list_cofactors.proofs.Slices.{cofactors-ready}
-use Rattle.statement.proofs.Demand1.{done-reply}
+use Rattle.refusal.proofs.Answers.{done-reply}
 use Rattle.statement.specs.Demand3Calls.{Meet, Fixed, CofactorsOf}
 
 -- a list has no more words than the field has elements

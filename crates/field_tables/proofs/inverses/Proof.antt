@@ -2,7 +2,7 @@
 -- Assumes nothing.
 use mathlib.Core.Path.{refl, _∙_}
 use Rattle.refusal.specs.Limits.{maxWords}
-use Rattle.field.specs.Fields.{modulus, fieldAt, longest}
+use Rattle.field.specs.Fields.{modulus, fieldAt}
 use Rattle.field.proofs.Fields.{p-at, modulus-first, modulus-second, modulus-third}
 use Rattle.field_tables.proofs.InverseEntries.{table-is}
 use Rattle.field_tables.proofs.inverses.Statement.{statement}

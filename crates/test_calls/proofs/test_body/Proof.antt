@@ -1,7 +1,6 @@
 -- `test_calls::test_body` meets its contract: the part is copied where it fits.
 -- Assumes nothing.
 use borrow.Author.Needs.{needs}
-use Rattle.field.specs.Fields.{p}
 use Rattle.album_layout.specs.Calls.{bodyOf}
 use Rattle.test_calls.proofs.Answers.{copied, left-out}
 use Rattle.test_calls.proofs.test_body.Statement.{statement}

@@ -1,0 +1,5 @@
+pub mod Fits
+pub mod Rows
+pub mod Judged
+pub mod Answers
+pub mod Calls

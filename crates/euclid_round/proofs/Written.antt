@@ -21,7 +21,7 @@ use Rattle.lists.specs.Lists.{unscaled}
 use Rattle.lists.specs.Words.{seriesOf}
 use Rattle.lists.proofs.Words.{coeff-seriesOf}
 use Rattle.field_tables.specs.Factorials.{Tables}
-use Rattle.word_scaling.specs.Kernels.{weighted, weighFits}
+use Rattle.word_scaling.specs.Scaling.{weighted, weighFits}
 use Rattle.word_scaling.proofs.Weights.{length-weighted, unscaled-is}
 use Rattle.lists.specs.Padded.{padded}
 use Rattle.lists.proofs.Padded.{padded-is}

@@ -27,7 +27,7 @@ use Rattle.lists.specs.Tabulate.{tabulate}
 use Rattle.lists.specs.Degrees.{significant}
 use Rattle.lists.specs.Lists.{unscaled}
 use Rattle.lists.specs.Words.{seriesOf}
-use Rattle.word_scaling.specs.Kernels.{weighted}
+use Rattle.word_scaling.specs.Scaling.{weighted}
 use Rattle.lists.specs.Padded.{padded}
 use Rattle.word_division.specs.Reduction.{reduced, digits}
 

@@ -14,7 +14,7 @@ use lib.Seq.{drop-at, take-take, take-add, take-append-add, take-set-le, getD-ta
 use Rattle.algebra.specs.PrimeField.{PrimeField}
 use Rattle.lists.specs.Lists.{scaled}
 use Rattle.field_tables.specs.Factorials.{Tables}
-use Rattle.word_scaling.specs.Kernels.{weighFits, weighted}
+use Rattle.word_scaling.specs.Scaling.{weighFits, weighted}
 use Rattle.list_gcd.specs.Internal.{Holds}
 use Rattle.list_gcd.proofs.Buffers.{getD-zeros, length-part, getD-part, holds-scaled}
 use Rattle.list_cofactors.specs.Internal.{ZeroRows, partX, Started}

@@ -17,7 +17,7 @@ use Rattle.lists.specs.Lists.{word, scaled, unscaled}
 use Rattle.lists.proofs.Scaled.{length-naive, coefficient-last, coeff-scaled}
 use Rattle.lists.proofs.Words.{scaledWords, length-scaledWords, Carries, carries-scaled, seriesOf-carries}
 use Rattle.field_tables.specs.Factorials.{Tables}
-use Rattle.word_scaling.specs.Kernels.{weighFits, weighted}
+use Rattle.word_scaling.specs.Scaling.{weighFits, weighted}
 use Rattle.word_scaling.proofs.Weights.{scale-is, unscale-is}
 use Rattle.word_division.specs.Reduction.{reduced, digits, reduceFits}
 use Rattle.word_division.proofs.Steps.{reduced-remainder, digits-quotient, length-reduced, length-digits}

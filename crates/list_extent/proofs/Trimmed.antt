@@ -13,7 +13,7 @@ use Rattle.lists.proofs.Extents.{significant-le}
 use Rattle.lists.specs.Words.{seriesOf}
 use Rattle.lists.proofs.Words.{scaledWords, length-scaledWords, seriesOf-scaledWords}
 use Rattle.field_tables.specs.Factorials.{Tables}
-use Rattle.word_scaling.specs.Kernels.{weighFits, weighted}
+use Rattle.word_scaling.specs.Scaling.{weighFits, weighted}
 use Rattle.word_scaling.proofs.Weights.{unscale-is}
 use Rattle.list_extent.specs.Internal.{TrimFits}
 

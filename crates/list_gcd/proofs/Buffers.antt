@@ -15,7 +15,7 @@ use Rattle.lists.specs.Lists.{scaled}
 use Rattle.lists.specs.Words.{seriesOf}
 use Rattle.lists.proofs.Words.{coeff-seriesOf, scaledWords, length-scaledWords, seriesOf-scaledWords, carries-scaled}
 use Rattle.field_tables.specs.Factorials.{Tables}
-use Rattle.word_scaling.specs.Kernels.{weighFits, weighted}
+use Rattle.word_scaling.specs.Scaling.{weighFits, weighted}
 use Rattle.word_scaling.proofs.Weights.{scale-is}
 use Rattle.list_gcd.specs.Internal.{Zeros, Holds}
 use Rattle.lists.proofs.Parts.{getD-then-zeros}

@@ -20,7 +20,7 @@ use Rattle.lists.proofs.Raises.{ones}
 use Rattle.lists.proofs.Products.{product-unscaled}
 use Rattle.lists.proofs.Raises.{raise-product}
 use Rattle.field_tables.specs.Factorials.{Tables}
-use Rattle.word_scaling.specs.Kernels.{weighFits, weighted}
+use Rattle.word_scaling.specs.Scaling.{weighFits, weighted}
 use Rattle.word_scaling.proofs.Weights.{scale-is, unscale-is}
 use Rattle.word_product.specs.Convolution.{convolveFits, convolution}
 use Rattle.word_product.proofs.Convolution.{length-convolution, convolve-is}

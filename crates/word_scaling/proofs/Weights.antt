@@ -27,7 +27,7 @@ use Rattle.lists.specs.Words.{seriesOf}
 use Rattle.lists.proofs.Words.{coeff-seriesOf, scaledWords, value-is}
 use Rattle.field_tables.specs.Factorials.{factorial, factorialIn, inverseFactorialIn, Tables}
 use Rattle.field_tables.proofs.FactorialLaws.{choose-factorials, factorial-nonzero}
-use Rattle.word_scaling.specs.Kernels.{weightedAt, weighted, weighFits}
+use Rattle.word_scaling.specs.Scaling.{weightedAt, weighted, weighFits}
 
 module _ (F : PrimeField) where
   open CommRing (scalars F) using (Carrier as K, zero as 𝟘, one as 𝟙, mul as _⊗_)

@@ -1,1 +1,1 @@
-pub mod Kernels
+pub mod Scaling

@@ -3,7 +3,7 @@
 use native.Mathlib.Omega.{arith}
 use lib.ListN.{length}
 use borrow.Author.Tests.{le-leb, lt-leb}
-use Rattle.word_scaling.specs.Kernels.{weighFits}
+use Rattle.word_scaling.specs.Scaling.{weighFits}
 use borrow.Author.Needs.{needs}
 use Rattle.word_scaling.proofs.weigh.Statement.{statement}
 use Rattle.word_scaling.proofs.weigh.Tie as tie

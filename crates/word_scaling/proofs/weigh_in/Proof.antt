@@ -7,7 +7,7 @@ use lib.ListN.{length, length-set}
 use borrow.Author.Needs.{needs}
 use Rattle.lists.proofs.Filled.{Filled, fill-start, fill-step, fill-end}
 use Rattle.field.specs.Fields.{modulus}
-use Rattle.word_scaling.specs.Kernels.{weighted}
+use Rattle.word_scaling.specs.Scaling.{weighted}
 use Rattle.word_scaling.proofs.Weights.{length-weighted, getD-weighted}
 use Rattle.word_scaling.proofs.weigh_in.Statement.{statement}
 use Rattle.word_scaling.proofs.weigh_in.Tie as tie

@@ -2,18 +2,23 @@
 --     SumFits                      two lists and a result slice as long as their sum
 --     combinedWords                two lists of one length, added word by word, or subtracted where `minus`
 --     combined                     the sum of two lists, or, where `minus`, their difference
+--     combinedWritten              what the result slice of either holds at the end, over field k
 -- Assumes nothing.
 use mathlib.Core.Path.{_≡_}
 use mathlib.Core.Bool.{Bool, cond}
 use mathlib.Core.List.{List}
 use Prim.Native.Nat.{ℕ, max}
 use lib.ListN.{length}
+use Rattle.refusal.specs.Refusal.{written}
+use Rattle.refusal.specs.Lowest.{lowest}
+use Rattle.field.specs.Fields.{modulus, fieldAt, longest}
 use Rattle.algebra.specs.Ring.{CommRing}
 use Rattle.algebra.specs.PrimeField.{PrimeField, scalars, value}
 use Rattle.lists.specs.Tabulate.{tabulate}
 use Rattle.lists.specs.Lists.{word}
 use Rattle.lists.specs.Refused.{IsList}
 use Rattle.lists.specs.Operations.{sumOf, differenceOf}
+use Rattle.list_sum.specs.Calls.{sumRows}
 
 pub record SumFits (p most : ℕ) (f g out : List ℕ) : Type 0 where
   pub first : IsList p most f
@@ -30,3 +35,6 @@ module _ (F : PrimeField) where
 
   abbrev pub combined : Bool → (f g : List ℕ) → List ℕ
   combined minus f g = cond minus (differenceOf F f g) (sumOf F f g)
+
+abbrev pub combinedWritten : (k : ℕ) → Bool → (f g out : List ℕ) → List ℕ
+combinedWritten k minus f g out = written (lowest (sumRows (modulus k) (longest k) f g out)) (combined (fieldAt k) minus f g) out

@@ -5,10 +5,10 @@ ghost use Prim.Native.Nat.{_+_, _-_, _%_};
 ghost use lib.ListN.{length};
 ghost use Rattle.refusal.specs.Contract.{given, final};
 ghost use Rattle.field.specs.Fields.{modulus, fieldAt, longest};
-ghost use Rattle.refusal.specs.Refusal.{outcomeReply, written};
+ghost use Rattle.refusal.specs.Refusal.{outcomeReply};
 ghost use Rattle.refusal.specs.Lowest.{lowest};
 ghost use Rattle.list_sum.specs.Calls.{sumRows, differenceWritten, sumAnswer, sumWritten};
-ghost use Rattle.list_sum.specs.Internal.{SumFits, combinedWords, combined};
+ghost use Rattle.list_sum.specs.Internal.{combinedWritten, SumFits, combinedWords, combined};
 use lists::NaiveDegree;
 use refusal::Outcome;
 use refusal::Refusal;
@@ -32,7 +32,7 @@ pub fn difference_over(field: u8, f: &[u16], g: &[u16], out: &mut [u16]) -> Outc
 // f plus g, or f less g.
 fn combine(field: u8, f: &[u16], g: &[u16], minus: bool, out: &mut [u16]) -> Outcome
     ensures answer { λ r. ⌜ outcomeReply r ≡ sumAnswer field (given f) (given g) (given out) ⌝ }
-    ensures writes { λ _. ⌜ final out ≡ written (lowest (sumRows (modulus field) (longest field) (given f) (given g) (given out))) (combined (fieldAt field) minus (given f) (given g)) (given out) ⌝ }
+    ensures writes { λ _. ⌜ final out ≡ combinedWritten field minus (given f) (given g) (given out) ⌝ }
 {
     let answer = judge_sum(field, f, g, out);
     match answer {

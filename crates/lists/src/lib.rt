@@ -2,6 +2,7 @@
 ghost use mathlib.Core.Path.{_≡_};
 ghost use mathlib.Core.List.{[], _∷_};
 ghost use Prim.Native.Nat.{_-_};
+ghost use Rattle.refusal.specs.Contract.{given};
 ghost use Rattle.refusal.specs.Lowest.{lowest};
 ghost use Rattle.field.specs.Fields.{modulus, longest};
 ghost use Rattle.lists.specs.Degrees.{naiveDegree, significant, extent, power};
@@ -30,7 +31,7 @@ fn power_of(degree: NaiveDegree, extent: Extent) -> Power
 
 // The naive degree of a list; 0 where it has no words.
 pub fn degree_of(list: &[u16]) -> NaiveDegree
-    ensures { λ r. ⌜ r .0 ≡ naiveDegree (now (list .entry)) ⌝ }
+    ensures { λ r. ⌜ r .0 ≡ naiveDegree (given list) ⌝ }
 {
     if list.len() == 0 {
         return NaiveDegree(0);
@@ -40,7 +41,7 @@ pub fn degree_of(list: &[u16]) -> NaiveDegree
 
 // Whether a list has 0 words, or more than a list over the field may have.
 fn wrong_length(field: u8, list: &[u16]) -> bool
-    ensures { λ r. ⌜ r ≡ wrongLength (longest field) (now (list .entry)) ⌝ }
+    ensures { λ r. ⌜ r ≡ wrongLength (longest field) (given list) ⌝ }
 {
     if list.len() == 0 {
         return true;
@@ -50,7 +51,7 @@ fn wrong_length(field: u8, list: &[u16]) -> bool
 
 // Whether a word of a list is p or more: whether the largest is. The loop has one way out, so that LLVM takes eight words at a time.
 fn has_loose(field: u8, list: &[u16]) -> bool
-    ensures { λ r. ⌜ r ≡ hasLoose (modulus field) (now (list .entry)) ⌝ }
+    ensures { λ r. ⌜ r ≡ hasLoose (modulus field) (given list) ⌝ }
 {
     let mut largest: u16 = 0;
     let mut i = 0;
@@ -66,7 +67,7 @@ fn has_loose(field: u8, list: &[u16]) -> bool
 
 // The number of words up to the last one that is not 0, from the top.
 pub fn significant_words(list: &[u16]) -> usize
-    ensures { λ r. ⌜ r ≡ significant (now (list .entry)) ⌝ }
+    ensures { λ r. ⌜ r ≡ significant (given list) ⌝ }
 {
     let mut n = list.len();
     while 0 < n {
@@ -80,7 +81,7 @@ pub fn significant_words(list: &[u16]) -> usize
 
 // The extent of a list; 0 for a zero list, which has none.
 pub fn extent_of(list: &[u16]) -> Extent
-    ensures { λ r. ⌜ r .0 ≡ extent (now (list .entry)) ⌝ }
+    ensures { λ r. ⌜ r .0 ≡ extent (given list) ⌝ }
 {
     let n = significant_words(list);
     if n == 0 {
@@ -91,14 +92,14 @@ pub fn extent_of(list: &[u16]) -> Extent
 
 // The power of a list that is not zero.
 pub fn power_in(list: &[u16]) -> Power
-    ensures { λ r. ⌜ r .0 ≡ power (now (list .entry)) ⌝ }
+    ensures { λ r. ⌜ r .0 ≡ power (given list) ⌝ }
 {
     power_of(degree_of(list), extent_of(list))
 }
 
 // What a call refuses in its one list.
 pub fn judge_list(field: u8, list: &[u16]) -> Outcome
-    ensures { λ r. ⌜ r ≡ lowest (listRefusals (modulus field) (longest field) (now (list .entry) ∷ [])) ⌝ }
+    ensures { λ r. ⌜ r ≡ lowest (listRefusals (modulus field) (longest field) (given list ∷ [])) ⌝ }
 {
     if wrong_length(field, list) {
         return Outcome::Refused(Refusal::Length);
@@ -111,7 +112,7 @@ pub fn judge_list(field: u8, list: &[u16]) -> Outcome
 
 // What a call refuses in its two lists.
 pub fn judge_lists(field: u8, f: &[u16], g: &[u16]) -> Outcome
-    ensures { λ r. ⌜ r ≡ lowest (listRefusals (modulus field) (longest field) (now (f .entry) ∷ now (g .entry) ∷ [])) ⌝ }
+    ensures { λ r. ⌜ r ≡ lowest (listRefusals (modulus field) (longest field) (given f ∷ given g ∷ [])) ⌝ }
 {
     if wrong_length(field, f) {
         return Outcome::Refused(Refusal::Length);

@@ -1,11 +1,12 @@
 -- The product of two series on words, and the lengths that fit.
---     convolveFits most a b out     the slices' lengths fit; where they do not, nothing is written
+--     convolveFits most a b out     the slices' lengths fit
 --     convolution F a b             the words of the product of two series that two lists of words are
+--     convolvedInto                 what the result slice holds at the end: the product where it fits, else what it held
 -- Theorems (proofs/Convolution):
 --     convolution-is         the product in whole numbers, reduced, is this
 --     length-convolution     it has one word less than both lists together
 -- Assumes nothing.
-use mathlib.Core.Bool.{Bool, _&&_}
+use mathlib.Core.Bool.{Bool, cond, _&&_}
 use mathlib.Core.List.{List}
 use Prim.Native.Nat.{ℕ, _+_, _-_}
 use lib.Dec.{leb, eqb}
@@ -21,3 +22,6 @@ unfoldable pub convolution : PrimeField → (a b : List ℕ) → List ℕ
 convolution F a b =
     tabulate (length a + length b - 1)
     (λ k. value F (F .series .coeff (F .series .ring .mul (seriesOf F a) (seriesOf F b)) k))
+
+abbrev pub convolvedInto : PrimeField → (most : ℕ) → (a b out : List ℕ) → List ℕ
+convolvedInto F most a b out = cond (convolveFits most a b out) (convolution F a b) out

@@ -5,6 +5,7 @@ ghost use mathlib.Core.Path.{_≡_};
 ghost use mathlib.Core.Bool.{cond};
 ghost use Prim.Native.Nat.{_+_, _-_, _*_, _%_, _<_, _≤_};
 ghost use lib.ListN.{length};
+ghost use Rattle.refusal.specs.Contract.{given, final};
 ghost use Rattle.word_product_rows.specs.Placed.{Placed};
 ghost use Rattle.word_product_rows.specs.Rows.{dot, gainAt, rowsFit, withRows};
 
@@ -18,7 +19,7 @@ fn times(x: u64, y: u64) -> u64
 // A sum of n products with one more, n below 8.
 fn add_term(sum: u64, x: &[u64], y: &[u64], i: usize, z: usize, n: usize) -> u64
     requires { ⌜ (i + 8 ≤ length (now x)) × (z + 7 < length (now y)) × (n < 8) × (sum ≡ dot (now x) (now y) i z n) ⌝ }
-    ensures { λ r. ⌜ r ≡ dot (now (x .entry)) (now (y .entry)) i z (n + 1) ⌝ }
+    ensures { λ r. ⌜ r ≡ dot (given x) (given y) i z (n + 1) ⌝ }
 {
     sum + times(x[i + n], y[z + 7 - n])
 }
@@ -26,7 +27,7 @@ fn add_term(sum: u64, x: &[u64], y: &[u64], i: usize, z: usize, n: usize) -> u64
 // Eight words of x, from i on, times eight words of y, from z + 7 on backwards.
 fn dot8(x: &[u64], y: &[u64], i: usize, z: usize) -> u64
     requires { ⌜ (i + 8 ≤ length (now x)) × (z + 7 < length (now y)) ⌝ }
-    ensures { λ r. ⌜ r ≡ dot (now (x .entry)) (now (y .entry)) i z 8 ⌝ }
+    ensures { λ r. ⌜ r ≡ dot (given x) (given y) i z 8 ⌝ }
 {
     let s1 = add_term(0, x, y, i, z, 0);
     let s2 = add_term(s1, x, y, i, z, 1);
@@ -41,7 +42,7 @@ fn dot8(x: &[u64], y: &[u64], i: usize, z: usize) -> u64
 // The eight rows from i on: word i + z gains their words there, for each z where y has eight words.
 fn add_eight(x: &[u64], y: &[u64], i: usize, s: &mut [u64])
     requires { ⌜ (i + 8 ≤ length (now x)) × (7 ≤ length (now y)) × (i + length (now y) ≤ length (now s) + 7) ⌝ }
-    ensures { λ _. ⌜ Placed i (length (now (y .entry)) - 7) (gainAt (now (x .entry)) (now (y .entry)) (now (s .entry)) i) (now (s .entry)) (now (s .exit)) ⌝ }
+    ensures { λ _. ⌜ Placed i (length (given y) - 7) (gainAt (given x) (given y) (given s) i) (given s) (final s) ⌝ }
 {
     let mut z = 0;
     while z < y.len() - 7 {
@@ -53,7 +54,7 @@ fn add_eight(x: &[u64], y: &[u64], i: usize, s: &mut [u64])
 // All rows, eight after eight.
 fn add_all(x: &[u64], y: &[u64], s: &mut [u64])
     requires { ⌜ (7 ≤ length (now y)) × (length (now x) + length (now y) ≤ length (now s) + 15) ⌝ }
-    ensures { λ _. ⌜ now (s .exit) ≡ withRows (now (x .entry)) (now (y .entry)) (now (s .entry)) ⌝ }
+    ensures { λ _. ⌜ final s ≡ withRows (given x) (given y) (given s) ⌝ }
 {
     let mut g = 0;
     while g < x.len() / 8 {
@@ -65,7 +66,7 @@ fn add_all(x: &[u64], y: &[u64], s: &mut [u64])
 // s with the rows of x times y added, where it has room for them. Where y begins and ends with 7 zeros, and nothing passes the bits that
 // count, that is the product of the words of x and of those between the zeros.
 pub fn add_rows(x: &[u64], y: &[u64], s: &mut [u64])
-    ensures { λ _. ⌜ now (s .exit) ≡ cond (rowsFit (now (x .entry)) (now (y .entry)) (now (s .entry))) (withRows (now (x .entry)) (now (y .entry)) (now (s .entry))) (now (s .entry)) ⌝ }
+    ensures { λ _. ⌜ final s ≡ cond (rowsFit (given x) (given y) (given s)) (withRows (given x) (given y) (given s)) (given s) ⌝ }
 {
     if y.len() < 7 {
         return;

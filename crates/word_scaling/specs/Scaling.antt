@@ -1,12 +1,13 @@
 -- Words weighed with the entries of two tables.
 --     weightedAt                    word k of x times entry n - 1 of whole, entry k of part and entry n - 1 - k of part, modulo p
 --     weighted p whole part n x     the first n words of x, weighed so
---     weighFits                     the words and both tables are as long as the result; else nothing is written
+--     weighFits                     the words and both tables are as long as the result
+--     weighedInto                   what the result slice holds at the end: the weighed words where they fit, else what it held
 -- Theorems (proofs/Weights):
 --     scale-is, unscale-is     with the tables of factorials and of their inverses these are the words of a list's scaled form, and
 --                              of the list of a scaled form
 -- Assumes nothing.
-use mathlib.Core.Bool.{Bool, _&&_}
+use mathlib.Core.Bool.{Bool, cond, _&&_}
 use mathlib.Core.List.{List}
 use Prim.Native.Nat.{ℕ, _-_, _*_, _%_}
 use lib.Dec.{leb}
@@ -22,3 +23,6 @@ weighted p whole part n x = tabulate n (weightedAt p whole part n x)
 unfoldable pub weighFits : (words whole part out : List ℕ) → Bool
 weighFits words whole part out =
     leb (length out) (length words) && (leb (length out) (length whole) && leb (length out) (length part))
+
+abbrev pub weighedInto : (p : ℕ) → (words whole part out : List ℕ) → List ℕ
+weighedInto p words whole part out = cond (weighFits words whole part out) (weighted p whole part (length out) words) out

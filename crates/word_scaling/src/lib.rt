@@ -1,12 +1,12 @@
 // Words weighed with tables: with those of factorials, a list's scaled form, and the list of a scaled form. Total: where the slices' lengths do
 // not fit, nothing is written.
 ghost use mathlib.Core.Path.{_≡_};
-ghost use mathlib.Core.Bool.{cond};
 ghost use Prim.Native.Nat.{_*_, _%_, _<_, _≤_};
 ghost use lib.ListN.{length};
+ghost use Rattle.refusal.specs.Contract.{given, final};
 ghost use Rattle.field.specs.Fields.{modulus};
 ghost use Rattle.word_montgomery.specs.Montgomery.{montgomery};
-ghost use Rattle.word_scaling.specs.Scaling.{weighted, weighFits};
+ghost use Rattle.word_scaling.specs.Scaling.{weighedInto, weighted};
 
 // x times y divided by 2^16 modulo p, where e is 1/p modulo 2^16: the multiple of p that has the low half of x times y is taken off. The
 // two high halves are compared by their differences from p: themselves LLVM would compare in 32 bits.
@@ -43,7 +43,7 @@ fn product_of_four(field: u8, x: u16, d: u16, a: u16, b: u16) -> u16
 // Word k times whole[n], part[k] and part[n - k], n + 1 being the length of out. C(n,k) is n! / (k! (n - k)!): with the factorials as
 // whole and their inverses as part the words are multiplied by C(n,k), and with the two exchanged they are divided by it.
 pub fn weigh(field: u8, words: &[u16], whole: &[u16], part: &[u16], out: &mut [u16])
-    ensures { λ _. ⌜ now (out .exit) ≡ cond (weighFits (now (words .entry)) (now (whole .entry)) (now (part .entry)) (now (out .entry))) (weighted (modulus field) (now (whole .entry)) (now (part .entry)) (length (now (out .entry))) (now (words .entry))) (now (out .entry)) ⌝ }
+    ensures { λ _. ⌜ final out ≡ weighedInto (modulus field) (given words) (given whole) (given part) (given out) ⌝ }
 {
     if words.len() < out.len() {
         return;
@@ -60,7 +60,7 @@ pub fn weigh(field: u8, words: &[u16], whole: &[u16], part: &[u16], out: &mut [u
 // The same, where the lengths fit.
 fn weigh_in(field: u8, words: &[u16], whole: &[u16], part: &[u16], out: &mut [u16])
     requires { ⌜ (length (now out) ≤ length (now words)) × (length (now out) ≤ length (now whole)) × (length (now out) ≤ length (now part)) ⌝ }
-    ensures { λ _. ⌜ now (out .exit) ≡ weighted (modulus field) (now (whole .entry)) (now (part .entry)) (length (now (out .entry))) (now (words .entry)) ⌝ }
+    ensures { λ _. ⌜ final out ≡ weighted (modulus field) (given whole) (given part) (length (given out)) (given words) ⌝ }
 {
     let n = out.len();
     if n == 0 {

@@ -1,10 +1,8 @@
 // The cofactors of the GCD of two lists.
 ghost use mathlib.Core.Path.{_≡_};
 ghost use mathlib.Core.Bool.{cond};
-ghost use mathlib.Core.List.{_++_};
 ghost use Prim.Native.Nat.{ℕ, suc, max, _+_, _-_, _<_, _≤_};
 ghost use lib.ListN.{length, getD, take, drop};
-ghost use Rattle.refusal.specs.Contract.{given, final};
 ghost use Rattle.algebra.specs.PrimeField.{residue};
 ghost use Rattle.refusal.specs.Contract.{given, final};
 ghost use Rattle.refusal.specs.Limits.{maxWords};

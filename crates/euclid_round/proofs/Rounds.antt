@@ -42,7 +42,7 @@ use Rattle.euclid_round.proofs.Significant.{getD-significant, length-si
 
 pub roundSteps-le : (x y : List ℕ) → roundSteps x y ≤ length x
 unfolding roundSteps
-roundSteps-le x y = let l = significant-le x in omega arith
+roundSteps-le x y = let most = significant-le x in omega arith
 
 pub round-ready : (p : ℕ) (x y q : List ℕ) → 0 < significant y → lastWord y < p → roundSteps x y ≤ length q → roundFits p x y q ≡ true
 unfolding roundFits
@@ -71,13 +71,13 @@ module _ (F : PrimeField) where
 
     pub rounds-few : euclid (F .series) (scalarField F) n n (seriesOf F x) (seriesOf F y) .rounds ≤ n
     rounds-few =
-        let l = size-le (F .series) (scalarField F) n (seriesOf F y) in
-        N.le-trans (euclid-ok (F .series) (scalarField F) n n below-x below-y l .few) l
+        let most = size-le (F .series) (scalarField F) n (seriesOf F y) in
+        N.le-trans (euclid-ok (F .series) (scalarField F) n n below-x below-y most .few) most
 
     module _ (some : 0 < significant y) where
       pub round-fits : (q : List ℕ) → n ≤ length q → roundFits (F .p) x y q ≡ true
       round-fits q l =
-          round-ready (F .p) x y q some (unfold lastWord in ly (significant y - 1)) (let h = roundSteps-le x y in omega arith)
+          round-ready (F .p) x y q some (unfold lastWord in ly (significant y - 1)) (let most = roundSteps-le x y in omega arith)
 
       -- the words that take part stand for the same series
       part-x : Carries F (take (significant x) x) (seriesOf F x)
@@ -114,7 +114,7 @@ module _ (F : PrimeField) where
             length-reduced (F .p) (inverseOf F (lastWord y)) (take (significant y) y) (roundSteps x y) (take (significant x) x),
             length-significant x,
             length-drop (significant x) x,
-          ) (let l = significant-le x in omega arith)
+          ) (let most = significant-le x in omega arith)
 
       pub length-quotientWords : length (quotientWords F x y) ≡ roundSteps x y
       unfolding quotientWords
@@ -132,10 +132,10 @@ module _ (F : PrimeField) where
           go : Dec (significant y - 1 ≤ significant x) → Carries F left (remainder (F .series) (scalarField F) (roundSteps x y) (significant y - 1) (seriesOf F x) (seriesOf F y))
           go (yes l) =
               reduced-remainder F (inverseOf F (lastWord y)) (significant y - 1) part-y long-y last-inverse (roundSteps x y) part-x
-              (let e = length-significant x in unfold roundSteps in omega arith)
+              (let words = length-significant x in unfold roundSteps in omega arith)
           go (no l) =
-              let e : roundSteps x y ≡ 0 = unfold roundSteps in omega arith in
-              rw (e, remainder-zero (F .series) (scalarField F) (significant y - 1) (seriesOf F x) (seriesOf F y)) (unfold reduced in part-x)
+              let none : roundSteps x y ≡ 0 = unfold roundSteps in omega arith in
+              rw (none, remainder-zero (F .series) (scalarField F) (significant y - 1) (seriesOf F x) (seriesOf F y)) (unfold reduced in part-x)
 
       rest : (k : ℕ) → getD (drop (significant x) x) k 0 ≡ 0
       rest k = getD-drop (significant x) x k 0 ∙ after-significant x (significant x + k) (omega arith)
@@ -161,10 +161,10 @@ module _ (F : PrimeField) where
               → Carries F (quotientWords F x y) (quotient (F .series) (scalarField F) (roundSteps x y) (significant y - 1) (seriesOf F x) (seriesOf F y))
           go (yes l) =
               digits-quotient F (inverseOf F (lastWord y)) (significant y - 1) part-y long-y last-inverse (roundSteps x y) part-x
-              (let e = length-significant x in unfold roundSteps in omega arith)
+              (let words = length-significant x in unfold roundSteps in omega arith)
           go (no l) =
-              let e : roundSteps x y ≡ 0 = unfold roundSteps in omega arith in
-              rw (e, quotient-zero (F .series) (scalarField F) (significant y - 1) (seriesOf F x) (seriesOf F y))
+              let none : roundSteps x y ≡ 0 = unfold roundSteps in omega arith in
+              rw (none, quotient-zero (F .series) (scalarField F) (significant y - 1) (seriesOf F x) (seriesOf F y))
               (unfold digits in record { below = λ j. positive F; at = λ j. residue-0 F ∙ sym (coeff-0 (F .series) j) })
 
       pub remaining-low : (k : ℕ) → getD (remaining F x y) k 0 < F .p

@@ -48,7 +48,7 @@ identity-right f g = omega arith
 
 significant-naive : (c : List ℕ) → significant c ≤ suc (naiveDegree c)
 unfolding naiveDegree
-significant-naive c = let l = significant-le c in omega arith
+significant-naive c = let most = significant-le c in omega arith
 
 module _ (F : PrimeField) where
   open CommRing (F .series .ring) using (Carrier as S, zero as 0ˢ, add as _+ˢ_, mul as _*ˢ_)
@@ -65,11 +65,11 @@ module _ (F : PrimeField) where
 
   few-a : (f g : List ℕ) → Coefficients F f → Coefficients F g → suc (identityDegree f g - naiveDegree f) ≤ F .p
   unfolding identityDegree naiveDegree
-  few-a f g cf cg = let a = cf .short in let b = cg .short in let c = F .prime .big in omega arith
+  few-a f g cf cg = let short-f = cf .short in let short-g = cg .short in let above-1 = F .prime .big in omega arith
 
   few-b : (f g : List ℕ) → Coefficients F f → Coefficients F g → suc (identityDegree f g - naiveDegree g) ≤ F .p
   unfolding identityDegree naiveDegree
-  few-b f g cf cg = let a = cf .short in let b = cg .short in let c = F .prime .big in omega arith
+  few-b f g cf cg = let short-f = cf .short in let short-g = cg .short in let above-1 = F .prime .big in omega arith
 
   pub coefficients-cofactorA : (f g : List ℕ) → Coefficients F f → Coefficients F g → Coefficients F (cofactorA F f g)
   unfolding cofactorA

@@ -45,7 +45,7 @@ module _ (F : PrimeField) where
       ∙ ap (λ k. hom (F .series) k (scaled F a *ˢ scaled F c)) e
     where
       e : naiveDegree a + naiveDegree c ≡ m
-      e = let d = naive-length a _ l in omega arith
+      e = let degree = naive-length a _ l in omega arith
 
   -- for any a and b of these lengths the left side of the identity is the one in u
   in-u : (f g a b : List ℕ) → length a ≡ suc (identityDegree f g - naiveDegree f) → length b ≡ suc (identityDegree f g - naiveDegree g)

@@ -1,4 +1,10 @@
--- Laws: The h and the number of rounds that document 01 defines for two lists f and g, by its rounds as a relation, however they are computed.
+-- The h and the number of rounds of two lists, as they are computed, are those that document 01's rounds define as a relation.
+-- Theorems:
+--     head-extent     the naive degree of such an h is its extent
+--     head-gcd        the GCD's h is what document 01 says of h
+--     gcd-is-the      the GCD's h and rounds are those of the relation
+--     monic-only      one list has a given scaled form, made to have last word 1
+--     gcd-only        no other h and rounds are those of the relation
 -- Assumes nothing.
 use mathlib.Core.Path.{_≡_, sym, _∙_, ap, subst}
 use mathlib.Core.List.{List}

@@ -1,4 +1,11 @@
--- Laws: Division of lists: the quotient q and the remainder r meet g = q·f + (1-t)^(e-d+1)·r, and no other lists of their lengths do.
+-- Division of lists: the quotient q and the remainder r meet g = q·f + (1-t)^(e-d+1)·r, and no other lists of their lengths do.
+-- Theorems:
+--     meaning-at-1                                   f(1) is the last word of f
+--     length-quotient, length-remainder              the numbers of words of q and r
+--     coefficients-quotient, coefficients-remainder  their words are coefficients
+--     scaled-quotient, scaled-remainder              their scaled forms are the quotient and the remainder of the scaled forms
+--     division-identity                              the equation holds
+--     division-only                                  with any other coefficients, in the same two lengths, it fails
 -- Assumes nothing.
 use mathlib.Core.Path.{_≡_, sym, _∙_, ap, ap₂, subst}
 use mathlib.Core.List.{List}

@@ -1,4 +1,11 @@
--- Laws: The GCD of two lists f and g, not both zero, is the greatest common divisor of their polynomials: with c the common power,
+-- (1-t)^c·h, with c the common power of two lists f and g that are not both zero, is the greatest common divisor of their polynomials.
+-- Theorems:
+--     meaning-zero                    a list without a significant word stands for 0
+--     divides-list                    (1-t)^c·h divides f where the scaled form of h divides that of f and c is no larger than f's power
+--     divides-left, divides-right     it divides the polynomials of f and g
+--     bezout-gcd                      h times a power of 1-t is a sum of multiples of the two
+--     least-power                     c is the least power of 1-t that divides both
+--     gcd-is-greatest                 it divides both, and every polynomial that divides both divides it
 -- Assumes nothing.
 use mathlib.Core.Path.{_≡_, sym, _∙_, ap, subst}
 use mathlib.Core.Logic.{_⊎_, inl, inr}

@@ -38,7 +38,7 @@ small p {r0} {r1} {m0} {m1} s = omega (arith, s .whole, mul-le-mul-right m1 some
     some = omega (arith, s .falls)
 
 positive : (p : ℕ) → Prime p → 0 < p
-positive p prime = let h : 1 < p = prime .big in omega arith
+positive p prime = let above-1 : 1 < p = prime .big in omega arith
 
 size-neg : (m : ℕ) {p : ℕ} → m ≤ p → natAbs (negℤ (pos m)) ≤ p
 size-neg zero h = h
@@ -86,7 +86,7 @@ module _ (p : ℕ) (prime : Prime p) where
     below : (m k : ℕ) → r + m * a ≡ k * p → Leaves p a r ((p - m % p) % p)
     below m k e =
         let n : ℕ = m % p in
-        let l : n < p = mod-lt m (positive p prime) in
+        let below-p : n < p = mod-lt m (positive p prime) in
         let more : 0 < n = neg-some n (m / p) m k (div-add-mod' m p) e in
         subst (λ (b : ℕ). Leaves p a r b) (sym (mod-eq-of-lt (omega arith)))
         (record {
@@ -106,15 +106,15 @@ module _ (p : ℕ) (prime : Prime p) where
     pub ended : (r0 t0 t1 : ℕ) → Steps p a r0 r t0 t1 → Ended t1
     unfolding residueOf
     ended r0 t0 t1 (inl u) =
-        let e : toZ w32 t1 ≡ pos (u .m1) = u .sign1 in
+        let sign : toZ w32 t1 ≡ pos (u .m1) = u .sign1 in
         record {
-          size = subst (λ (z : ℤ). natAbs z ≤ p) (sym e) (small p (u .common));
-          leaves = subst (λ (z : ℤ). Leaves p a r (residueOf p z)) (sym e) (above (u .m1) (u .k1) (u .right));
+          size = subst (λ (z : ℤ). natAbs z ≤ p) (sym sign) (small p (u .common));
+          leaves = subst (λ (z : ℤ). Leaves p a r (residueOf p z)) (sym sign) (above (u .m1) (u .k1) (u .right));
         }
     ended r0 t0 t1 (inr u) =
-        let e : toZ w32 t1 ≡ negℤ (pos (u .m1)) = u .sign1 in
+        let sign : toZ w32 t1 ≡ negℤ (pos (u .m1)) = u .sign1 in
         let more : 0 < u .m1 = some-size p prime (u .m1) (u .common) in
         record {
-          size = subst (λ (z : ℤ). natAbs z ≤ p) (sym e) (size-neg (u .m1) (small p (u .common)));
-          leaves = subst (λ (b : ℕ). Leaves p a r b) (sym (ap (residueOf p) e ∙ of-negative (u .m1) more)) (below (u .m1) (u .k1) (u .right));
+          size = subst (λ (z : ℤ). natAbs z ≤ p) (sym sign) (size-neg (u .m1) (small p (u .common)));
+          leaves = subst (λ (b : ℕ). Leaves p a r b) (sym (ap (residueOf p) sign ∙ of-negative (u .m1) more)) (below (u .m1) (u .k1) (u .right));
         }

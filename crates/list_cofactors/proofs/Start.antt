@@ -60,7 +60,7 @@ module _ (F : PrimeField) (n : ℕ) where
     where
       go : Dec (k < n) → getD (partS n u) k 0 ≡ 0
       go (yes l) = getD-partS u k l ∙ h l
-      go (no l) = let q = length-partS n u e in List·getD-eq-default (partS n u) 0 (omega arith)
+      go (no l) = let words = length-partS n u e in List·getD-eq-default (partS n u) 0 (omega arith)
 
   module _ (some : 0 < n) {u v : List ℕ} {a b : S} (su : Started F n n u a) (sv : Started F n (n + n) v b) where
     first : n + 0 ≡ n
@@ -91,7 +91,7 @@ module _ (F : PrimeField) (n : ℕ) where
 
     after-1 : (l : List ℕ) → ((k : ℕ) → getD l (suc k) 0 ≡ 0) → ZeroFrom (reach F n u v) l
     after-1 l h =
-        zero-later at-least-1 (record { at = λ k b. let e : k ≡ suc (k - 1) = omega arith in ap (λ i. getD l i 0) e ∙ h (k - 1) })
+        zero-later at-least-1 (record { at = λ k b. let next : k ≡ suc (k - 1) = omega arith in ap (λ i. getD l i 0) next ∙ h (k - 1) })
 
     -- the rows that the loop starts from
     pub carried-start : Carried F n u v u v 0

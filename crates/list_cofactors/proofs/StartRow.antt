@@ -52,7 +52,7 @@ module _ (F : PrimeField) (n : ℕ) where
       where
         go : Dec (k < n) → getD (take n z) k 0 ≡ 0
         go (yes l) = getD-take n z k 0 l ∙ h k
-        go (no l) = let e = length-partX n z ez in List·getD-eq-default (take n z) 0 (omega arith)
+        go (no l) = let words = length-partX n z ez in List·getD-eq-default (take n z) 0 (omega arith)
 
     front : Holds F n (out ++ drop (length c) (take n z)) (scaled F c)
     front =
@@ -100,6 +100,6 @@ module _ (F : PrimeField) (n : ℕ) where
         record {
           size = length-set (out ++ drop (length c) z) one 1 ∙ length-all;
           holds = subst (λ l. Holds F n l (scaled F c)) (sym front-is) front;
-          here = getD-set-same (out ++ drop (length c) z) one 1 0 (let e = length-all in omega arith);
+          here = getD-set-same (out ++ drop (length c) z) one 1 0 (let words = length-all in omega arith);
           zeros = λ k l e. getD-set-other (out ++ drop (length c) z) one k 1 0 e ∙ behind k l;
         }

@@ -96,7 +96,7 @@ module _ (F : PrimeField) where
         ∙ one a (terms k c) (monomial (F .series) (F .series .coeff c k) k) b
         ∙ ap (λ z. a +ˢ -ˢ (z *ˢ b)) (sym (sum-suc (F .series) k _)))
         (row-low F n k (negated (F .p) (getD q k 0)) (less-terms-low k) lt
-        (let e = length-lessProductTo (F .p) k s q t in omega arith) nt)
+        (let words = length-lessProductTo (F .p) k s q t in omega arith) nt)
       where
         one : (a x y b : S) → a +ˢ -ˢ (x *ˢ b) +ˢ -ˢ (y *ˢ b) ≡ a +ˢ -ˢ ((x +ˢ y) *ˢ b)
         one a x y b = simp RING

@@ -88,7 +88,7 @@ module _ (F : PrimeField) where
       go : (j : ℕ) → Dec (j < k)
           → residue F (getD (rowFrom (F .p) k x m y) j 0) ≡ F .series .coeff (s +ˢ monomial (F .series) (residue F m) k *ˢ r) j
       go j (yes l) = row-low-word k m x y s r j l (cx .at j)
-      go j (no l) = let e : j ≡ k + (j - k) = omega arith in rw e (from (j - k) (decLt (j - k) (length y)))
+      go j (no l) = let split : j ≡ k + (j - k) = omega arith in rw split (from (j - k) (decLt (j - k) (length y)))
 
   pub row-low : (n k m : ℕ) {x y : List ℕ} {s r : S} → Low F n x s → Low F n y r → n ≤ length x → n ≤ length y
       → Low F n (rowFrom (F .p) k x m y) (s +ˢ monomial (F .series) (residue F m) k *ˢ r)
@@ -102,7 +102,7 @@ module _ (F : PrimeField) where
       go : (j : ℕ) → j < n → Dec (j < k)
           → residue F (getD (rowFrom (F .p) k x m y) j 0) ≡ F .series .coeff (s +ˢ monomial (F .series) (residue F m) k *ˢ r) j
       go j l (yes h) = row-low-word k m x y s r j h (cx .at j l)
-      go j l (no h) = let e : j ≡ k + (j - k) = omega arith in rw e (from (j - k) (omega arith))
+      go j l (no h) = let split : j ≡ k + (j - k) = omega arith in rw split (from (j - k) (omega arith))
 
   -- a monomial of minus c
   minus-monomial : (c : K) (k : ℕ) → monomial (F .series) (⊖ c) k ≡ -ˢ monomial (F .series) c k

@@ -38,7 +38,7 @@ pub length-digits : (p inv : ℕ) (y : List ℕ) (k : ℕ) (x : List ℕ) → le
 unfolding digits
 length-digits p inv y zero x = refl
 length-digits p inv y (suc k) x =
-    let e = length-digits p inv y k (rowFrom p k x (negated p (digit p inv y k x)) y) in
+    let words = length-digits p inv y k (rowFrom p k x (negated p (digit p inv y k x)) y) in
     length-append (digits p inv y k (rowFrom p k x (negated p (digit p inv y k x)) y)) _ ∙ omega arith
 
 module _ (F : PrimeField) where
@@ -82,9 +82,9 @@ module _ (F : PrimeField) where
         → residue F (digit (F .p) inv y k x) ≡ D.digit (F .series) (scalarField F) k d s r
     unfolding digit D.digit
     digit-residue k {x} {s} cx =
-        let e : length y - 1 ≡ d = omega arith in
+        let degree : length y - 1 ≡ d = omega arith in
         residue-mul-mod F (getD x (length y - 1 + k) 0) inv
-        ∙ ap₂ (λ a b. a ⊗ b) (cx .at (length y - 1 + k) ∙ ap (λ j. F .series .coeff s (j + k)) e) top
+        ∙ ap₂ (λ a b. a ⊗ b) (cx .at (length y - 1 + k) ∙ ap (λ j. F .series .coeff s (j + k)) degree) top
 
     digit-below : (k : ℕ) (x : List ℕ) → digit (F .p) inv y k x < F .p
     unfolding digit
@@ -106,7 +106,7 @@ module _ (F : PrimeField) where
     reduced-remainder (suc k) {x} {s} cx l =
         rw (remainder-suc (F .series) (scalarField F) k d s r)
         (reduced-remainder k (step-series k cx (omega arith))
-        (let e = length-rowFrom (F .p) k x (negated (F .p) (digit (F .p) inv y k x)) y in omega arith))
+        (let words = length-rowFrom (F .p) k x (negated (F .p) (digit (F .p) inv y k x)) y in omega arith))
 
     pub digits-quotient : (k : ℕ) {x : List ℕ} {s : S} → Carries F x s → d + k ≤ length x
         → Carries F (digits (F .p) inv y k x) (quotient (F .series) (scalarField F) k d s r)
@@ -117,7 +117,7 @@ module _ (F : PrimeField) where
     digits-quotient (suc k) {x} {s} cx l =
         carries-snoc k (length-digits (F .p) inv y k _)
         (digits-quotient k (step-series k cx (omega arith))
-        (let e = length-rowFrom (F .p) k x (negated (F .p) (digit (F .p) inv y k x)) y in omega arith))
+        (let words = length-rowFrom (F .p) k x (negated (F .p) (digit (F .p) inv y k x)) y in omega arith))
         (digit-below k x)
         (digit-residue k cx ∙ sym (coeff-quotient-top (F .series) (scalarField F) k d s r))
         (λ j h. sym (coeff-quotient-low (F .series) (scalarField F) k d s r j h))

@@ -67,8 +67,8 @@ fn gcd_between(
     )
 }
 
-// The same by way of buffers: the result stands in one of its own until nothing can be refused any more; it comes as zeros. Where every
-// list is zero no power is found, and the least power is still the words of the longest list.
+// The same by way of buffers. The result stands in one of its own, which comes as zeros, until nothing can be refused any more: a refused
+// call leaves h as it came. Where every list is zero no power is found, and the least is still the words of the longest list.
 fn gcd_in(
     field: u8,
     album: &[u8],
@@ -107,7 +107,7 @@ struct SoFar {
     least: usize,
 }
 
-// The result after all lists, each read once; it comes as zeros, and the first of them is the zero list [0].
+// The result after all lists, each read once. It comes as zeros, the first of which is the zero list [0], where the joining starts.
 fn join_lists(
     field: u8,
     album: &[u8],

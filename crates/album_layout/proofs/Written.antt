@@ -1,4 +1,10 @@
--- Laws: The album that holds given lists, and what reading it gives back.
+-- The album that holds given lists: what reading it gives back. Entries and bodies are followed list by list.
+-- Theorems:
+--     album-obeys        it obeys the layout
+--     album-read         its lists are the given ones
+--     album-is-bytes     it is a list of bytes
+--     album-injective    two sequences of lists with one album are one
+--     example            document 01's album, byte by byte
 -- Assumes nothing.
 use mathlib.Core.Path.{_≡_, refl, sym, ap, ap₂, _∙_}
 use mathlib.Core.Bool.{true, false}

@@ -1,1 +1,1 @@
-// Division, GCD and cofactors of lists: the definitions and theorems stand in specs/.
+// Division, GCD and cofactors of lists: the definitions stand in specs/, the theorems in proofs/.

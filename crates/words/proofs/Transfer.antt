@@ -1,4 +1,8 @@
--- Laws: What reading words from bytes and writing words as bytes leaves in a slice.
+-- Reading words from bytes and writing words as bytes: what a slice then holds, and the steps of both loops.
+-- Theorems:
+--     into-exact      as many words as the bytes have: their words
+--     into-padded     at least as many: their words, padded
+--     bytes-fit       a slice of two bytes for each word holds the bytes of the words
 -- Assumes nothing.
 use mathlib.Core.Path.{_≡_, refl, sym, _∙_, ap, subst}
 use mathlib.Core.List.{List, [], _∷_}

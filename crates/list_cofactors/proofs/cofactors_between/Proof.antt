@@ -8,7 +8,6 @@ use native.Mathlib.Omega.{arith}
 use lib.ListN.{length-take}
 use Rattle.algebra.specs.PrimeField.{PrimeField}
 use Rattle.refusal.specs.Limits.{maxWords}
-use Rattle.field.specs.Fields.{fieldAt, longest}
 use Rattle.field.proofs.Fields.{longest-room}
 use Rattle.field_tables.specs.Factorials.{Tables}
 use Rattle.list_cofactors.proofs.StartRow.{rows-part}

@@ -6,7 +6,7 @@ ghost use mathlib.Core.List.{[], _∷_};
 ghost use Prim.Native.Nat.{_<_};
 ghost use lib.ListN.{length};
 ghost use Rattle.field.specs.Fields.{p, F65521};
-ghost use Rattle.refusal.specs.Contract.{given, final};
+ghost use Rattle.refusal.specs.Contract.{given};
 ghost use Rattle.refusal.specs.Limits.{maxWords};
 ghost use Rattle.refusal.specs.Lowest.{lowest};
 ghost use Rattle.refusal.specs.Refusal.{outcomeReply};
@@ -44,9 +44,9 @@ pub fn body(album: &[u8], i: usize) -> &[u8]
 // The words of list i, in a slice of as many words as the longest list has, zeros after them.
 pub fn read_list(album: &[u8], i: usize, out: &mut [u16]) -> Listed
     ensures answer { λ r. ⌜ listedReply r ≡ readAnswer 0 (given album) i (given out) ⌝ }
-    ensures writes { λ _. ⌜ final out ≡ readWritten 0 (given album) i (given out) ⌝ }
+    ensures writes { λ _. ⌜ now (out .exit) ≡ readWritten 0 (given album) i (given out) ⌝ }
     ensures demand1 { λ r. ⌜ Demand1 (readRows p maxWords (given album) i (given out)) (listedReply r .number) (slice out ∷ []) ⌝ }
-    ensures demand2 { λ r. ⌜ ReadSo F65521 (given album) i (given out) (final out) (listedReply r) ⌝ }
+    ensures demand2 { λ r. ⌜ ReadSo F65521 (given album) i (given out) (now (out .exit)) (listedReply r) ⌝ }
 {
     album_reader::read_list_over(0, album, i, out)
 }
@@ -54,9 +54,9 @@ pub fn read_list(album: &[u8], i: usize, out: &mut [u16]) -> Listed
 // The GCD of the album's lists: h goes to a slice of as many words as the longest list has, zeros after word w.
 pub fn gcd_of_album(album: &[u8], h: &mut [u16]) -> Gcd
     ensures answer { λ r. ⌜ gcdReply r ≡ albumGcdAnswer 0 (given album) (given h) ⌝ }
-    ensures writes { λ _. ⌜ final h ≡ albumGcdWritten 0 (given album) (given h) ⌝ }
+    ensures writes { λ _. ⌜ now (h .exit) ≡ albumGcdWritten 0 (given album) (given h) ⌝ }
     ensures demand1 { λ r. ⌜ Demand1 (albumGcdRows p maxWords (given album) (given h)) (gcdReply r .number) (slice h ∷ []) ⌝ }
-    ensures demand3 { λ r. ⌜ AlbumGreatest F65521 (listsOf (given album)) (final h) r ⌝ }
+    ensures demand3 { λ r. ⌜ AlbumGreatest F65521 (listsOf (given album)) (now (h .exit)) r ⌝ }
 {
     album_gcd::album_gcd_over(0, album, h)
 }

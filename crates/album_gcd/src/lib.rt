@@ -3,7 +3,7 @@ ghost use mathlib.Core.Path.{_≡_};
 ghost use Prim.Native.Nat.{ℕ, _*_, _≤_};
 ghost use lib.ListN.{length, getD, take};
 ghost use Rattle.field.specs.Fields.{modulus, fieldAt, longest};
-ghost use Rattle.refusal.specs.Contract.{given, final};
+ghost use Rattle.refusal.specs.Contract.{given};
 ghost use Rattle.refusal.specs.Limits.{maxWords, maxLists};
 ghost use Rattle.lists.specs.Refused.{IsList};
 ghost use Rattle.album_layout.specs.Layout.{listsOf};
@@ -22,8 +22,8 @@ use refusal::Refusal;
 // The GCD of the album's lists: h goes to a slice of as many words as the longest list has, zeros after word w.
 pub fn album_gcd_over(field: u8, album: &[u8], h: &mut [u16]) -> Gcd
     ensures answer { λ r. ⌜ gcdReply r ≡ albumGcdAnswer field (given album) (given h) ⌝ }
-    ensures writes { λ _. ⌜ final h ≡ albumGcdWritten field (given album) (given h) ⌝ }
-    ensures greatest { λ r. ⌜ AlbumGreatest (fieldAt field) (listsOf (given album)) (final h) r ⌝ }
+    ensures writes { λ _. ⌜ now (h .exit) ≡ albumGcdWritten field (given album) (given h) ⌝ }
+    ensures greatest { λ r. ⌜ AlbumGreatest (fieldAt field) (listsOf (given album)) (now (h .exit)) r ⌝ }
 {
     match album_layout::judge_album(field, album) {
         Outcome::Refused(why) => Gcd::Refused(why),
@@ -34,7 +34,7 @@ pub fn album_gcd_over(field: u8, album: &[u8], h: &mut [u16]) -> Gcd
 // The GCD of an album that passed: it lends arrays of zeros.
 fn gcd_into(field: u8, album: &[u8], h: &mut [u16]) -> Gcd
     requires { ⌜ Passed (modulus field) (now album) ⌝ }
-    ensures { λ r. ⌜ Answered (fieldAt field) (longest field) (given album) (given h) (final h) r ⌝ }
+    ensures { λ r. ⌜ Answered (fieldAt field) (longest field) (given album) (given h) (now (h .exit)) r ⌝ }
 {
     let mut list = [0u16; refusal::MAX_WORDS];
     let mut last = [0u16; refusal::MAX_WORDS];
@@ -54,7 +54,7 @@ fn gcd_between(
     requires { ⌜ Passed (modulus field) (now album) ⌝ }
     requires { ⌜ (length (now list) ≡ maxWords) × (length (now last) ≡ maxWords) × (length (now result) ≡ maxWords) ⌝ }
     requires { ⌜ ((k : ℕ) → getD (now result) k 0 ≡ 0) ⌝ }
-    ensures { λ r. ⌜ Answered (fieldAt field) (longest field) (given album) (given h) (final h) r ⌝ }
+    ensures { λ r. ⌜ Answered (fieldAt field) (longest field) (given album) (given h) (now (h .exit)) r ⌝ }
 {
     let n = field::longest_of(field);
     gcd_in(
@@ -81,7 +81,7 @@ fn gcd_in(
     requires { ⌜ (length (now list) ≡ longest field) × (length (now last) ≡ longest field)
         × (length (now result) ≡ longest field) ⌝ }
     requires { ⌜ ((k : ℕ) → getD (now result) k 0 ≡ 0) ⌝ }
-    ensures { λ r. ⌜ Answered (fieldAt field) (longest field) (given album) (given h) (final h) r ⌝ }
+    ensures { λ r. ⌜ Answered (fieldAt field) (longest field) (given album) (given h) (now (h .exit)) r ⌝ }
 {
     let n = field::longest_of(field);
     let found = join_lists(field, album, list, last, result);
@@ -120,7 +120,7 @@ fn join_lists(
         × (length (now result) ≡ longest field) ⌝ }
     requires { ⌜ ((k : ℕ) → getD (now result) k 0 ≡ 0) ⌝ }
     ensures { λ r. ⌜ Folded (fieldAt field) (longest field) (listsOf (given album))
-        (final result) (r .words) (r .rounds) (r .least) ⌝ }
+        (now (result .exit)) (r .words) (r .rounds) (r .least) ⌝ }
 {
     let n = words::byte_at(album, 0);
     let mut used = 1;
@@ -156,7 +156,7 @@ fn join_list(
     requires { ⌜ Held (modulus field) (longest field) (now result) used (take used (now result)) ⌝ }
     requires { ⌜ (length (now last) ≡ longest field) × (rounds ≤ maxWords * maxLists) ⌝ }
     ensures { λ r. ⌜ Joined (fieldAt field) (longest field) (take used (given result)) rounds least (given list)
-        (final result) (r .words) (r .rounds) (r .least) ⌝ }
+        (now (result .exit)) (r .words) (r .rounds) (r .least) ⌝ }
 {
     if lists::significant_words(list) == 0 {
         return SoFar {
@@ -184,7 +184,7 @@ fn join_list(
 // The words of one slice, to another of the same length.
 fn copy(from: &[u16], to: &mut [u16])
     requires { ⌜ length (now from) ≡ length (now to) ⌝ }
-    ensures { λ _. ⌜ final to ≡ given from ⌝ }
+    ensures { λ _. ⌜ now (to .exit) ≡ given from ⌝ }
 {
     let mut i = 0;
     while i < to.len() {

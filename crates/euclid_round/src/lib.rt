@@ -2,7 +2,7 @@
 ghost use mathlib.Core.Path.{_≡_};
 ghost use mathlib.Core.List.{_++_};
 ghost use lib.ListN.{take, drop};
-ghost use Rattle.refusal.specs.Contract.{given, final};
+ghost use Rattle.refusal.specs.Contract.{given};
 ghost use Rattle.field.specs.Fields.{modulus};
 ghost use Rattle.lists.specs.Degrees.{significant};
 ghost use Rattle.euclid_round.specs.Round.{stepsMade, wordsLeft, quotientLeft, formLeft, outLeft, multiplied, zeroedFrom};
@@ -25,9 +25,9 @@ pub fn shorten(
     q: &mut [u16],
 ) -> Shortened
     ensures steps { λ r. ⌜ r .steps ≡ stepsMade field (take nx (given x)) (take ny (given y)) (given q) ⌝ }
-    ensures count { λ r. ⌜ r .left ≡ significant (take nx (final x)) ⌝ }
-    ensures left { λ _. ⌜ final x ≡ wordsLeft field (take nx (given x)) (take ny (given y)) (given q) ++ drop nx (given x) ⌝ }
-    ensures quotient { λ _. ⌜ final q ≡ quotientLeft field (take nx (given x)) (take ny (given y)) (given q) ⌝ }
+    ensures count { λ r. ⌜ r .left ≡ significant (take nx (now (x .exit))) ⌝ }
+    ensures left { λ _. ⌜ now (x .exit) ≡ wordsLeft field (take nx (given x)) (take ny (given y)) (given q) ++ drop nx (given x) ⌝ }
+    ensures quotient { λ _. ⌜ now (q .exit) ≡ quotientLeft field (take nx (given x)) (take ny (given y)) (given q) ⌝ }
 {
     let mx = words::smaller(nx, x.len());
     let my = words::smaller(ny, y.len());
@@ -40,8 +40,8 @@ pub fn shorten(
 // The table of inverses saves time; nothing depends on it.
 fn round(field: u8, inverses: &[u16], x: &mut [u16], y: &[u16], q: &mut [u16]) -> usize
     ensures steps { λ r. ⌜ r ≡ stepsMade field (given x) (given y) (given q) ⌝ }
-    ensures left { λ _. ⌜ final x ≡ wordsLeft field (given x) (given y) (given q) ⌝ }
-    ensures quotient { λ _. ⌜ final q ≡ quotientLeft field (given x) (given y) (given q) ⌝ }
+    ensures left { λ _. ⌜ now (x .exit) ≡ wordsLeft field (given x) (given y) (given q) ⌝ }
+    ensures quotient { λ _. ⌜ now (q .exit) ≡ quotientLeft field (given x) (given y) (given q) ⌝ }
 {
     let nx = lists::significant_words(x);
     let ny = lists::significant_words(y);
@@ -75,8 +75,8 @@ pub fn write_list(
     words: usize,
     out: &mut [u16],
 )
-    ensures form { λ _. ⌜ final form ≡ formLeft (modulus field) (given whole) (given part) words m (given form) (given out) ⌝ }
-    ensures writes { λ _. ⌜ final out ≡ outLeft (modulus field) (given whole) (given part) words m (given form) (given out) ⌝ }
+    ensures form { λ _. ⌜ now (form .exit) ≡ formLeft (modulus field) (given whole) (given part) words m (given form) (given out) ⌝ }
+    ensures writes { λ _. ⌜ now (out .exit) ≡ outLeft (modulus field) (given whole) (given part) words m (given form) (given out) ⌝ }
 {
     if form.len() < words {
         return;
@@ -97,7 +97,7 @@ pub fn write_list(
 
 // Each word times m.
 fn times_word(field: u8, x: &mut [u16], m: u16)
-    ensures { λ _. ⌜ final x ≡ multiplied (modulus field) m (given x) ⌝ }
+    ensures { λ _. ⌜ now (x .exit) ≡ multiplied (modulus field) m (given x) ⌝ }
 {
     let mut i = 0;
     while i < x.len() {
@@ -108,7 +108,7 @@ fn times_word(field: u8, x: &mut [u16], m: u16)
 
 // Zeros from word `from` on.
 fn zero_from(out: &mut [u16], from: usize)
-    ensures { λ _. ⌜ final out ≡ zeroedFrom from (given out) ⌝ }
+    ensures { λ _. ⌜ now (out .exit) ≡ zeroedFrom from (given out) ⌝ }
 {
     let mut i = from;
     while i < out.len() {

@@ -6,7 +6,7 @@ ghost use mathlib.Core.List.{[], _∷_};
 ghost use Prim.Native.Nat.{_<_};
 ghost use lib.ListN.{length};
 ghost use Rattle.field.specs.Fields.{longest};
-ghost use Rattle.refusal.specs.Contract.{given, final};
+ghost use Rattle.refusal.specs.Contract.{given};
 ghost use Rattle.lists.specs.Bytes.{wordCount, bytesOf};
 ghost use Rattle.list_bytes.specs.Calls.{hostProductAnswer, hostProductWritten};
 ghost use Rattle.list_bytes.specs.Calls.{hostDivisionAnswer, hostQuotientWritten, hostRemainderWritten};
@@ -28,7 +28,7 @@ const ANSWER_BYTES: usize = 6;
 // The product of f and g.
 pub fn product_over(field: u8, f: &[u8], g: &[u8], out: &mut [u8]) -> u8
     ensures answer { λ r. ⌜ r ≡ hostProductAnswer field (given f) (given g) (given out) ⌝ }
-    ensures writes { λ _. ⌜ final out ≡ hostProductWritten field (given f) (given g) (given out) ⌝ }
+    ensures writes { λ _. ⌜ now (out .exit) ≡ hostProductWritten field (given f) (given g) (given out) ⌝ }
 {
     if bad_list(field, f) {
         return refusal::number_of(Refusal::Length);
@@ -42,8 +42,8 @@ pub fn product_over(field: u8, f: &[u8], g: &[u8], out: &mut [u8]) -> u8
 // g divided by f: the quotient goes to q, the remainder to r.
 pub fn divide_over(field: u8, g: &[u8], f: &[u8], q: &mut [u8], r: &mut [u8]) -> u8
     ensures answer { λ a. ⌜ a ≡ hostDivisionAnswer field (given g) (given f) (given q) (given r) ⌝ }
-    ensures quotient { λ _. ⌜ final q ≡ hostQuotientWritten field (given g) (given f) (given q) (given r) ⌝ }
-    ensures remainder { λ _. ⌜ final r ≡ hostRemainderWritten field (given g) (given f) (given q) (given r) ⌝ }
+    ensures quotient { λ _. ⌜ now (q .exit) ≡ hostQuotientWritten field (given g) (given f) (given q) (given r) ⌝ }
+    ensures remainder { λ _. ⌜ now (r .exit) ≡ hostRemainderWritten field (given g) (given f) (given q) (given r) ⌝ }
 {
     if bad_list(field, g) {
         return refusal::number_of(Refusal::Length);
@@ -57,8 +57,8 @@ pub fn divide_over(field: u8, g: &[u8], f: &[u8], q: &mut [u8], r: &mut [u8]) ->
 // The GCD of f and g: h, as many words as the longest list has; the answer, three words: w, c and rounds.
 pub fn gcd_over(field: u8, f: &[u8], g: &[u8], h: &mut [u8], answer: &mut [u8]) -> u8
     ensures answer { λ r. ⌜ r ≡ hostGcdAnswer field (given f) (given g) (given h) (given answer) ⌝ }
-    ensures writes { λ _. ⌜ final h ≡ hostGcdWritten field (given f) (given g) (given h) (given answer) ⌝ }
-    ensures values { λ _. ⌜ final answer ≡ hostValuesWritten field (given f) (given g) (given h) (given answer) ⌝ }
+    ensures writes { λ _. ⌜ now (h .exit) ≡ hostGcdWritten field (given f) (given g) (given h) (given answer) ⌝ }
+    ensures values { λ _. ⌜ now (answer .exit) ≡ hostValuesWritten field (given f) (given g) (given h) (given answer) ⌝ }
 {
     if bad_list(field, f) {
         return refusal::number_of(Refusal::Length);
@@ -124,7 +124,7 @@ fn product_in(
     requires { ⌜ (length (now a) ≡ wordCount (now f)) × (length (now b) ≡ wordCount (now g))
         × (length (now c) ≡ roomOf (longest field) 0 (now out)) ⌝ }
     ensures { λ r. ⌜ r ≡ hostProductAnswer field (given f) (given g) (given out) ⌝ }
-    ensures { λ _. ⌜ final out ≡ hostProductWritten field (given f) (given g) (given out) ⌝ }
+    ensures { λ _. ⌜ now (out .exit) ≡ hostProductWritten field (given f) (given g) (given out) ⌝ }
 {
     words::read_words(f, a);
     words::read_words(g, b);
@@ -142,7 +142,7 @@ fn product_in(
 fn product_lists(field: u8, f: &[u8], g: &[u8], out: &mut [u8]) -> u8
     requires { ⌜ (badList (longest field) (now f) ≡ false) × (badList (longest field) (now g) ≡ false) ⌝ }
     ensures { λ r. ⌜ r ≡ hostProductAnswer field (given f) (given g) (given out) ⌝ }
-    ensures { λ _. ⌜ final out ≡ hostProductWritten field (given f) (given g) (given out) ⌝ }
+    ensures { λ _. ⌜ now (out .exit) ≡ hostProductWritten field (given f) (given g) (given out) ⌝ }
 {
     let n = f.len() / 2;
     let m = g.len() / 2;
@@ -169,8 +169,8 @@ fn divide_in(
     requires { ⌜ (length (now a) ≡ wordCount (now g)) × (length (now b) ≡ wordCount (now f))
         × (length (now c) ≡ roomOf (longest field) 0 (now q)) × (length (now d) ≡ roomOf (longest field) (longest field) (now r)) ⌝ }
     ensures { λ a. ⌜ a ≡ hostDivisionAnswer field (given g) (given f) (given q) (given r) ⌝ }
-    ensures { λ _. ⌜ final q ≡ hostQuotientWritten field (given g) (given f) (given q) (given r) ⌝ }
-    ensures { λ _. ⌜ final r ≡ hostRemainderWritten field (given g) (given f) (given q) (given r) ⌝ }
+    ensures { λ _. ⌜ now (q .exit) ≡ hostQuotientWritten field (given g) (given f) (given q) (given r) ⌝ }
+    ensures { λ _. ⌜ now (r .exit) ≡ hostRemainderWritten field (given g) (given f) (given q) (given r) ⌝ }
 {
     words::read_words(g, a);
     words::read_words(f, b);
@@ -189,8 +189,8 @@ fn divide_in(
 fn divide_lists(field: u8, g: &[u8], f: &[u8], q: &mut [u8], r: &mut [u8]) -> u8
     requires { ⌜ (badList (longest field) (now g) ≡ false) × (badList (longest field) (now f) ≡ false) ⌝ }
     ensures { λ a. ⌜ a ≡ hostDivisionAnswer field (given g) (given f) (given q) (given r) ⌝ }
-    ensures { λ _. ⌜ final q ≡ hostQuotientWritten field (given g) (given f) (given q) (given r) ⌝ }
-    ensures { λ _. ⌜ final r ≡ hostRemainderWritten field (given g) (given f) (given q) (given r) ⌝ }
+    ensures { λ _. ⌜ now (q .exit) ≡ hostQuotientWritten field (given g) (given f) (given q) (given r) ⌝ }
+    ensures { λ _. ⌜ now (r .exit) ≡ hostRemainderWritten field (given g) (given f) (given q) (given r) ⌝ }
 {
     let n = g.len() / 2;
     let m = f.len() / 2;
@@ -216,7 +216,7 @@ fn divide_lists(field: u8, g: &[u8], f: &[u8], q: &mut [u8], r: &mut [u8]) -> u8
 // The three numbers of an answer as words.
 fn write_three(w: NaiveDegree, c: Power, rounds: Rounds, bytes: &mut [u8])
     requires { ⌜ (w .0 < 65536) × (c .0 < 65536) × (rounds .0 < 65536) × (length (now bytes) ≡ 6) ⌝ }
-    ensures { λ _. ⌜ final bytes ≡ bytesOf (w .0 ∷ c .0 ∷ rounds .0 ∷ []) ⌝ }
+    ensures { λ _. ⌜ now (bytes .exit) ≡ bytesOf (w .0 ∷ c .0 ∷ rounds .0 ∷ []) ⌝ }
 {
     let three = [w.0 as u16, c.0 as u16, rounds.0 as u16];
     words::write_words(&three, bytes);
@@ -237,8 +237,8 @@ fn gcd_in(
     requires { ⌜ (length (now a) ≡ wordCount (now f)) × (length (now b) ≡ wordCount (now g))
         × (length (now c) ≡ gcdRoom (longest field) (now h) (now answer)) ⌝ }
     ensures { λ r. ⌜ r ≡ hostGcdAnswer field (given f) (given g) (given h) (given answer) ⌝ }
-    ensures { λ _. ⌜ final h ≡ hostGcdWritten field (given f) (given g) (given h) (given answer) ⌝ }
-    ensures { λ _. ⌜ final answer ≡ hostValuesWritten field (given f) (given g) (given h) (given answer) ⌝ }
+    ensures { λ _. ⌜ now (h .exit) ≡ hostGcdWritten field (given f) (given g) (given h) (given answer) ⌝ }
+    ensures { λ _. ⌜ now (answer .exit) ≡ hostValuesWritten field (given f) (given g) (given h) (given answer) ⌝ }
 {
     words::read_words(f, a);
     words::read_words(g, b);
@@ -257,8 +257,8 @@ fn gcd_in(
 fn gcd_lists(field: u8, f: &[u8], g: &[u8], h: &mut [u8], answer: &mut [u8]) -> u8
     requires { ⌜ (badList (longest field) (now f) ≡ false) × (badList (longest field) (now g) ≡ false) ⌝ }
     ensures { λ r. ⌜ r ≡ hostGcdAnswer field (given f) (given g) (given h) (given answer) ⌝ }
-    ensures { λ _. ⌜ final h ≡ hostGcdWritten field (given f) (given g) (given h) (given answer) ⌝ }
-    ensures { λ _. ⌜ final answer ≡ hostValuesWritten field (given f) (given g) (given h) (given answer) ⌝ }
+    ensures { λ _. ⌜ now (h .exit) ≡ hostGcdWritten field (given f) (given g) (given h) (given answer) ⌝ }
+    ensures { λ _. ⌜ now (answer .exit) ≡ hostValuesWritten field (given f) (given g) (given h) (given answer) ⌝ }
 {
     let n = f.len() / 2;
     let m = g.len() / 2;

@@ -4,7 +4,7 @@ ghost use mathlib.Core.Path.{_≡_};
 ghost use mathlib.Core.List.{[], _∷_};
 ghost use Rattle.field.specs.Fields.{p, F65521};
 ghost use Rattle.field.specs.Field.{wordReply};
-ghost use Rattle.refusal.specs.Contract.{given, final};
+ghost use Rattle.refusal.specs.Contract.{given};
 ghost use Rattle.refusal.specs.Limits.{maxWords};
 ghost use Rattle.refusal.specs.Refusal.{outcomeReply};
 ghost use Rattle.list_product.specs.Calls.{productRows, productAnswer, productWritten, raiseRows, raiseAnswer, raiseWritten};
@@ -27,9 +27,9 @@ use refusal::Outcome;
 // The product of f and g, of naive degree d + e.
 pub fn product(f: &[u16], g: &[u16], out: &mut [u16]) -> Outcome
     ensures answer { λ r. ⌜ outcomeReply r ≡ productAnswer 0 (given f) (given g) (given out) ⌝ }
-    ensures writes { λ _. ⌜ final out ≡ productWritten 0 (given f) (given g) (given out) ⌝ }
+    ensures writes { λ _. ⌜ now (out .exit) ≡ productWritten 0 (given f) (given g) (given out) ⌝ }
     ensures demand1 { λ r. ⌜ Demand1 (productRows p maxWords (given f) (given g) (given out)) (outcomeReply r .number) (slice out ∷ []) ⌝ }
-    ensures demand2 { λ r. ⌜ ProductSo F65521 (given f) (given g) (final out) (outcomeReply r) ⌝ }
+    ensures demand2 { λ r. ⌜ ProductSo F65521 (given f) (given g) (now (out .exit)) (outcomeReply r) ⌝ }
 {
     list_product::product_over(0, f, g, out)
 }
@@ -37,9 +37,9 @@ pub fn product(f: &[u16], g: &[u16], out: &mut [u16]) -> Outcome
 // f raised to the naive degree `to`.
 pub fn raise(f: &[u16], to: NaiveDegree, out: &mut [u16]) -> Outcome
     ensures answer { λ r. ⌜ outcomeReply r ≡ raiseAnswer 0 (given f) (to .0) (given out) ⌝ }
-    ensures writes { λ _. ⌜ final out ≡ raiseWritten 0 (given f) (to .0) (given out) ⌝ }
+    ensures writes { λ _. ⌜ now (out .exit) ≡ raiseWritten 0 (given f) (to .0) (given out) ⌝ }
     ensures demand1 { λ r. ⌜ Demand1 (raiseRows p maxWords (given f) (to .0) (given out)) (outcomeReply r .number) (slice out ∷ []) ⌝ }
-    ensures demand2 { λ r. ⌜ RaiseSo F65521 (given f) (to .0) (final out) (outcomeReply r) ⌝ }
+    ensures demand2 { λ r. ⌜ RaiseSo F65521 (given f) (to .0) (now (out .exit)) (outcomeReply r) ⌝ }
 {
     list_product::raise_over(0, f, to, out)
 }
@@ -47,9 +47,9 @@ pub fn raise(f: &[u16], to: NaiveDegree, out: &mut [u16]) -> Outcome
 // The sum of f and g, the shorter list raised first.
 pub fn sum(f: &[u16], g: &[u16], out: &mut [u16]) -> Outcome
     ensures answer { λ r. ⌜ outcomeReply r ≡ sumAnswer 0 (given f) (given g) (given out) ⌝ }
-    ensures writes { λ _. ⌜ final out ≡ sumWritten 0 (given f) (given g) (given out) ⌝ }
+    ensures writes { λ _. ⌜ now (out .exit) ≡ sumWritten 0 (given f) (given g) (given out) ⌝ }
     ensures demand1 { λ r. ⌜ Demand1 (sumRows p maxWords (given f) (given g) (given out)) (outcomeReply r .number) (slice out ∷ []) ⌝ }
-    ensures demand2 { λ r. ⌜ SumSo F65521 (given f) (given g) (final out) (outcomeReply r) ⌝ }
+    ensures demand2 { λ r. ⌜ SumSo F65521 (given f) (given g) (now (out .exit)) (outcomeReply r) ⌝ }
 {
     list_sum::sum_over(0, f, g, out)
 }
@@ -57,9 +57,9 @@ pub fn sum(f: &[u16], g: &[u16], out: &mut [u16]) -> Outcome
 // f less g, the shorter list raised first.
 pub fn difference(f: &[u16], g: &[u16], out: &mut [u16]) -> Outcome
     ensures answer { λ r. ⌜ outcomeReply r ≡ sumAnswer 0 (given f) (given g) (given out) ⌝ }
-    ensures writes { λ _. ⌜ final out ≡ differenceWritten 0 (given f) (given g) (given out) ⌝ }
+    ensures writes { λ _. ⌜ now (out .exit) ≡ differenceWritten 0 (given f) (given g) (given out) ⌝ }
     ensures demand1 { λ r. ⌜ Demand1 (sumRows p maxWords (given f) (given g) (given out)) (outcomeReply r .number) (slice out ∷ []) ⌝ }
-    ensures demand2 { λ r. ⌜ DifferenceSo F65521 (given f) (given g) (final out) (outcomeReply r) ⌝ }
+    ensures demand2 { λ r. ⌜ DifferenceSo F65521 (given f) (given g) (now (out .exit)) (outcomeReply r) ⌝ }
 {
     list_sum::difference_over(0, f, g, out)
 }
@@ -76,9 +76,9 @@ pub fn find_extent(f: &[u16]) -> Found
 // f with its top zeros removed: the same scaled form, of naive degree equal to the extent.
 pub fn trim(f: &[u16], out: &mut [u16]) -> Outcome
     ensures answer { λ r. ⌜ outcomeReply r ≡ trimAnswer 0 (given f) (given out) ⌝ }
-    ensures writes { λ _. ⌜ final out ≡ trimWritten 0 (given f) (given out) ⌝ }
+    ensures writes { λ _. ⌜ now (out .exit) ≡ trimWritten 0 (given f) (given out) ⌝ }
     ensures demand1 { λ r. ⌜ Demand1 (trimRows p maxWords (given f) (given out)) (outcomeReply r .number) (slice out ∷ []) ⌝ }
-    ensures demand2 { λ r. ⌜ TrimSo F65521 (given f) (final out) (outcomeReply r) ⌝ }
+    ensures demand2 { λ r. ⌜ TrimSo F65521 (given f) (now (out .exit)) (outcomeReply r) ⌝ }
 {
     list_extent::trim_over(0, f, out)
 }
@@ -86,9 +86,9 @@ pub fn trim(f: &[u16], out: &mut [u16]) -> Outcome
 // The derivative of f: of n words, and [0] for n = 0.
 pub fn derivative(f: &[u16], out: &mut [u16]) -> Outcome
     ensures answer { λ r. ⌜ outcomeReply r ≡ derivativeAnswer 0 (given f) (given out) ⌝ }
-    ensures writes { λ _. ⌜ final out ≡ derivativeWritten 0 (given f) (given out) ⌝ }
+    ensures writes { λ _. ⌜ now (out .exit) ≡ derivativeWritten 0 (given f) (given out) ⌝ }
     ensures demand1 { λ r. ⌜ Demand1 (derivativeRows p maxWords (given f) (given out)) (outcomeReply r .number) (slice out ∷ []) ⌝ }
-    ensures demand2 { λ r. ⌜ DerivativeSo F65521 (given f) (final out) (outcomeReply r) ⌝ }
+    ensures demand2 { λ r. ⌜ DerivativeSo F65521 (given f) (now (out .exit)) (outcomeReply r) ⌝ }
 {
     list_derivative::derivative_over(0, f, out)
 }
@@ -105,10 +105,10 @@ pub fn evaluate(f: &[u16], x: u16) -> Word
 // g divided by f: the quotient goes to q, the remainder to r.
 pub fn divide(g: &[u16], f: &[u16], q: &mut [u16], r: &mut [u16]) -> Outcome
     ensures answer { λ a. ⌜ outcomeReply a ≡ divideAnswer 0 (given g) (given f) (given q) (given r) ⌝ }
-    ensures quotient { λ _. ⌜ final q ≡ quotientWritten 0 (given g) (given f) (given q) (given r) ⌝ }
-    ensures remainder { λ _. ⌜ final r ≡ remainderWritten 0 (given g) (given f) (given q) (given r) ⌝ }
+    ensures quotient { λ _. ⌜ now (q .exit) ≡ quotientWritten 0 (given g) (given f) (given q) (given r) ⌝ }
+    ensures remainder { λ _. ⌜ now (r .exit) ≡ remainderWritten 0 (given g) (given f) (given q) (given r) ⌝ }
     ensures demand1 { λ a. ⌜ Demand1 (divideRows p maxWords (given g) (given f) (given q) (given r)) (outcomeReply a .number) (slice q ∷ slice r ∷ []) ⌝ }
-    ensures demand3 { λ a. ⌜ (a ≡ Outcome.Done → DividesSo F65521 (given g) (given f) (final q) (final r)) ⌝ }
+    ensures demand3 { λ a. ⌜ (a ≡ Outcome.Done → DividesSo F65521 (given g) (given f) (now (q .exit)) (now (r .exit))) ⌝ }
 {
     list_division::divide_over(0, g, f, q, r)
 }
@@ -116,9 +116,9 @@ pub fn divide(g: &[u16], f: &[u16], q: &mut [u16], r: &mut [u16]) -> Outcome
 // The GCD of f and g: h goes to a slice of as many words as the longest list has, zeros after word w.
 pub fn gcd_of(f: &[u16], g: &[u16], h: &mut [u16]) -> Gcd
     ensures answer { λ r. ⌜ gcdReply r ≡ gcdAnswer 0 (given f) (given g) (given h) ⌝ }
-    ensures writes { λ _. ⌜ final h ≡ gcdWritten 0 (given f) (given g) (given h) ⌝ }
+    ensures writes { λ _. ⌜ now (h .exit) ≡ gcdWritten 0 (given f) (given g) (given h) ⌝ }
     ensures demand1 { λ r. ⌜ Demand1 (gcdRows p maxWords (given f) (given g) (given h)) (gcdReply r .number) (slice h ∷ []) ⌝ }
-    ensures demand3 { λ r. ⌜ Greatest F65521 (given f) (given g) (final h) r ⌝ }
+    ensures demand3 { λ r. ⌜ Greatest F65521 (given f) (given g) (now (h .exit)) r ⌝ }
 {
     list_gcd::gcd_over(0, f, g, h)
 }
@@ -126,12 +126,12 @@ pub fn gcd_of(f: &[u16], g: &[u16], h: &mut [u16]) -> Gcd
 // The GCD of f and g with its cofactors: a·f + b·g = (1-t)^(m-w)·h.
 pub fn find_cofactors(f: &[u16], g: &[u16], h: &mut [u16], a: &mut [u16], b: &mut [u16]) -> Gcd
     ensures answer { λ r. ⌜ gcdReply r ≡ cofactorAnswer 0 (given f) (given g) (given h) (given a) (given b) ⌝ }
-    ensures gcd { λ _. ⌜ final h ≡ cofactorGcd 0 (given f) (given g) (given h) (given a) (given b) ⌝ }
-    ensures cofactor_a { λ _. ⌜ final a ≡ cofactorsWrittenA 0 (given f) (given g) (given h) (given a) (given b) ⌝ }
-    ensures cofactor_b { λ _. ⌜ final b ≡ cofactorsWrittenB 0 (given f) (given g) (given h) (given a) (given b) ⌝ }
+    ensures gcd { λ _. ⌜ now (h .exit) ≡ cofactorGcd 0 (given f) (given g) (given h) (given a) (given b) ⌝ }
+    ensures cofactor_a { λ _. ⌜ now (a .exit) ≡ cofactorsWrittenA 0 (given f) (given g) (given h) (given a) (given b) ⌝ }
+    ensures cofactor_b { λ _. ⌜ now (b .exit) ≡ cofactorsWrittenB 0 (given f) (given g) (given h) (given a) (given b) ⌝ }
     ensures demand1 { λ r. ⌜ Demand1 (cofactorRows p maxWords (given f) (given g) (given h) (given a) (given b)) (gcdReply r .number) (slice h ∷ slice a ∷ slice b ∷ []) ⌝ }
-    ensures greatest { λ r. ⌜ Greatest F65521 (given f) (given g) (final h) r ⌝ }
-    ensures demand3 { λ r. ⌜ CofactorsOf F65521 (given f) (given g) (final h) (final a) (final b) (gcdReply r) ⌝ }
+    ensures greatest { λ r. ⌜ Greatest F65521 (given f) (given g) (now (h .exit)) r ⌝ }
+    ensures demand3 { λ r. ⌜ CofactorsOf F65521 (given f) (given g) (now (h .exit)) (now (a .exit)) (now (b .exit)) (gcdReply r) ⌝ }
 {
     list_cofactors::cofactors_over(0, f, g, h, a, b)
 }

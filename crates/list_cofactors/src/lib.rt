@@ -4,7 +4,7 @@ ghost use mathlib.Core.Bool.{cond};
 ghost use Prim.Native.Nat.{ℕ, suc, max, _+_, _-_, _<_, _≤_};
 ghost use lib.ListN.{length, getD, take, drop};
 ghost use Rattle.algebra.specs.PrimeField.{residue};
-ghost use Rattle.refusal.specs.Contract.{given, final};
+ghost use Rattle.refusal.specs.Contract.{given};
 ghost use Rattle.refusal.specs.Limits.{maxWords};
 ghost use Rattle.refusal.specs.Lowest.{lowest};
 ghost use Rattle.field.specs.Fields.{modulus, fieldAt, longest};
@@ -34,11 +34,11 @@ pub fn cofactors_over(
     b: &mut [u16],
 ) -> Gcd
     ensures answer { λ r. ⌜ gcdReply r ≡ cofactorAnswer field (given f) (given g) (given h) (given a) (given b) ⌝ }
-    ensures gcd { λ _. ⌜ final h ≡ cofactorGcd field (given f) (given g) (given h) (given a) (given b) ⌝ }
-    ensures cofactor_a { λ _. ⌜ final a ≡ cofactorsWrittenA field (given f) (given g) (given h) (given a) (given b) ⌝ }
-    ensures cofactor_b { λ _. ⌜ final b ≡ cofactorsWrittenB field (given f) (given g) (given h) (given a) (given b) ⌝ }
-    ensures greatest { λ r. ⌜ Greatest (fieldAt field) (given f) (given g) (final h) r ⌝ }
-    ensures identity { λ r. ⌜ Cofactors (fieldAt field) (given f) (given g) (final a) (final b) r ⌝ }
+    ensures gcd { λ _. ⌜ now (h .exit) ≡ cofactorGcd field (given f) (given g) (given h) (given a) (given b) ⌝ }
+    ensures cofactor_a { λ _. ⌜ now (a .exit) ≡ cofactorsWrittenA field (given f) (given g) (given h) (given a) (given b) ⌝ }
+    ensures cofactor_b { λ _. ⌜ now (b .exit) ≡ cofactorsWrittenB field (given f) (given g) (given h) (given a) (given b) ⌝ }
+    ensures greatest { λ r. ⌜ Greatest (fieldAt field) (given f) (given g) (now (h .exit)) r ⌝ }
+    ensures identity { λ r. ⌜ Cofactors (fieldAt field) (given f) (given g) (now (a .exit)) (now (b .exit)) r ⌝ }
 {
     let answer = judge_cofactors(field, f, g, h, a, b);
     match answer {
@@ -88,7 +88,7 @@ fn start_row(field: u8, whole: &[u16], part: &[u16], list: &[u16], row: &mut [u1
     requires { ⌜ (length (now list) ≤ longest field) × (length (now row) ≡ longest field + (longest field + longest field)) ⌝ }
     requires { ⌜ (longest field ≤ one) × (one < length (now row)) ⌝ }
     requires { ⌜ ((k : ℕ) → getD (now row) k 0 ≡ 0) ⌝ }
-    ensures { λ _. ⌜ Started (fieldAt field) (longest field) one (final row) (scaled (fieldAt field) (given list)) ⌝ }
+    ensures { λ _. ⌜ Started (fieldAt field) (longest field) one (now (row .exit)) (scaled (fieldAt field) (given list)) ⌝ }
 {
     let words = list.len();
     word_scaling::weigh(field, list, whole, part, &mut row[..words]);
@@ -98,7 +98,7 @@ fn start_row(field: u8, whole: &[u16], part: &[u16], list: &[u16], row: &mut [u1
 // s less q times the first `read` words of t, for both cofactors of a row.
 fn take_off(field: u8, n: usize, s: &mut [u16], q: &[u16], t: &[u16], read: usize)
     requires { ⌜ (length (now s) ≡ n + n) × (length (now t) ≡ n + n) × (length (now q) ≤ n) × (read ≤ n) ⌝ }
-    ensures { λ _. ⌜ final s ≡ lessBoth (modulus field) n (given s) (given q) (given t) read ⌝ }
+    ensures { λ _. ⌜ now (s .exit) ≡ lessBoth (modulus field) n (given s) (given q) (given t) read ⌝ }
 {
     word_division::sub_product(field, &mut s[..n], q, &t[..read]);
     word_division::sub_product(field, &mut s[n..], q, &t[n..n + read]);
@@ -131,8 +131,8 @@ fn next_round(
     requires { ⌜ (nu ≡ significant (partX n (now u))) × (nv ≡ significant (partX n (now v))) × (0 < nv) ⌝ }
     requires { ⌜ Cut (fieldAt field) n (now u) (now v) ⌝ }
     requires { ⌜ n ≤ maxWords ⌝ }
-    ensures { λ r. ⌜ r ≡ significant (partX n (final u)) ⌝ }
-    ensures { λ _. ⌜ final u ≡ remainingRow (fieldAt field) n (given u) (given v) ⌝ }
+    ensures { λ r. ⌜ r ≡ significant (partX n (now (u .exit))) ⌝ }
+    ensures { λ _. ⌜ now (u .exit) ≡ remainingRow (fieldAt field) n (given u) (given v) ⌝ }
 {
     let made = euclid_round::shorten(field, inverses, &mut u[..n], nu, &v[..n], nv, q);
     take_off(
@@ -158,7 +158,7 @@ fn all_rounds(
     requires { ⌜ Carried (fieldAt field) n (now u) (now v) (now u) (now v) 0 ⌝ }
     requires { ⌜ length (now q) ≡ n ⌝ }
     requires { ⌜ n ≤ maxWords ⌝ }
-    ensures { λ r. ⌜ RowEnds (fieldAt field) n (given u) (given v) (cond (r .first) (final u) (final v)) (r .rounds) ⌝ }
+    ensures { λ r. ⌜ RowEnds (fieldAt field) n (given u) (given v) (cond (r .first) (now (u .exit)) (now (v .exit))) (r .rounds) ⌝ }
 {
     let mut rounds = 0;
     let mut nu = lists::significant_words(&u[..n]);
@@ -200,7 +200,7 @@ fn find_last(
     requires { ⌜ Tables (fieldAt field) n (now whole) (now part) ⌝ }
     requires { ⌜ Ready (fieldAt field) n (now f) (now g) ⌝ }
     requires { ⌜ ZeroRows n (now u) (now v) (now q) ⌝ }
-    ensures { λ r. ⌜ LastRowOf (fieldAt field) n (given f) (given g) (cond (r .first) (final u) (final v)) (r .rounds) ⌝ }
+    ensures { λ r. ⌜ LastRowOf (fieldAt field) n (given f) (given g) (cond (r .first) (now (u .exit)) (now (v .exit))) (r .rounds) ⌝ }
 {
     start_row(field, whole, part, g, u, n);
     start_row(field, whole, part, f, v, n + n);
@@ -221,8 +221,8 @@ fn write_pair(
     requires { ⌜ n ≡ longest field ⌝ }
     requires { ⌜ Tables (fieldAt field) n (now whole) (now part) ⌝ }
     requires { ⌜ (length (now forms) ≡ n + n) × (length (now a) ≤ n) × (length (now b) ≤ n) ⌝ }
-    ensures { λ _. ⌜ final a ≡ timesList (fieldAt field) (length (given a)) (residue (fieldAt field) m) (drop n (given forms)) ⌝ }
-    ensures { λ _. ⌜ final b ≡ timesList (fieldAt field) (length (given b)) (residue (fieldAt field) m) (take n (given forms)) ⌝ }
+    ensures { λ _. ⌜ now (a .exit) ≡ timesList (fieldAt field) (length (given a)) (residue (fieldAt field) m) (drop n (given forms)) ⌝ }
+    ensures { λ _. ⌜ now (b .exit) ≡ timesList (fieldAt field) (length (given b)) (residue (fieldAt field) m) (take n (given forms)) ⌝ }
 {
     let na = a.len();
     let nb = b.len();
@@ -246,7 +246,7 @@ fn write_row(
     requires { ⌜ Tables (fieldAt field) n (now whole) (now part) ⌝ }
     requires { ⌜ NonzeroRow (fieldAt field) n (now row) ⌝ }
     requires { ⌜ (length (now h) ≡ n) × (length (now a) ≤ n) × (length (now b) ≤ n) ⌝ }
-    ensures { λ r. ⌜ Wrote (fieldAt field) n (given row) (given a) (given b) (r .0) (final h) (final a) (final b) ⌝ }
+    ensures { λ r. ⌜ Wrote (fieldAt field) n (given row) (given a) (given b) (r .0) (now (h .exit)) (now (a .exit)) (now (b .exit)) ⌝ }
 {
     let words = lists::significant_words(&row[..n]);
     let inv = field_inverse::inverse_or_zero(field, inverses, row[words - 1]);
@@ -273,7 +273,7 @@ fn write_last(
     requires { ⌜ Tables (fieldAt field) n (now whole) (now part) ⌝ }
     requires { ⌜ NonzeroRow (fieldAt field) n (cond first (now u) (now v)) ⌝ }
     requires { ⌜ (length (now h) ≡ n) × (length (now a) ≤ n) × (length (now b) ≤ n) ⌝ }
-    ensures { λ r. ⌜ Wrote (fieldAt field) n (cond first (given u) (given v)) (given a) (given b) (r .0) (final h) (final a) (final b) ⌝ }
+    ensures { λ r. ⌜ Wrote (fieldAt field) n (cond first (given u) (given v)) (given a) (given b) (r .0) (now (h .exit)) (now (a .exit)) (now (b .exit)) ⌝ }
 {
     if first {
         return write_row(field, n, whole, part, inverses, u, h, a, b);
@@ -302,7 +302,7 @@ fn cofactors_in(
     requires { ⌜ Ready (fieldAt field) n (now f) (now g) ⌝ }
     requires { ⌜ Slices n (now f) (now g) (now h) (now a) (now b) ⌝ }
     requires { ⌜ ZeroRows n (now u) (now v) (now q) ⌝ }
-    ensures { λ r. ⌜ Results (fieldAt field) n (given f) (given g) r (final h) (final a) (final b) ⌝ }
+    ensures { λ r. ⌜ Results (fieldAt field) n (given f) (given g) r (now (h .exit)) (now (a .exit)) (now (b .exit)) ⌝ }
 {
     let ended = find_last(field, n, whole, part, inverses, f, g, u, v, q);
     let w = write_last(field, n, whole, part, inverses, ended.first, u, v, h, a, b);
@@ -324,7 +324,7 @@ fn cofactors_into(
 ) -> Gcd
     requires { ⌜ Ready (fieldAt field) (longest field) (now f) (now g) ⌝ }
     requires { ⌜ Slices (longest field) (now f) (now g) (now h) (now a) (now b) ⌝ }
-    ensures { λ r. ⌜ Results (fieldAt field) (longest field) (given f) (given g) r (final h) (final a) (final b) ⌝ }
+    ensures { λ r. ⌜ Results (fieldAt field) (longest field) (given f) (given g) r (now (h .exit)) (now (a .exit)) (now (b .exit)) ⌝ }
 {
     let mut u = [0u16; ROW];
     let mut v = [0u16; ROW];
@@ -347,7 +347,7 @@ fn cofactors_between(
     requires { ⌜ Ready (fieldAt field) (longest field) (now f) (now g) ⌝ }
     requires { ⌜ Slices (longest field) (now f) (now g) (now h) (now a) (now b) ⌝ }
     requires { ⌜ ZeroRows maxWords (now u) (now v) (now q) ⌝ }
-    ensures { λ r. ⌜ Results (fieldAt field) (longest field) (given f) (given g) r (final h) (final a) (final b) ⌝ }
+    ensures { λ r. ⌜ Results (fieldAt field) (longest field) (given f) (given g) r (now (h .exit)) (now (a .exit)) (now (b .exit)) ⌝ }
 {
     let whole = field_tables::factorials(field);
     let part = field_tables::inverse_factorials(field);

@@ -2,7 +2,7 @@
 ghost use mathlib.Core.Path.{_≡_};
 ghost use Prim.Native.Nat.{_+_, _≤_, _<_};
 ghost use lib.ListN.{length};
-ghost use Rattle.refusal.specs.Contract.{given, final};
+ghost use Rattle.refusal.specs.Contract.{given};
 ghost use Rattle.field.specs.Fields.{modulus, fieldAt, longest};
 ghost use Rattle.refusal.specs.Refusal.{outcomeReply};
 ghost use Rattle.refusal.specs.Lowest.{lowest};
@@ -15,7 +15,7 @@ use refusal::Refusal;
 // The same over a field.
 pub fn derivative_over(field: u8, f: &[u16], out: &mut [u16]) -> Outcome
     ensures answer { λ r. ⌜ outcomeReply r ≡ derivativeAnswer field (given f) (given out) ⌝ }
-    ensures writes { λ _. ⌜ final out ≡ derivativeWritten field (given f) (given out) ⌝ }
+    ensures writes { λ _. ⌜ now (out .exit) ≡ derivativeWritten field (given f) (given out) ⌝ }
 {
     let answer = judge_derivative(field, f, out);
     if let Outcome::Done = answer {
@@ -40,7 +40,7 @@ fn judge_derivative(field: u8, f: &[u16], out: &[u16]) -> Outcome
 // n times the difference of each word of f to the next.
 fn differences(field: u8, f: &[u16], out: &mut [u16])
     requires { ⌜ (0 < length (now out)) × (length (now f) ≡ length (now out) + 1) × (length (now f) ≤ longest field) ⌝ }
-    ensures { λ _. ⌜ final out ≡ of.derivative (fieldAt field) (given f) ⌝ }
+    ensures { λ _. ⌜ now (out .exit) ≡ of.derivative (fieldAt field) (given f) ⌝ }
 {
     let n = out.len();
     let mut k = 0;
@@ -54,7 +54,7 @@ fn differences(field: u8, f: &[u16], out: &mut [u16])
 
 fn derivative_into(field: u8, f: &[u16], out: &mut [u16])
     requires { ⌜ DerivativeFits (longest field) (now f) (now out) ⌝ }
-    ensures { λ _. ⌜ final out ≡ of.derivative (fieldAt field) (given f) ⌝ }
+    ensures { λ _. ⌜ now (out .exit) ≡ of.derivative (fieldAt field) (given f) ⌝ }
 {
     if f.len() == 1 {
         out[0] = 0;

@@ -1,7 +1,7 @@
 // Division of lists.
 ghost use mathlib.Core.Path.{_≡_};
 ghost use lib.ListN.{length};
-ghost use Rattle.refusal.specs.Contract.{given, final};
+ghost use Rattle.refusal.specs.Contract.{given};
 ghost use Rattle.field.specs.Fields.{modulus, fieldAt, longest};
 ghost use Rattle.refusal.specs.Refusal.{outcomeReply};
 ghost use Rattle.refusal.specs.Lowest.{lowest};
@@ -15,9 +15,9 @@ use refusal::Refusal;
 // g divided by f over a field: the quotient goes to q, the remainder to r.
 pub fn divide_over(field: u8, g: &[u16], f: &[u16], q: &mut [u16], r: &mut [u16]) -> Outcome
     ensures answer { λ a. ⌜ outcomeReply a ≡ divideAnswer field (given g) (given f) (given q) (given r) ⌝ }
-    ensures quotient { λ _. ⌜ final q ≡ quotientWritten field (given g) (given f) (given q) (given r) ⌝ }
-    ensures remainder { λ _. ⌜ final r ≡ remainderWritten field (given g) (given f) (given q) (given r) ⌝ }
-    ensures property { λ a. ⌜ (a ≡ Outcome.Done → DividesSo (fieldAt field) (given g) (given f) (final q) (final r)) ⌝ }
+    ensures quotient { λ _. ⌜ now (q .exit) ≡ quotientWritten field (given g) (given f) (given q) (given r) ⌝ }
+    ensures remainder { λ _. ⌜ now (r .exit) ≡ remainderWritten field (given g) (given f) (given q) (given r) ⌝ }
+    ensures property { λ a. ⌜ (a ≡ Outcome.Done → DividesSo (fieldAt field) (given g) (given f) (now (q .exit)) (now (r .exit))) ⌝ }
 {
     let answer = judge_divide(field, g, f, q, r);
     match answer {
@@ -68,8 +68,8 @@ fn divide_in(
     requires { ⌜ Tables (fieldAt field) (longest field) (now whole) (now part) ⌝ }
     requires { ⌜ DivideFits (fieldAt field) (longest field) (now g) (now f) (now q) (now r) ⌝ }
     requires { ⌜ (length (now x) ≡ length (now g)) × (length (now y) ≡ length (now f)) × (length (now k) ≡ length (now q)) ⌝ }
-    ensures quotient { λ _. ⌜ final q ≡ quotientOf (fieldAt field) (given g) (given f) ⌝ }
-    ensures remainder { λ _. ⌜ final r ≡ remainderOf (fieldAt field) (given g) (given f) ⌝ }
+    ensures quotient { λ _. ⌜ now (q .exit) ≡ quotientOf (fieldAt field) (given g) (given f) ⌝ }
+    ensures remainder { λ _. ⌜ now (r .exit) ≡ remainderOf (fieldAt field) (given g) (given f) ⌝ }
 {
     let inv = field_inverse::inverse_or_zero(field, inverses, f[f.len() - 1]);
     word_scaling::weigh(field, g, whole, part, x);
@@ -92,8 +92,8 @@ fn divide_with(
 )
     requires { ⌜ Tables (fieldAt field) (longest field) (now whole) (now part) ⌝ }
     requires { ⌜ DivideFits (fieldAt field) (longest field) (now g) (now f) (now q) (now r) ⌝ }
-    ensures quotient { λ _. ⌜ final q ≡ quotientOf (fieldAt field) (given g) (given f) ⌝ }
-    ensures remainder { λ _. ⌜ final r ≡ remainderOf (fieldAt field) (given g) (given f) ⌝ }
+    ensures quotient { λ _. ⌜ now (q .exit) ≡ quotientOf (fieldAt field) (given g) (given f) ⌝ }
+    ensures remainder { λ _. ⌜ now (r .exit) ≡ remainderOf (fieldAt field) (given g) (given f) ⌝ }
 {
     let m = g.len();
     let n = f.len();
@@ -119,8 +119,8 @@ fn divide_with(
 // The same with our own tables.
 fn divide_into(field: u8, g: &[u16], f: &[u16], q: &mut [u16], r: &mut [u16])
     requires { ⌜ DivideFits (fieldAt field) (longest field) (now g) (now f) (now q) (now r) ⌝ }
-    ensures quotient { λ _. ⌜ final q ≡ quotientOf (fieldAt field) (given g) (given f) ⌝ }
-    ensures remainder { λ _. ⌜ final r ≡ remainderOf (fieldAt field) (given g) (given f) ⌝ }
+    ensures quotient { λ _. ⌜ now (q .exit) ≡ quotientOf (fieldAt field) (given g) (given f) ⌝ }
+    ensures remainder { λ _. ⌜ now (r .exit) ≡ remainderOf (fieldAt field) (given g) (given f) ⌝ }
 {
     let whole = field_tables::factorials(field);
     let part = field_tables::inverse_factorials(field);

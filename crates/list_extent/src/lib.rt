@@ -1,7 +1,7 @@
 // The extent of a list, and a list with its top zeros removed.
 ghost use mathlib.Core.Path.{_≡_};
 ghost use lib.ListN.{length};
-ghost use Rattle.refusal.specs.Contract.{given, final};
+ghost use Rattle.refusal.specs.Contract.{given};
 ghost use Rattle.field.specs.Fields.{modulus, fieldAt, longest};
 ghost use Rattle.refusal.specs.Refusal.{outcomeReply};
 ghost use Rattle.refusal.specs.Lowest.{lowest};
@@ -38,7 +38,7 @@ pub fn extent_over(field: u8, f: &[u16]) -> Found
 // The same over a field.
 pub fn trim_over(field: u8, f: &[u16], out: &mut [u16]) -> Outcome
     ensures answer { λ r. ⌜ outcomeReply r ≡ trimAnswer field (given f) (given out) ⌝ }
-    ensures writes { λ _. ⌜ final out ≡ trimWritten field (given f) (given out) ⌝ }
+    ensures writes { λ _. ⌜ now (out .exit) ≡ trimWritten field (given f) (given out) ⌝ }
 {
     let answer = judge_trim(field, f, out);
     if let Outcome::Done = answer {
@@ -69,7 +69,7 @@ fn trim_in(field: u8, whole: &[u16], part: &[u16], f: &[u16], s: &mut [u16], out
     requires { ⌜ Tables (fieldAt field) (longest field) (now whole) (now part) ⌝ }
     requires { ⌜ TrimFits (longest field) (now f) (now out) ⌝ }
     requires { ⌜ length (now s) ≡ length (now f) ⌝ }
-    ensures { λ _. ⌜ final out ≡ of.trim (fieldAt field) (given f) ⌝ }
+    ensures { λ _. ⌜ now (out .exit) ≡ of.trim (fieldAt field) (given f) ⌝ }
 {
     word_scaling::weigh(field, f, whole, part, s);
     let form = &*s;
@@ -80,7 +80,7 @@ fn trim_in(field: u8, whole: &[u16], part: &[u16], f: &[u16], s: &mut [u16], out
 fn trim_with(field: u8, whole: &[u16], part: &[u16], f: &[u16], out: &mut [u16])
     requires { ⌜ Tables (fieldAt field) (longest field) (now whole) (now part) ⌝ }
     requires { ⌜ TrimFits (longest field) (now f) (now out) ⌝ }
-    ensures { λ _. ⌜ final out ≡ of.trim (fieldAt field) (given f) ⌝ }
+    ensures { λ _. ⌜ now (out .exit) ≡ of.trim (fieldAt field) (given f) ⌝ }
 {
     let n = f.len();
     let mut s = [0u16; refusal::MAX_WORDS];
@@ -90,7 +90,7 @@ fn trim_with(field: u8, whole: &[u16], part: &[u16], f: &[u16], out: &mut [u16])
 // The same with our own tables.
 fn trim_into(field: u8, f: &[u16], out: &mut [u16])
     requires { ⌜ TrimFits (longest field) (now f) (now out) ⌝ }
-    ensures { λ _. ⌜ final out ≡ of.trim (fieldAt field) (given f) ⌝ }
+    ensures { λ _. ⌜ now (out .exit) ≡ of.trim (fieldAt field) (given f) ⌝ }
 {
     let whole = field_tables::factorials(field);
     let part = field_tables::inverse_factorials(field);

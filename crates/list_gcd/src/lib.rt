@@ -5,7 +5,7 @@ ghost use mathlib.Core.List.{[], _∷_};
 ghost use Prim.Native.Nat.{ℕ, _+_, _<_, _≤_};
 ghost use lib.Dec.{eqb};
 ghost use lib.ListN.{length, getD};
-ghost use Rattle.refusal.specs.Contract.{given, final};
+ghost use Rattle.refusal.specs.Contract.{given};
 ghost use Rattle.field.specs.Fields.{modulus, fieldAt, longest};
 ghost use Rattle.refusal.specs.Limits.{maxWords};
 ghost use Rattle.refusal.specs.Lowest.{lowest};
@@ -33,8 +33,8 @@ pub enum Gcd {
 // The GCD of f and g over a field: h goes to a slice of as many words as the longest list has, zeros after word w.
 pub fn gcd_over(field: u8, f: &[u16], g: &[u16], h: &mut [u16]) -> Gcd
     ensures answer { λ r. ⌜ gcdReply r ≡ gcdAnswer field (given f) (given g) (given h) ⌝ }
-    ensures writes { λ _. ⌜ final h ≡ gcdWritten field (given f) (given g) (given h) ⌝ }
-    ensures greatest { λ r. ⌜ Greatest (fieldAt field) (given f) (given g) (final h) r ⌝ }
+    ensures writes { λ _. ⌜ now (h .exit) ≡ gcdWritten field (given f) (given g) (given h) ⌝ }
+    ensures greatest { λ r. ⌜ Greatest (fieldAt field) (given f) (given g) (now (h .exit)) r ⌝ }
 {
     let answer = judge_gcd(field, f, g, h);
     match answer {
@@ -97,7 +97,7 @@ fn scale_into(field: u8, whole: &[u16], part: &[u16], list: &[u16], buffer: &mut
     requires { ⌜ Tables (fieldAt field) (longest field) (now whole) (now part) ⌝ }
     requires { ⌜ (length (now list) ≤ longest field) × (length (now buffer) ≡ longest field) ⌝ }
     requires { ⌜ ((k : ℕ) → getD (now buffer) k 0 ≡ 0) ⌝ }
-    ensures { λ _. ⌜ Holds (fieldAt field) (longest field) (final buffer) (scaled (fieldAt field) (given list)) ⌝ }
+    ensures { λ _. ⌜ Holds (fieldAt field) (longest field) (now (buffer .exit)) (scaled (fieldAt field) (given list)) ⌝ }
 {
     let n = list.len();
     word_scaling::weigh(field, list, whole, part, &mut buffer[..n]);
@@ -114,7 +114,7 @@ fn all_rounds(field: u8, inverses: &[u16], x: &mut [u16], y: &mut [u16], q: &mut
     requires { ⌜ Buffer (fieldAt field) (longest field) (now x) ⌝ }
     requires { ⌜ Buffer (fieldAt field) (longest field) (now y) ⌝ }
     requires { ⌜ longest field ≤ length (now q) ⌝ }
-    ensures { λ r. ⌜ Ends (fieldAt field) (longest field) (given x) (given y) (cond (r .first) (final x) (final y)) (r .rounds) ⌝ }
+    ensures { λ r. ⌜ Ends (fieldAt field) (longest field) (given x) (given y) (cond (r .first) (now (x .exit)) (now (y .exit))) (r .rounds) ⌝ }
 {
     let mut rounds = 0;
     let mut nx = lists::significant_words(x);
@@ -154,7 +154,7 @@ fn write_gcd(
     requires { ⌜ Buffer (fieldAt field) (longest field) (now last) ⌝ }
     requires { ⌜ (0 < significant (now last)) × (length (now h) ≡ longest field) ⌝ }
     ensures { λ r. ⌜ r .0 + 1 ≡ significant (given last) ⌝ }
-    ensures { λ _. ⌜ final h ≡ monicWords (fieldAt field) (longest field) (given last) ⌝ }
+    ensures { λ _. ⌜ now (h .exit) ≡ monicWords (fieldAt field) (longest field) (given last) ⌝ }
 {
     let n = lists::significant_words(last);
     let inv = field_inverse::inverse_or_zero(field, inverses, last[n - 1]);
@@ -177,7 +177,7 @@ fn write_last(
     requires { ⌜ Buffer (fieldAt field) (longest field) (cond first (now x) (now y)) ⌝ }
     requires { ⌜ (0 < significant (cond first (now x) (now y))) × (length (now h) ≡ longest field) ⌝ }
     ensures { λ r. ⌜ r .0 + 1 ≡ significant (cond first (given x) (given y)) ⌝ }
-    ensures { λ _. ⌜ final h ≡ monicWords (fieldAt field) (longest field) (cond first (given x) (given y)) ⌝ }
+    ensures { λ _. ⌜ now (h .exit) ≡ monicWords (fieldAt field) (longest field) (cond first (given x) (given y)) ⌝ }
 {
     if first {
         return write_gcd(field, whole, part, inverses, x, h);
@@ -201,7 +201,7 @@ fn find_last(
     requires { ⌜ Ready (fieldAt field) (longest field) (now f) (now g) ⌝ }
     requires { ⌜ Zeros (longest field) (now x) (now y) (now q) ⌝ }
     ensures { λ r. ⌜ r .rounds ≡ roundsOf (fieldAt field) (given f) (given g) ⌝ }
-    ensures { λ r. ⌜ LastOf (fieldAt field) (longest field) (given f) (given g) (cond (r .first) (final x) (final y)) ⌝ }
+    ensures { λ r. ⌜ LastOf (fieldAt field) (longest field) (given f) (given g) (cond (r .first) (now (x .exit)) (now (y .exit))) ⌝ }
 {
     scale_into(field, whole, part, g, x);
     scale_into(field, whole, part, f, y);
@@ -226,7 +226,7 @@ fn gcd_in(
     requires { ⌜ Zeros (longest field) (now x) (now y) (now q) ⌝ }
     requires { ⌜ length (now h) ≡ longest field ⌝ }
     ensures { λ r. ⌜ r ≡ gcdDone (fieldAt field) (given f) (given g) ⌝ }
-    ensures { λ _. ⌜ final h ≡ padded (longest field) (gcdOf (fieldAt field) (given f) (given g)) ⌝ }
+    ensures { λ _. ⌜ now (h .exit) ≡ padded (longest field) (gcdOf (fieldAt field) (given f) (given g)) ⌝ }
 {
     let ended = find_last(field, whole, part, inverses, f, g, x, y, q);
     let w = write_last(field, whole, part, inverses, ended.first, x, y, h);
@@ -239,7 +239,7 @@ fn gcd_into(field: u8, f: &[u16], g: &[u16], h: &mut [u16]) -> Gcd
     requires { ⌜ Ready (fieldAt field) (longest field) (now f) (now g) ⌝ }
     requires { ⌜ length (now h) ≡ longest field ⌝ }
     ensures { λ r. ⌜ r ≡ gcdDone (fieldAt field) (given f) (given g) ⌝ }
-    ensures { λ _. ⌜ final h ≡ padded (longest field) (gcdOf (fieldAt field) (given f) (given g)) ⌝ }
+    ensures { λ _. ⌜ now (h .exit) ≡ padded (longest field) (gcdOf (fieldAt field) (given f) (given g)) ⌝ }
 {
     let mut x = [0u16; refusal::MAX_WORDS];
     let mut y = [0u16; refusal::MAX_WORDS];
@@ -261,7 +261,7 @@ fn gcd_between(
     requires { ⌜ Zeros maxWords (now x) (now y) (now q) ⌝ }
     requires { ⌜ length (now h) ≡ longest field ⌝ }
     ensures { λ r. ⌜ r ≡ gcdDone (fieldAt field) (given f) (given g) ⌝ }
-    ensures { λ _. ⌜ final h ≡ padded (longest field) (gcdOf (fieldAt field) (given f) (given g)) ⌝ }
+    ensures { λ _. ⌜ now (h .exit) ≡ padded (longest field) (gcdOf (fieldAt field) (given f) (given g)) ⌝ }
 {
     let whole = field_tables::factorials(field);
     let part = field_tables::inverse_factorials(field);

@@ -1,7 +1,7 @@
 // Product and raise of lists.
 ghost use mathlib.Core.Path.{_≡_};
 ghost use lib.ListN.{length};
-ghost use Rattle.refusal.specs.Contract.{given, final};
+ghost use Rattle.refusal.specs.Contract.{given};
 ghost use Rattle.field.specs.Fields.{modulus, fieldAt, longest};
 ghost use Rattle.refusal.specs.Refusal.{outcomeReply};
 ghost use Rattle.refusal.specs.Lowest.{lowest};
@@ -17,7 +17,7 @@ use refusal::Refusal;
 // The product over a field.
 pub fn product_over(field: u8, f: &[u16], g: &[u16], out: &mut [u16]) -> Outcome
     ensures answer { λ r. ⌜ outcomeReply r ≡ productAnswer field (given f) (given g) (given out) ⌝ }
-    ensures writes { λ _. ⌜ final out ≡ productWritten field (given f) (given g) (given out) ⌝ }
+    ensures writes { λ _. ⌜ now (out .exit) ≡ productWritten field (given f) (given g) (given out) ⌝ }
 {
     let answer = judge_product(field, f, g, out);
     match answer {
@@ -32,7 +32,7 @@ pub fn product_over(field: u8, f: &[u16], g: &[u16], out: &mut [u16]) -> Outcome
 // The raise over a field.
 pub fn raise_over(field: u8, f: &[u16], to: NaiveDegree, out: &mut [u16]) -> Outcome
     ensures answer { λ r. ⌜ outcomeReply r ≡ raiseAnswer field (given f) (to .0) (given out) ⌝ }
-    ensures writes { λ _. ⌜ final out ≡ raiseWritten field (given f) (to .0) (given out) ⌝ }
+    ensures writes { λ _. ⌜ now (out .exit) ≡ raiseWritten field (given f) (to .0) (given out) ⌝ }
 {
     let answer = judge_raise(field, f, to, out);
     match answer {
@@ -95,7 +95,7 @@ fn product_in(
     requires { ⌜ Tables (fieldAt field) (longest field) (now whole) (now part) ⌝ }
     requires { ⌜ ProductFits (longest field) (now f) (now g) (now out) ⌝ }
     requires { ⌜ (length (now a) ≡ length (now f)) × (length (now b) ≡ length (now g)) × (length (now s) ≡ length (now out)) ⌝ }
-    ensures { λ _. ⌜ final out ≡ of.product (fieldAt field) (given f) (given g) ⌝ }
+    ensures { λ _. ⌜ now (out .exit) ≡ of.product (fieldAt field) (given f) (given g) ⌝ }
 {
     word_scaling::weigh(field, f, whole, part, a);
     word_scaling::weigh(field, g, whole, part, b);
@@ -107,7 +107,7 @@ fn product_in(
 fn product_with(field: u8, whole: &[u16], part: &[u16], f: &[u16], g: &[u16], out: &mut [u16])
     requires { ⌜ Tables (fieldAt field) (longest field) (now whole) (now part) ⌝ }
     requires { ⌜ ProductFits (longest field) (now f) (now g) (now out) ⌝ }
-    ensures { λ _. ⌜ final out ≡ of.product (fieldAt field) (given f) (given g) ⌝ }
+    ensures { λ _. ⌜ now (out .exit) ≡ of.product (fieldAt field) (given f) (given g) ⌝ }
 {
     let d = f.len();
     let e = g.len();
@@ -131,7 +131,7 @@ fn product_with(field: u8, whole: &[u16], part: &[u16], f: &[u16], g: &[u16], ou
 // The same with our own tables.
 fn product_into(field: u8, f: &[u16], g: &[u16], out: &mut [u16])
     requires { ⌜ ProductFits (longest field) (now f) (now g) (now out) ⌝ }
-    ensures { λ _. ⌜ final out ≡ of.product (fieldAt field) (given f) (given g) ⌝ }
+    ensures { λ _. ⌜ now (out .exit) ≡ of.product (fieldAt field) (given f) (given g) ⌝ }
 {
     let whole = field_tables::factorials(field);
     let part = field_tables::inverse_factorials(field);
@@ -142,7 +142,7 @@ fn product_into(field: u8, f: &[u16], g: &[u16], out: &mut [u16])
 fn raise_with(field: u8, whole: &[u16], part: &[u16], f: &[u16], out: &mut [u16])
     requires { ⌜ Tables (fieldAt field) (longest field) (now whole) (now part) ⌝ }
     requires { ⌜ RaiseFits (modulus field) (longest field) (now f) (now out) ⌝ }
-    ensures { λ _. ⌜ final out ≡ of.raise (fieldAt field) (naiveDegree (given out)) (given f) ⌝ }
+    ensures { λ _. ⌜ now (out .exit) ≡ of.raise (fieldAt field) (naiveDegree (given out)) (given f) ⌝ }
 {
     let ones = [1u16; refusal::MAX_WORDS];
     let m = out.len() - f.len() + 1;
@@ -152,7 +152,7 @@ fn raise_with(field: u8, whole: &[u16], part: &[u16], f: &[u16], out: &mut [u16]
 // The same with our own tables.
 fn raise_into(field: u8, f: &[u16], out: &mut [u16])
     requires { ⌜ RaiseFits (modulus field) (longest field) (now f) (now out) ⌝ }
-    ensures { λ _. ⌜ final out ≡ of.raise (fieldAt field) (naiveDegree (given out)) (given f) ⌝ }
+    ensures { λ _. ⌜ now (out .exit) ≡ of.raise (fieldAt field) (naiveDegree (given out)) (given f) ⌝ }
 {
     let whole = field_tables::factorials(field);
     let part = field_tables::inverse_factorials(field);

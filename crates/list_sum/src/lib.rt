@@ -3,7 +3,7 @@ ghost use mathlib.Core.Path.{_≡_};
 ghost use mathlib.Core.Bool.{cond};
 ghost use Prim.Native.Nat.{_+_, _-_, _%_};
 ghost use lib.ListN.{length};
-ghost use Rattle.refusal.specs.Contract.{given, final};
+ghost use Rattle.refusal.specs.Contract.{given};
 ghost use Rattle.field.specs.Fields.{modulus, fieldAt, longest};
 ghost use Rattle.refusal.specs.Refusal.{outcomeReply};
 ghost use Rattle.refusal.specs.Lowest.{lowest};
@@ -16,7 +16,7 @@ use refusal::Refusal;
 // The sum over a field.
 pub fn sum_over(field: u8, f: &[u16], g: &[u16], out: &mut [u16]) -> Outcome
     ensures answer { λ r. ⌜ outcomeReply r ≡ sumAnswer field (given f) (given g) (given out) ⌝ }
-    ensures writes { λ _. ⌜ final out ≡ sumWritten field (given f) (given g) (given out) ⌝ }
+    ensures writes { λ _. ⌜ now (out .exit) ≡ sumWritten field (given f) (given g) (given out) ⌝ }
 {
     combine(field, f, g, false, out)
 }
@@ -24,7 +24,7 @@ pub fn sum_over(field: u8, f: &[u16], g: &[u16], out: &mut [u16]) -> Outcome
 // The difference over a field.
 pub fn difference_over(field: u8, f: &[u16], g: &[u16], out: &mut [u16]) -> Outcome
     ensures answer { λ r. ⌜ outcomeReply r ≡ sumAnswer field (given f) (given g) (given out) ⌝ }
-    ensures writes { λ _. ⌜ final out ≡ differenceWritten field (given f) (given g) (given out) ⌝ }
+    ensures writes { λ _. ⌜ now (out .exit) ≡ differenceWritten field (given f) (given g) (given out) ⌝ }
 {
     combine(field, f, g, true, out)
 }
@@ -32,7 +32,7 @@ pub fn difference_over(field: u8, f: &[u16], g: &[u16], out: &mut [u16]) -> Outc
 // f plus g, or f less g.
 fn combine(field: u8, f: &[u16], g: &[u16], minus: bool, out: &mut [u16]) -> Outcome
     ensures answer { λ r. ⌜ outcomeReply r ≡ sumAnswer field (given f) (given g) (given out) ⌝ }
-    ensures writes { λ _. ⌜ final out ≡ combinedWritten field minus (given f) (given g) (given out) ⌝ }
+    ensures writes { λ _. ⌜ now (out .exit) ≡ combinedWritten field minus (given f) (given g) (given out) ⌝ }
 {
     let answer = judge_sum(field, f, g, out);
     match answer {
@@ -71,7 +71,7 @@ fn combine_word(field: u8, a: u16, b: u16, minus: bool) -> u16
 // The same word by word.
 fn combine_words(field: u8, a: &[u16], b: &[u16], minus: bool, out: &mut [u16])
     requires { ⌜ (length (now a) ≡ length (now out)) × (length (now b) ≡ length (now out)) ⌝ }
-    ensures { λ _. ⌜ final out ≡ combinedWords (fieldAt field) minus (given a) (given b) ⌝ }
+    ensures { λ _. ⌜ now (out .exit) ≡ combinedWords (fieldAt field) minus (given a) (given b) ⌝ }
 {
     let mut k = 0;
     while k < out.len() {
@@ -92,7 +92,7 @@ fn combine_in(
 )
     requires { ⌜ SumFits (modulus field) (longest field) (now f) (now g) (now out) ⌝ }
     requires { ⌜ (length (now a) ≡ length (now out)) × (length (now b) ≡ length (now out)) ⌝ }
-    ensures { λ _. ⌜ final out ≡ combined (fieldAt field) minus (given f) (given g) ⌝ }
+    ensures { λ _. ⌜ now (out .exit) ≡ combined (fieldAt field) minus (given f) (given g) ⌝ }
 {
     let degree = out.len() - 1;
     list_product::raise_over(field, f, NaiveDegree(degree), a);
@@ -102,7 +102,7 @@ fn combine_in(
 
 fn combine_into(field: u8, f: &[u16], g: &[u16], minus: bool, out: &mut [u16])
     requires { ⌜ SumFits (modulus field) (longest field) (now f) (now g) (now out) ⌝ }
-    ensures { λ _. ⌜ final out ≡ combined (fieldAt field) minus (given f) (given g) ⌝ }
+    ensures { λ _. ⌜ now (out .exit) ≡ combined (fieldAt field) minus (given f) (given g) ⌝ }
 {
     let n = out.len();
     let mut a = [0u16; refusal::MAX_WORDS];

@@ -2,7 +2,7 @@
 ghost use mathlib.Core.Path.{_≡_};
 ghost use Prim.Native.Nat.{_+_, _*_, _/_, _%_, _≤_};
 ghost use lib.ListN.{length};
-ghost use Rattle.refusal.specs.Contract.{given, final};
+ghost use Rattle.refusal.specs.Contract.{given};
 ghost use Rattle.field.specs.Fields.{modulus, fieldAt, longest};
 ghost use Rattle.refusal.specs.Lowest.{lowest};
 ghost use Rattle.field.specs.Field.{wordReply};
@@ -48,7 +48,7 @@ fn two_products(field: u8, a: u16, b: u16, c: u64, d: u16) -> u16
 
 // The powers 1, x, x^2, … in u, and the next one.
 fn fill_powers(field: u8, x: u16, u: &mut [u16]) -> u16
-    ensures words { λ _. ⌜ final u ≡ powersOf (fieldAt field) x (length (given u)) ⌝ }
+    ensures words { λ _. ⌜ now (u .exit) ≡ powersOf (fieldAt field) x (length (given u)) ⌝ }
     ensures next { λ r. ⌜ r ≡ powerOf (fieldAt field) x (length (given u)) ⌝ }
 {
     let mut power: u16 = 1;
@@ -64,7 +64,7 @@ fn fill_powers(field: u8, x: u16, u: &mut [u16]) -> u16
 // The weights of a group of n words: word j of u is x^j y^(n-1-j), from the powers of x in a and those of y in b.
 fn fill_weights(field: u8, a: &[u16], b: &[u16], u: &mut [u16])
     requires { ⌜ (length (now a) ≡ length (now u)) × (length (now b) ≡ length (now u)) ⌝ }
-    ensures { λ _. ⌜ final u ≡ weightsOf (modulus field) (length (given u)) (given a) (given b) ⌝ }
+    ensures { λ _. ⌜ now (u .exit) ≡ weightsOf (modulus field) (length (given u)) (given a) (given b) ⌝ }
 {
     let n = u.len();
     let mut j = 0;

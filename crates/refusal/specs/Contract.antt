@@ -1,7 +1,6 @@
 -- How the contract of a call reads. A call `x` is lent slices; it judges what it is given, and works only where nothing is refused.
 --     Lent        a lent slice: its words when the call is made, and when it returns
---     given s     the words of a lent slice when the call is made
---     final s     its words when the call returns
+--     given s     the words of a lent slice s when the call is made; now (s .exit) are its words when the call returns
 -- In specs/Calls of the call's crate, k being the number of a field (0 is document 01's) and the further arguments what the call is given:
 --     xRows       the refusals that can apply to the call, each with its test, by p and the most words of a list
 --     xAnswer k   what it answers: the lowest number that applies, or, where none does, 0 and the values named there
@@ -18,6 +17,3 @@ Lent = Both (RefT (List ℕ)) (RefT (List ℕ))
 
 abbrev pub given : Lent → List ℕ
 given s = s .entry .now
-
-abbrev pub final : Lent → List ℕ
-final s = s .exit .now

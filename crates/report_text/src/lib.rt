@@ -4,7 +4,7 @@ ghost use mathlib.Core.List.{[], _∷_, map};
 ghost use Prim.Native.Nat.{_+_, _≤_, _<_};
 ghost use lib.ListN.{length, take};
 ghost use Rattle.field.specs.Fields.{modulus, fieldAt, longest};
-ghost use Rattle.refusal.specs.Contract.{given, final};
+ghost use Rattle.refusal.specs.Contract.{given};
 ghost use Rattle.refusal.specs.Limits.{maxWords};
 ghost use Rattle.lists.specs.Padded.{padded};
 ghost use Rattle.album_layout.specs.Layout.{listsOf};
@@ -31,7 +31,7 @@ pub enum Text {
 // The report on an album, zeros after it; the program's is that over field 0.
 pub fn report_over(field: u8, album: &[u8], out: &mut [u8]) -> Text
     ensures answer { λ r. ⌜ textReply r ≡ reportAnswer field (given album) (given out) ⌝ }
-    ensures writes { λ _. ⌜ final out ≡ reportWritten field (given album) (given out) ⌝ }
+    ensures writes { λ _. ⌜ now (out .exit) ≡ reportWritten field (given album) (given out) ⌝ }
 {
     if out.len() != MAX_TEXT {
         return Text::Refused(Refusal::Misfit);
@@ -46,7 +46,7 @@ pub fn report_over(field: u8, album: &[u8], out: &mut [u8]) -> Text
 // Zeros from a place on.
 fn clear(from: usize, out: &mut [u8])
     requires { ⌜ from ≤ length (now out) ⌝ }
-    ensures { λ _. ⌜ final out ≡ padded (length (given out)) (take from (given out)) ⌝ }
+    ensures { λ _. ⌜ now (out .exit) ≡ padded (length (given out)) (take from (given out)) ⌝ }
 {
     let mut i = from;
     while i < out.len() {
@@ -58,7 +58,7 @@ fn clear(from: usize, out: &mut [u8])
 // The report by way of as much of two arrays as the longest list takes.
 fn report_between(field: u8, album: &[u8], list: &mut [u16], h: &mut [u16], out: &mut [u8]) -> usize
     requires { ⌜ (length (now list) ≡ maxWords) × (length (now h) ≡ maxWords) × (length (now out) ≡ maxText) ⌝ }
-    ensures { λ r. ⌜ Put (reportOf (modulus field) (fieldAt field) (given album)) 0 (given out) (final out) r ⌝ }
+    ensures { λ r. ⌜ Put (reportOf (modulus field) (fieldAt field) (given album)) 0 (given out) (now (out .exit)) r ⌝ }
 {
     let n = field::longest_of(field);
     report_in(field, album, &mut list[..n], &mut h[..n], out)
@@ -67,7 +67,7 @@ fn report_between(field: u8, album: &[u8], list: &mut [u16], h: &mut [u16], out:
 // The same by way of buffers for a list and for h.
 fn report_in(field: u8, album: &[u8], list: &mut [u16], h: &mut [u16], out: &mut [u8]) -> usize
     requires { ⌜ (length (now list) ≡ longest field) × (length (now h) ≡ longest field) × (length (now out) ≡ maxText) ⌝ }
-    ensures { λ r. ⌜ Put (reportOf (modulus field) (fieldAt field) (given album)) 0 (given out) (final out) r ⌝ }
+    ensures { λ r. ⌜ Put (reportOf (modulus field) (fieldAt field) (given album)) 0 (given out) (now (out .exit)) r ⌝ }
 {
     match album_layout::judge_album(field, album) {
         Outcome::Refused(why) => put_refused(why, 0, out),
@@ -79,7 +79,7 @@ fn report_in(field: u8, album: &[u8], list: &mut [u16], h: &mut [u16], out: &mut
 fn put_sound(field: u8, album: &[u8], list: &mut [u16], h: &mut [u16], out: &mut [u8]) -> usize
     requires { ⌜ Passed (modulus field) (now album) ⌝ }
     requires { ⌜ (length (now list) ≡ longest field) × (length (now h) ≡ longest field) × (length (now out) ≡ maxText) ⌝ }
-    ensures { λ r. ⌜ Put (soundReport (fieldAt field) (listsOf (given album))) 0 (given out) (final out) r ⌝ }
+    ensures { λ r. ⌜ Put (soundReport (fieldAt field) (listsOf (given album))) 0 (given out) (now (out .exit)) r ⌝ }
 {
     let first = put_named(b"lists", words::byte_at(album, 0), 0, out);
     let at = put_lists(field, album, list, first, out);
@@ -90,7 +90,7 @@ fn put_sound(field: u8, album: &[u8], list: &mut [u16], h: &mut [u16], out: &mut
 fn put_answer(field: u8, album: &[u8], h: &mut [u16], at: usize, out: &mut [u8]) -> usize
     requires { ⌜ (Passed (modulus field) (now album)) × (length (now h) ≡ longest field) ⌝ }
     requires { ⌜ at + maxAnswer ≤ length (now out) ⌝ }
-    ensures { λ r. ⌜ Put (answerLines (fieldAt field) (listsOf (given album))) at (given out) (final out) r ⌝ }
+    ensures { λ r. ⌜ Put (answerLines (fieldAt field) (listsOf (given album))) at (given out) (now (out .exit)) r ⌝ }
 {
     match album_gcd::album_gcd_over(field, album, h) {
         Gcd::Done(w, c, _) => put_gcd(&h[..w.0 + 1], c, at, out),
@@ -101,7 +101,7 @@ fn put_answer(field: u8, album: &[u8], h: &mut [u16], at: usize, out: &mut [u8])
 // One byte.
 fn put(byte: u8, at: usize, out: &mut [u8]) -> usize
     requires { ⌜ Room (byte ∷ []) at (now out) ⌝ }
-    ensures { λ r. ⌜ Put (byte ∷ []) at (given out) (final out) r ⌝ }
+    ensures { λ r. ⌜ Put (byte ∷ []) at (given out) (now (out .exit)) r ⌝ }
 {
     out[at] = byte;
     at + 1
@@ -110,7 +110,7 @@ fn put(byte: u8, at: usize, out: &mut [u8]) -> usize
 // Some bytes.
 fn put_bytes(bytes: &[u8], at: usize, out: &mut [u8]) -> usize
     requires { ⌜ Room (now bytes) at (now out) ⌝ }
-    ensures { λ r. ⌜ Put (given bytes) at (given out) (final out) r ⌝ }
+    ensures { λ r. ⌜ Put (given bytes) at (given out) (now (out .exit)) r ⌝ }
 {
     let mut i = 0;
     while i < bytes.len() {
@@ -123,7 +123,7 @@ fn put_bytes(bytes: &[u8], at: usize, out: &mut [u8]) -> usize
 // A number in decimal digits.
 fn put_number(n: usize, at: usize, out: &mut [u8]) -> usize
     requires { ⌜ Room (decimal n) at (now out) ⌝ }
-    ensures { λ r. ⌜ Put (decimal n) at (given out) (final out) r ⌝ }
+    ensures { λ r. ⌜ Put (decimal n) at (given out) (now (out .exit)) r ⌝ }
 {
     if n < 10 {
         return put(48 + n as u8, at, out);
@@ -135,7 +135,7 @@ fn put_number(n: usize, at: usize, out: &mut [u8]) -> usize
 // A space and a number.
 fn put_field(n: usize, at: usize, out: &mut [u8]) -> usize
     requires { ⌜ Room (32 ∷ decimal n) at (now out) ⌝ }
-    ensures { λ r. ⌜ Put (32 ∷ decimal n) at (given out) (final out) r ⌝ }
+    ensures { λ r. ⌜ Put (32 ∷ decimal n) at (given out) (now (out .exit)) r ⌝ }
 {
     let next = put(32, at, out);
     put_number(n, next, out)
@@ -144,7 +144,7 @@ fn put_field(n: usize, at: usize, out: &mut [u8]) -> usize
 // A line of a name and a number.
 fn put_named(name: &[u8], n: usize, at: usize, out: &mut [u8]) -> usize
     requires { ⌜ Room (line (now name ∷ decimal n ∷ [])) at (now out) ⌝ }
-    ensures { λ r. ⌜ Put (line (given name ∷ decimal n ∷ [])) at (given out) (final out) r ⌝ }
+    ensures { λ r. ⌜ Put (line (given name ∷ decimal n ∷ [])) at (given out) (now (out .exit)) r ⌝ }
 {
     let named = put_bytes(name, at, out);
     let end = put_field(n, named, out);
@@ -154,7 +154,7 @@ fn put_named(name: &[u8], n: usize, at: usize, out: &mut [u8]) -> usize
 // The line of a refusal.
 fn put_refused(why: Refusal, at: usize, out: &mut [u8]) -> usize
     requires { ⌜ Room (refusedLine why) at (now out) ⌝ }
-    ensures { λ r. ⌜ Put (refusedLine why) at (given out) (final out) r ⌝ }
+    ensures { λ r. ⌜ Put (refusedLine why) at (given out) (now (out .exit)) r ⌝ }
 {
     put_named(b"refused", refusal::number_of(why) as usize, at, out)
 }
@@ -162,7 +162,7 @@ fn put_refused(why: Refusal, at: usize, out: &mut [u8]) -> usize
 // The extent and the power of a list, `-` for each where it is zero, and the end of its line.
 fn put_extent(list: &[u16], at: usize, out: &mut [u8]) -> usize
     requires { ⌜ Room (lineEnd (now list)) at (now out) ⌝ }
-    ensures { λ r. ⌜ Put (lineEnd (given list)) at (given out) (final out) r ⌝ }
+    ensures { λ r. ⌜ Put (lineEnd (given list)) at (given out) (now (out .exit)) r ⌝ }
 {
     if lists::significant_words(list) == 0 {
         return put_bytes(b" - -\n", at, out);
@@ -177,7 +177,7 @@ fn put_extent(list: &[u16], at: usize, out: &mut [u8]) -> usize
 // The line of list i.
 fn put_list(i: usize, list: &[u16], at: usize, out: &mut [u8]) -> usize
     requires { ⌜ (0 < length (now list)) × (Room (listLine i (now list)) at (now out)) ⌝ }
-    ensures { λ r. ⌜ Put (listLine i (given list)) at (given out) (final out) r ⌝ }
+    ensures { λ r. ⌜ Put (listLine i (given list)) at (given out) (now (out .exit)) r ⌝ }
 {
     let number = put_number(i, at, out);
     let degree = lists::degree_of(list);
@@ -188,7 +188,7 @@ fn put_list(i: usize, list: &[u16], at: usize, out: &mut [u8]) -> usize
 // The words of h, one space between them.
 fn put_words(h: &[u16], at: usize, out: &mut [u8]) -> usize
     requires { ⌜ (0 < length (now h)) × (Room (line (map decimal (now h))) at (now out)) ⌝ }
-    ensures { λ r. ⌜ Put (line (map decimal (given h))) at (given out) (final out) r ⌝ }
+    ensures { λ r. ⌜ Put (line (map decimal (given h))) at (given out) (now (out .exit)) r ⌝ }
 {
     let mut place = put_number(h[0] as usize, at, out);
     let mut k = 1;
@@ -203,7 +203,7 @@ fn put_words(h: &[u16], at: usize, out: &mut [u8]) -> usize
 fn put_gcd(h: &[u16], c: Power, at: usize, out: &mut [u8]) -> usize
     requires { ⌜ (0 < length (now h)) × (length (now h) ≤ maxWords) × (c .0 < maxWords) ⌝ }
     requires { ⌜ Room (gcdLines (now h) (c .0)) at (now out) ⌝ }
-    ensures { λ r. ⌜ Put (gcdLines (given h) (c .0)) at (given out) (final out) r ⌝ }
+    ensures { λ r. ⌜ Put (gcdLines (given h) (c .0)) at (given out) (now (out .exit)) r ⌝ }
 {
     let named = put_bytes(b"gcd", at, out);
     let w = lists::degree_of(h);
@@ -217,7 +217,7 @@ fn put_gcd(h: &[u16], c: Power, at: usize, out: &mut [u8]) -> usize
 fn put_lists(field: u8, album: &[u8], list: &mut [u16], at: usize, out: &mut [u8]) -> usize
     requires { ⌜ (Passed (modulus field) (now album)) × (length (now list) ≡ longest field) ⌝ }
     requires { ⌜ Room (listLines 0 (listsOf (now album))) at (now out) ⌝ }
-    ensures { λ r. ⌜ Put (listLines 0 (listsOf (given album))) at (given out) (final out) r ⌝ }
+    ensures { λ r. ⌜ Put (listLines 0 (listsOf (given album))) at (given out) (now (out .exit)) r ⌝ }
 {
     let n = words::byte_at(album, 0);
     let mut place = at;

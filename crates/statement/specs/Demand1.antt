@@ -10,7 +10,7 @@
 use mathlib.Core.Path.{_≡_}
 use mathlib.Core.List.{List, [], _∷_}
 use Prim.Native.Nat.{ℕ}
-use Rattle.refusal.specs.Contract.{Lent, given, final}
+use Rattle.refusal.specs.Contract.{Lent, given}
 use Rattle.refusal.specs.Refusal.{number}
 use Rattle.refusal.specs.Lowest.{Condition, Applies, IsLowest}
 use Rattle.refusal.specs.declared.Refusal.{Refusal}
@@ -26,7 +26,7 @@ abbrev pub sliceOf : {A : Type 0} → List A → List A → Slice
 sliceOf {A} entry exit = record { Element = A; entry = entry; exit = exit }
 
 abbrev pub slice : Lent → Slice
-slice s = sliceOf (given s) (final s)
+slice s = sliceOf (given s) (s .exit .now)
 
 abbrev pub Unchanged : List Slice → Type 0
 Unchanged [] = Unit {0}

@@ -5,7 +5,7 @@
 ghost use mathlib.Core.Path.{_≡_};
 ghost use mathlib.Core.List.{[], _∷_};
 ghost use lib.ListN.{length};
-ghost use Rattle.refusal.specs.Contract.{given, final};
+ghost use Rattle.refusal.specs.Contract.{given};
 ghost use Rattle.field.specs.Field.{wordReply};
 ghost use Rattle.field.specs.Calls.{wordSumAnswer, wordDifferenceAnswer, wordProductAnswer};
 ghost use Rattle.field_inverse.specs.Calls.{inverseAnswer};
@@ -36,7 +36,7 @@ const COMPLETED: u8 = 0;
 #[no_mangle]
 pub extern "C" fn test_field_sum(a: u16, b: u16, answer: &mut [usize]) -> u8
     ensures number { λ r. ⌜ r ≡ wordSumAnswer 0 a b .number ⌝ }
-    ensures values { λ _. ⌜ final answer ≡ fitted (wordSumAnswer 0 a b .values) (given answer) ⌝ }
+    ensures values { λ _. ⌜ now (answer .exit) ≡ fitted (wordSumAnswer 0 a b .values) (given answer) ⌝ }
 {
     note_word(field_calls::sum(a, b), answer)
 }
@@ -45,7 +45,7 @@ pub extern "C" fn test_field_sum(a: u16, b: u16, answer: &mut [usize]) -> u8
 #[no_mangle]
 pub extern "C" fn test_field_difference(a: u16, b: u16, answer: &mut [usize]) -> u8
     ensures number { λ r. ⌜ r ≡ wordDifferenceAnswer 0 a b .number ⌝ }
-    ensures values { λ _. ⌜ final answer ≡ fitted (wordDifferenceAnswer 0 a b .values) (given answer) ⌝ }
+    ensures values { λ _. ⌜ now (answer .exit) ≡ fitted (wordDifferenceAnswer 0 a b .values) (given answer) ⌝ }
 {
     note_word(field_calls::difference(a, b), answer)
 }
@@ -54,7 +54,7 @@ pub extern "C" fn test_field_difference(a: u16, b: u16, answer: &mut [usize]) ->
 #[no_mangle]
 pub extern "C" fn test_field_product(a: u16, b: u16, answer: &mut [usize]) -> u8
     ensures number { λ r. ⌜ r ≡ wordProductAnswer 0 a b .number ⌝ }
-    ensures values { λ _. ⌜ final answer ≡ fitted (wordProductAnswer 0 a b .values) (given answer) ⌝ }
+    ensures values { λ _. ⌜ now (answer .exit) ≡ fitted (wordProductAnswer 0 a b .values) (given answer) ⌝ }
 {
     note_word(field_calls::product(a, b), answer)
 }
@@ -63,7 +63,7 @@ pub extern "C" fn test_field_product(a: u16, b: u16, answer: &mut [usize]) -> u8
 #[no_mangle]
 pub extern "C" fn test_inverse(a: u16, answer: &mut [usize]) -> u8
     ensures number { λ r. ⌜ r ≡ inverseAnswer 0 a .number ⌝ }
-    ensures values { λ _. ⌜ final answer ≡ fitted (inverseAnswer 0 a .values) (given answer) ⌝ }
+    ensures values { λ _. ⌜ now (answer .exit) ≡ fitted (inverseAnswer 0 a .values) (given answer) ⌝ }
 {
     note_word(field_calls::inverse(a), answer)
 }
@@ -72,7 +72,7 @@ pub extern "C" fn test_inverse(a: u16, answer: &mut [usize]) -> u8
 #[no_mangle]
 pub extern "C" fn test_product(f: &[u16], g: &[u16], out: &mut [u16]) -> u8
     ensures number { λ r. ⌜ r ≡ productAnswer 0 (given f) (given g) (given out) .number ⌝ }
-    ensures writes { λ _. ⌜ final out ≡ productWritten 0 (given f) (given g) (given out) ⌝ }
+    ensures writes { λ _. ⌜ now (out .exit) ≡ productWritten 0 (given f) (given g) (given out) ⌝ }
 {
     refusal::outcome_number(list_calls::product(f, g, out))
 }
@@ -81,7 +81,7 @@ pub extern "C" fn test_product(f: &[u16], g: &[u16], out: &mut [u16]) -> u8
 #[no_mangle]
 pub extern "C" fn test_raise(f: &[u16], to: usize, out: &mut [u16]) -> u8
     ensures number { λ r. ⌜ r ≡ raiseAnswer 0 (given f) to (given out) .number ⌝ }
-    ensures writes { λ _. ⌜ final out ≡ raiseWritten 0 (given f) to (given out) ⌝ }
+    ensures writes { λ _. ⌜ now (out .exit) ≡ raiseWritten 0 (given f) to (given out) ⌝ }
 {
     refusal::outcome_number(list_calls::raise(f, NaiveDegree(to), out))
 }
@@ -90,7 +90,7 @@ pub extern "C" fn test_raise(f: &[u16], to: usize, out: &mut [u16]) -> u8
 #[no_mangle]
 pub extern "C" fn test_sum(f: &[u16], g: &[u16], out: &mut [u16]) -> u8
     ensures number { λ r. ⌜ r ≡ sumAnswer 0 (given f) (given g) (given out) .number ⌝ }
-    ensures writes { λ _. ⌜ final out ≡ sumWritten 0 (given f) (given g) (given out) ⌝ }
+    ensures writes { λ _. ⌜ now (out .exit) ≡ sumWritten 0 (given f) (given g) (given out) ⌝ }
 {
     refusal::outcome_number(list_calls::sum(f, g, out))
 }
@@ -99,7 +99,7 @@ pub extern "C" fn test_sum(f: &[u16], g: &[u16], out: &mut [u16]) -> u8
 #[no_mangle]
 pub extern "C" fn test_difference(f: &[u16], g: &[u16], out: &mut [u16]) -> u8
     ensures number { λ r. ⌜ r ≡ sumAnswer 0 (given f) (given g) (given out) .number ⌝ }
-    ensures writes { λ _. ⌜ final out ≡ differenceWritten 0 (given f) (given g) (given out) ⌝ }
+    ensures writes { λ _. ⌜ now (out .exit) ≡ differenceWritten 0 (given f) (given g) (given out) ⌝ }
 {
     refusal::outcome_number(list_calls::difference(f, g, out))
 }
@@ -108,7 +108,7 @@ pub extern "C" fn test_difference(f: &[u16], g: &[u16], out: &mut [u16]) -> u8
 #[no_mangle]
 pub extern "C" fn test_find_extent(f: &[u16], answer: &mut [usize]) -> u8
     ensures number { λ r. ⌜ r ≡ extentAnswer 0 (given f) .number ⌝ }
-    ensures values { λ _. ⌜ final answer ≡ fitted (extentAnswer 0 (given f) .values) (given answer) ⌝ }
+    ensures values { λ _. ⌜ now (answer .exit) ≡ fitted (extentAnswer 0 (given f) .values) (given answer) ⌝ }
 {
     note_found(list_calls::find_extent(f), answer)
 }
@@ -117,7 +117,7 @@ pub extern "C" fn test_find_extent(f: &[u16], answer: &mut [usize]) -> u8
 #[no_mangle]
 pub extern "C" fn test_trim(f: &[u16], out: &mut [u16]) -> u8
     ensures number { λ r. ⌜ r ≡ trimAnswer 0 (given f) (given out) .number ⌝ }
-    ensures writes { λ _. ⌜ final out ≡ trimWritten 0 (given f) (given out) ⌝ }
+    ensures writes { λ _. ⌜ now (out .exit) ≡ trimWritten 0 (given f) (given out) ⌝ }
 {
     refusal::outcome_number(list_calls::trim(f, out))
 }
@@ -126,7 +126,7 @@ pub extern "C" fn test_trim(f: &[u16], out: &mut [u16]) -> u8
 #[no_mangle]
 pub extern "C" fn test_derivative(f: &[u16], out: &mut [u16]) -> u8
     ensures number { λ r. ⌜ r ≡ derivativeAnswer 0 (given f) (given out) .number ⌝ }
-    ensures writes { λ _. ⌜ final out ≡ derivativeWritten 0 (given f) (given out) ⌝ }
+    ensures writes { λ _. ⌜ now (out .exit) ≡ derivativeWritten 0 (given f) (given out) ⌝ }
 {
     refusal::outcome_number(list_calls::derivative(f, out))
 }
@@ -135,7 +135,7 @@ pub extern "C" fn test_derivative(f: &[u16], out: &mut [u16]) -> u8
 #[no_mangle]
 pub extern "C" fn test_evaluate(f: &[u16], x: u16, answer: &mut [usize]) -> u8
     ensures number { λ r. ⌜ r ≡ evaluateAnswer 0 (given f) x .number ⌝ }
-    ensures values { λ _. ⌜ final answer ≡ fitted (evaluateAnswer 0 (given f) x .values) (given answer) ⌝ }
+    ensures values { λ _. ⌜ now (answer .exit) ≡ fitted (evaluateAnswer 0 (given f) x .values) (given answer) ⌝ }
 {
     note_word(list_calls::evaluate(f, x), answer)
 }
@@ -144,8 +144,8 @@ pub extern "C" fn test_evaluate(f: &[u16], x: u16, answer: &mut [usize]) -> u8
 #[no_mangle]
 pub extern "C" fn test_divide(g: &[u16], f: &[u16], q: &mut [u16], r: &mut [u16]) -> u8
     ensures number { λ n. ⌜ n ≡ divideAnswer 0 (given g) (given f) (given q) (given r) .number ⌝ }
-    ensures quotient { λ _. ⌜ final q ≡ quotientWritten 0 (given g) (given f) (given q) (given r) ⌝ }
-    ensures remainder { λ _. ⌜ final r ≡ remainderWritten 0 (given g) (given f) (given q) (given r) ⌝ }
+    ensures quotient { λ _. ⌜ now (q .exit) ≡ quotientWritten 0 (given g) (given f) (given q) (given r) ⌝ }
+    ensures remainder { λ _. ⌜ now (r .exit) ≡ remainderWritten 0 (given g) (given f) (given q) (given r) ⌝ }
 {
     refusal::outcome_number(list_calls::divide(g, f, q, r))
 }
@@ -154,8 +154,8 @@ pub extern "C" fn test_divide(g: &[u16], f: &[u16], q: &mut [u16], r: &mut [u16]
 #[no_mangle]
 pub extern "C" fn test_gcd(f: &[u16], g: &[u16], h: &mut [u16], answer: &mut [usize]) -> u8
     ensures number { λ r. ⌜ r ≡ gcdAnswer 0 (given f) (given g) (given h) .number ⌝ }
-    ensures writes { λ _. ⌜ final h ≡ gcdWritten 0 (given f) (given g) (given h) ⌝ }
-    ensures values { λ _. ⌜ final answer ≡ fitted (gcdAnswer 0 (given f) (given g) (given h) .values) (given answer) ⌝ }
+    ensures writes { λ _. ⌜ now (h .exit) ≡ gcdWritten 0 (given f) (given g) (given h) ⌝ }
+    ensures values { λ _. ⌜ now (answer .exit) ≡ fitted (gcdAnswer 0 (given f) (given g) (given h) .values) (given answer) ⌝ }
 {
     note_gcd(list_calls::gcd_of(f, g, h), answer)
 }
@@ -171,10 +171,10 @@ pub extern "C" fn test_cofactors(
     answer: &mut [usize],
 ) -> u8
     ensures number { λ r. ⌜ r ≡ cofactorAnswer 0 (given f) (given g) (given h) (given a) (given b) .number ⌝ }
-    ensures gcd { λ _. ⌜ final h ≡ cofactorGcd 0 (given f) (given g) (given h) (given a) (given b) ⌝ }
-    ensures cofactor_a { λ _. ⌜ final a ≡ cofactorsWrittenA 0 (given f) (given g) (given h) (given a) (given b) ⌝ }
-    ensures cofactor_b { λ _. ⌜ final b ≡ cofactorsWrittenB 0 (given f) (given g) (given h) (given a) (given b) ⌝ }
-    ensures values { λ _. ⌜ final answer ≡ fitted (cofactorAnswer 0 (given f) (given g) (given h) (given a) (given b) .values) (given answer) ⌝ }
+    ensures gcd { λ _. ⌜ now (h .exit) ≡ cofactorGcd 0 (given f) (given g) (given h) (given a) (given b) ⌝ }
+    ensures cofactor_a { λ _. ⌜ now (a .exit) ≡ cofactorsWrittenA 0 (given f) (given g) (given h) (given a) (given b) ⌝ }
+    ensures cofactor_b { λ _. ⌜ now (b .exit) ≡ cofactorsWrittenB 0 (given f) (given g) (given h) (given a) (given b) ⌝ }
+    ensures values { λ _. ⌜ now (answer .exit) ≡ fitted (cofactorAnswer 0 (given f) (given g) (given h) (given a) (given b) .values) (given answer) ⌝ }
 {
     note_gcd(list_calls::find_cofactors(f, g, h, a, b), answer)
 }
@@ -191,7 +191,7 @@ pub extern "C" fn test_check(album: &[u8], i: usize) -> u8
 #[no_mangle]
 pub extern "C" fn test_body(album: &[u8], i: usize, out: &mut [u8]) -> usize
     ensures answer { λ r. ⌜ r ≡ length (bodyOf 0 (given album) i) ⌝ }
-    ensures writes { λ _. ⌜ final out ≡ fitted (bodyOf 0 (given album) i) (given out) ⌝ }
+    ensures writes { λ _. ⌜ now (out .exit) ≡ fitted (bodyOf 0 (given album) i) (given out) ⌝ }
 {
     let part = album_calls::body(album, i);
     if out.len() == part.len() {
@@ -209,8 +209,8 @@ pub extern "C" fn test_read_list(
     answer: &mut [usize],
 ) -> u8
     ensures number { λ r. ⌜ r ≡ readAnswer 0 (given album) i (given out) .number ⌝ }
-    ensures writes { λ _. ⌜ final out ≡ readWritten 0 (given album) i (given out) ⌝ }
-    ensures values { λ _. ⌜ final answer ≡ fitted (readAnswer 0 (given album) i (given out) .values) (given answer) ⌝ }
+    ensures writes { λ _. ⌜ now (out .exit) ≡ readWritten 0 (given album) i (given out) ⌝ }
+    ensures values { λ _. ⌜ now (answer .exit) ≡ fitted (readAnswer 0 (given album) i (given out) .values) (given answer) ⌝ }
 {
     note_listed(album_calls::read_list(album, i, out), answer)
 }
@@ -228,15 +228,15 @@ pub extern "C" fn test_contents(album: &[u8], out: &mut [Entry]) -> u8
 #[no_mangle]
 pub extern "C" fn test_gcd_of_album(album: &[u8], h: &mut [u16], answer: &mut [usize]) -> u8
     ensures number { λ r. ⌜ r ≡ albumGcdAnswer 0 (given album) (given h) .number ⌝ }
-    ensures writes { λ _. ⌜ final h ≡ albumGcdWritten 0 (given album) (given h) ⌝ }
-    ensures values { λ _. ⌜ final answer ≡ fitted (albumGcdAnswer 0 (given album) (given h) .values) (given answer) ⌝ }
+    ensures writes { λ _. ⌜ now (h .exit) ≡ albumGcdWritten 0 (given album) (given h) ⌝ }
+    ensures values { λ _. ⌜ now (answer .exit) ≡ fitted (albumGcdAnswer 0 (given album) (given h) .values) (given answer) ⌝ }
 {
     note_gcd(album_calls::gcd_of_album(album, h), answer)
 }
 
 fn note_word(found: Word, answer: &mut [usize]) -> u8
     ensures number { λ r. ⌜ r ≡ wordReply found .number ⌝ }
-    ensures values { λ _. ⌜ final answer ≡ fitted (wordReply found .values) (given answer) ⌝ }
+    ensures values { λ _. ⌜ now (answer .exit) ≡ fitted (wordReply found .values) (given answer) ⌝ }
 {
     match found {
         Word::Done(word) => {
@@ -249,7 +249,7 @@ fn note_word(found: Word, answer: &mut [usize]) -> u8
 
 fn note_found(found: Found, answer: &mut [usize]) -> u8
     ensures number { λ r. ⌜ r ≡ extentReply found .number ⌝ }
-    ensures values { λ _. ⌜ final answer ≡ fitted (extentReply found .values) (given answer) ⌝ }
+    ensures values { λ _. ⌜ now (answer .exit) ≡ fitted (extentReply found .values) (given answer) ⌝ }
 {
     match found {
         Found::At(extent) => {
@@ -263,7 +263,7 @@ fn note_found(found: Found, answer: &mut [usize]) -> u8
 
 fn note_listed(found: Listed, answer: &mut [usize]) -> u8
     ensures number { λ r. ⌜ r ≡ listedReply found .number ⌝ }
-    ensures values { λ _. ⌜ final answer ≡ fitted (listedReply found .values) (given answer) ⌝ }
+    ensures values { λ _. ⌜ now (answer .exit) ≡ fitted (listedReply found .values) (given answer) ⌝ }
 {
     match found {
         Listed::Done(degree) => {
@@ -276,7 +276,7 @@ fn note_listed(found: Listed, answer: &mut [usize]) -> u8
 
 fn note_gcd(found: Gcd, answer: &mut [usize]) -> u8
     ensures number { λ r. ⌜ r ≡ gcdReply found .number ⌝ }
-    ensures values { λ _. ⌜ final answer ≡ fitted (gcdReply found .values) (given answer) ⌝ }
+    ensures values { λ _. ⌜ now (answer .exit) ≡ fitted (gcdReply found .values) (given answer) ⌝ }
 {
     match found {
         Gcd::Done(w, c, rounds) => {
@@ -288,7 +288,7 @@ fn note_gcd(found: Gcd, answer: &mut [usize]) -> u8
 }
 
 fn note_one(value: usize, answer: &mut [usize])
-    ensures { λ _. ⌜ final answer ≡ fitted (value ∷ []) (given answer) ⌝ }
+    ensures { λ _. ⌜ now (answer .exit) ≡ fitted (value ∷ []) (given answer) ⌝ }
 {
     if answer.len() == 1 {
         answer[0] = value;
@@ -296,7 +296,7 @@ fn note_one(value: usize, answer: &mut [usize])
 }
 
 fn note_three(w: usize, c: usize, rounds: usize, answer: &mut [usize])
-    ensures { λ _. ⌜ final answer ≡ fitted (w ∷ c ∷ rounds ∷ []) (given answer) ⌝ }
+    ensures { λ _. ⌜ now (answer .exit) ≡ fitted (w ∷ c ∷ rounds ∷ []) (given answer) ⌝ }
 {
     if answer.len() == 3 {
         answer[0] = w;
@@ -307,7 +307,7 @@ fn note_three(w: usize, c: usize, rounds: usize, answer: &mut [usize])
 
 fn copy(from: &[u8], to: &mut [u8])
     requires { ⌜ length (now from) ≡ length (now to) ⌝ }
-    ensures { λ _. ⌜ final to ≡ given from ⌝ }
+    ensures { λ _. ⌜ now (to .exit) ≡ given from ⌝ }
 {
     let mut i = 0;
     while i < to.len() {

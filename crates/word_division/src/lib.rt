@@ -3,14 +3,14 @@
 ghost use mathlib.Core.Path.{_≡_};
 ghost use Prim.Native.Nat.{_+_, _≤_};
 ghost use lib.ListN.{length};
-ghost use Rattle.refusal.specs.Contract.{given, final};
+ghost use Rattle.refusal.specs.Contract.{given};
 ghost use Rattle.field.specs.Fields.{modulus};
 ghost use Rattle.word_division.specs.Reduction.{negated, reduced, digits, lessProduct, wordsReduced, wordsOfQuotient, wordsLessProduct};
 
 // Division of x by y from the top: the quotient's words go to q, what is left stays in x. `inv` is the inverse of y's last word.
 pub fn reduce(field: u8, x: &mut [u16], y: &[u16], inv: u16, q: &mut [u16])
-    ensures left { λ _. ⌜ final x ≡ wordsReduced (modulus field) inv (given x) (given y) (given q) ⌝ }
-    ensures quotient { λ _. ⌜ final q ≡ wordsOfQuotient (modulus field) inv (given x) (given y) (given q) ⌝ }
+    ensures left { λ _. ⌜ now (x .exit) ≡ wordsReduced (modulus field) inv (given x) (given y) (given q) ⌝ }
+    ensures quotient { λ _. ⌜ now (q .exit) ≡ wordsOfQuotient (modulus field) inv (given x) (given y) (given q) ⌝ }
 {
     if y.len() == 0 {
         return;
@@ -27,7 +27,7 @@ pub fn reduce(field: u8, x: &mut [u16], y: &[u16], inv: u16, q: &mut [u16])
 
 // s less q times t, in as many words as s has.
 pub fn sub_product(field: u8, s: &mut [u16], q: &[u16], t: &[u16])
-    ensures { λ _. ⌜ final s ≡ wordsLessProduct (modulus field) (given s) (given q) (given t) ⌝ }
+    ensures { λ _. ⌜ now (s .exit) ≡ wordsLessProduct (modulus field) (given s) (given q) (given t) ⌝ }
 {
     if q.len() <= s.len() {
         sub_product_in(field, s, q, t);
@@ -37,8 +37,8 @@ pub fn sub_product(field: u8, s: &mut [u16], q: &[u16], t: &[u16])
 // The division, where the lengths fit.
 fn reduce_in(field: u8, x: &mut [u16], y: &[u16], inv: u16, q: &mut [u16])
     requires { ⌜ (1 ≤ length (now y)) × (length (now x) + 1 ≡ length (now y) + length (now q)) ⌝ }
-    ensures left { λ _. ⌜ final x ≡ reduced (modulus field) inv (given y) (length (given q)) (given x) ⌝ }
-    ensures quotient { λ _. ⌜ final q ≡ digits (modulus field) inv (given y) (length (given q)) (given x) ⌝ }
+    ensures left { λ _. ⌜ now (x .exit) ≡ reduced (modulus field) inv (given y) (length (given q)) (given x) ⌝ }
+    ensures quotient { λ _. ⌜ now (q .exit) ≡ digits (modulus field) inv (given y) (length (given q)) (given x) ⌝ }
 {
     let d = y.len() - 1;
     let mut k = q.len();
@@ -53,7 +53,7 @@ fn reduce_in(field: u8, x: &mut [u16], y: &[u16], inv: u16, q: &mut [u16])
 // The product taken off, where the lengths fit.
 fn sub_product_in(field: u8, s: &mut [u16], q: &[u16], t: &[u16])
     requires { ⌜ length (now q) ≤ length (now s) ⌝ }
-    ensures { λ _. ⌜ final s ≡ lessProduct (modulus field) (given s) (given q) (given t) ⌝ }
+    ensures { λ _. ⌜ now (s .exit) ≡ lessProduct (modulus field) (given s) (given q) (given t) ⌝ }
 {
     let mut k = 0;
     while k < q.len() {

@@ -5,7 +5,7 @@ ghost use mathlib.Core.Bool.{cond};
 ghost use lib.Dec.{eqb};
 ghost use Prim.Native.Nat.{_+_, _*_, _/_, _<_, _≤_};
 ghost use lib.ListN.{length, getD, take, drop};
-ghost use Rattle.refusal.specs.Contract.{given, final};
+ghost use Rattle.refusal.specs.Contract.{given};
 ghost use Rattle.field.specs.Fields.{modulus, fieldAt};
 ghost use Rattle.refusal.specs.Limits.{maxWords};
 ghost use Rattle.lists.specs.Words.{ZeroFrom};
@@ -36,7 +36,7 @@ fn multiply_block(
 )
     requires { ⌜ (i + 8 * g ≤ length (now x)) × (j + (v + 15) ≤ length (now y)) × (k + (8 * g + v) ≤ length (now s)) × ZeroFrom k (now s) ⌝ }
     requires { ⌜ Factors (take (8 * g) (drop i (now x))) (take (v + 15) (drop j (now y))) × Strip (v + 8) (take (v + 15) (drop j (now y))) ⌝ }
-    ensures { λ _. ⌜ Placed k (8 * g + v) (λ n. rowSum (take (8 * g) (drop i (given x))) (take (v + 15) (drop j (given y))) n (8 * g)) (given s) (final s) ⌝ }
+    ensures { λ _. ⌜ Placed k (8 * g + v) (λ n. rowSum (take (8 * g) (drop i (given x))) (take (v + 15) (drop j (given y))) n (8 * g)) (given s) (now (s .exit)) ⌝ }
 {
     word_product_rows::add_rows(
         &x[i..i + 8 * g],
@@ -49,7 +49,7 @@ fn multiply_block(
 // LLVM inlines them down to where the buffers are and knows that they do not overlap.
 fn multiply(x: &[u64], y: &[u64], count: usize, g: usize, v: usize, s: &mut [u64])
     requires { ⌜ Blocks count g v (now x) (now y) (now s) × ZeroFrom 0 (now s) ⌝ }
-    ensures { λ _. ⌜ Multiplied g v (given x) (given y) count (final s) ⌝ }
+    ensures { λ _. ⌜ Multiplied g v (given x) (given y) count (now (s .exit)) ⌝ }
 {
     let mut t = 0;
     while t < count {
@@ -61,7 +61,7 @@ fn multiply(x: &[u64], y: &[u64], count: usize, g: usize, v: usize, s: &mut [u64
 // n words of a list, from i on, in s from d on.
 fn widen(list: &[u16], i: usize, n: usize, d: usize, s: &mut [u64])
     requires { ⌜ (i + n ≤ length (now list)) × (d + n ≤ length (now s)) ⌝ }
-    ensures { λ _. ⌜ Placed d n (λ k. getD (given list) (i + k) 0) (given s) (final s) ⌝ }
+    ensures { λ _. ⌜ Placed d n (λ k. getD (given list) (i + k) 0) (given s) (now (s .exit)) ⌝ }
 {
     let mut k = 0;
     while k < n {
@@ -73,7 +73,7 @@ fn widen(list: &[u16], i: usize, n: usize, d: usize, s: &mut [u64])
 // The sum of the first two blocks of d words, in the third.
 fn add_halves(s: &mut [u64], d: usize)
     requires { ⌜ (3 * d ≤ length (now s)) × Small (2 * d) (now s) ⌝ }
-    ensures { λ _. ⌜ Placed (2 * d) d (sumAt d (given s)) (given s) (final s) ⌝ }
+    ensures { λ _. ⌜ Placed (2 * d) d (sumAt d (given s)) (given s) (now (s .exit)) ⌝ }
 {
     let mut k = 0;
     while k < d {
@@ -85,7 +85,7 @@ fn add_halves(s: &mut [u64], d: usize)
 // The third block, (a0 + a1) (b0 + b1), less the first two, a0 b0 and a1 b1: it becomes a0 b1 + a1 b0.
 fn cross(s: &mut [u64], h: usize)
     requires { ⌜ (6 * h ≤ length (now s)) × Small (6 * h) (now s) × Enough h (now s) ⌝ }
-    ensures { λ _. ⌜ Placed (4 * h) (2 * h) (crossAt h (given s)) (given s) (final s) ⌝ }
+    ensures { λ _. ⌜ Placed (4 * h) (2 * h) (crossAt h (given s)) (given s) (now (s .exit)) ⌝ }
 {
     let mut k = 0;
     while k < 2 * h {
@@ -97,7 +97,7 @@ fn cross(s: &mut [u64], h: usize)
 // The third block, added to the first two from word h on.
 fn add_cross(s: &mut [u64], h: usize)
     requires { ⌜ (6 * h ≤ length (now s)) × Small (6 * h) (now s) ⌝ }
-    ensures { λ _. ⌜ Placed h (2 * h) (joinAt h (given s)) (given s) (final s) ⌝ }
+    ensures { λ _. ⌜ Placed h (2 * h) (joinAt h (given s)) (given s) (now (s .exit)) ⌝ }
 {
     let mut k = 0;
     while k < 2 * h {
@@ -109,7 +109,7 @@ fn add_cross(s: &mut [u64], h: usize)
 // The words of s, reduced.
 fn reduce_words(field: u8, s: &[u64], out: &mut [u16])
     requires { ⌜ length (now out) ≤ length (now s) ⌝ }
-    ensures { λ _. ⌜ final out ≡ remainders (modulus field) (length (given out)) (given s) ⌝ }
+    ensures { λ _. ⌜ now (out .exit) ≡ remainders (modulus field) (length (given out)) (given s) ⌝ }
 {
     let mut k = 0;
     while k < out.len() {
@@ -171,7 +171,7 @@ fn plan_of(g: usize, n: usize, m: usize) -> Plan
 // The halves of the second factor and their sum, in s, which is 0.
 fn halve_second(b: &[u16], h: usize, s: &mut [u64])
     requires { ⌜ (h ≤ length (now b)) × (length (now b) ≤ 2 * h + 1) × (3 * (h + 15) ≤ length (now s)) × ZeroFrom 0 (now s) ⌝ }
-    ensures { λ _. ⌜ SecondHalves h (given b) (block (h + 15) 0 (final s)) (block (h + 15) 1 (final s)) (block (h + 15) 2 (final s)) ⌝ }
+    ensures { λ _. ⌜ SecondHalves h (given b) (block (h + 15) 0 (now (s .exit))) (block (h + 15) 1 (now (s .exit))) (block (h + 15) 2 (now (s .exit))) ⌝ }
 {
     widen(b, 0, h, 7, s);
     widen(b, h, b.len() - h, h + 22, s);
@@ -182,7 +182,7 @@ fn halve_second(b: &[u16], h: usize, s: &mut [u64])
 fn lay(a: &[u16], b: &[u16], g: usize, x: &mut [u64], y: &mut [u64])
     requires { ⌜ (length (now a) ≤ maxWords) × (length (now b) ≤ maxWords) × Halving maxWords (length (now a)) (length (now b)) g ⌝ }
     requires { ⌜ (length (now x) ≡ maxWords + 8) × (length (now y) ≡ maxWords + 16) × ZeroFrom 0 (now x) × ZeroFrom 0 (now y) ⌝ }
-    ensures { λ _. ⌜ Laid g (given a) (given b) (final x) (final y) ⌝ }
+    ensures { λ _. ⌜ Laid g (given a) (given b) (now (x .exit)) (now (y .exit)) ⌝ }
 {
     widen(a, 0, a.len(), 0, x);
     if g == 0 {
@@ -196,7 +196,7 @@ fn lay(a: &[u16], b: &[u16], g: usize, x: &mut [u64], y: &mut [u64])
 // The three products joined; where g is 0, s as it is.
 fn join(s: &mut [u64], g: usize)
     requires { ⌜ (48 * g ≤ length (now s)) × Small (6 * (8 * g)) (now s) × Enough (8 * g) (now s) ⌝ }
-    ensures { λ _. ⌜ Joined (8 * g) (given s) (final s) ⌝ }
+    ensures { λ _. ⌜ Joined (8 * g) (given s) (now (s .exit)) ⌝ }
 {
     cross(s, 8 * g);
     add_cross(s, 8 * g);
@@ -207,7 +207,7 @@ fn multiply_lists(a: &[u16], b: &[u16], x: &mut [u64], y: &mut [u64], s: &mut [u
     requires { ⌜ (length (now a) ≤ maxWords) × (length (now b) ≤ maxWords) ⌝ }
     requires { ⌜ (length (now x) ≡ maxWords + 8) × (length (now y) ≡ maxWords + 16) × (length (now s) ≡ 2 * maxWords + 8) ⌝ }
     requires { ⌜ ZeroFrom 0 (now x) × ZeroFrom 0 (now y) × ZeroFrom 0 (now s) ⌝ }
-    ensures { λ _. ⌜ Whole (given a) (given b) (final s) ⌝ }
+    ensures { λ _. ⌜ Whole (given a) (given b) (now (s .exit)) ⌝ }
 {
     let g = halving(a.len(), b.len());
     lay(a, b, g, x, y);
@@ -229,7 +229,7 @@ fn convolve_in(
     requires { ⌜ (length (now a) ≤ maxWords) × (length (now b) ≤ maxWords) × (length (now out) + 1 ≡ length (now a) + length (now b)) ⌝ }
     requires { ⌜ (length (now x) ≡ maxWords + 8) × (length (now y) ≡ maxWords + 16) × (length (now s) ≡ 2 * maxWords + 8) ⌝ }
     requires { ⌜ ZeroFrom 0 (now x) × ZeroFrom 0 (now y) × ZeroFrom 0 (now s) ⌝ }
-    ensures { λ _. ⌜ final out ≡ convolution (fieldAt field) (given a) (given b) ⌝ }
+    ensures { λ _. ⌜ now (out .exit) ≡ convolution (fieldAt field) (given a) (given b) ⌝ }
 {
     multiply_lists(a, b, x, y, s);
     reduce_words(field, s, out);
@@ -237,7 +237,7 @@ fn convolve_in(
 
 fn convolve_into(field: u8, a: &[u16], b: &[u16], out: &mut [u16])
     requires { ⌜ (length (now a) ≤ maxWords) × (length (now b) ≤ maxWords) × (length (now out) + 1 ≡ length (now a) + length (now b)) ⌝ }
-    ensures { λ _. ⌜ final out ≡ convolution (fieldAt field) (given a) (given b) ⌝ }
+    ensures { λ _. ⌜ now (out .exit) ≡ convolution (fieldAt field) (given a) (given b) ⌝ }
 {
     let mut x = [0u64; FIRST];
     let mut y = [0u64; SECOND];
@@ -247,7 +247,7 @@ fn convolve_into(field: u8, a: &[u16], b: &[u16], out: &mut [u16])
 
 // The words of the product of two scaled forms.
 pub fn convolve(field: u8, a: &[u16], b: &[u16], out: &mut [u16])
-    ensures { λ _. ⌜ final out ≡ convolvedInto (fieldAt field) maxWords (given a) (given b) (given out) ⌝ }
+    ensures { λ _. ⌜ now (out .exit) ≡ convolvedInto (fieldAt field) maxWords (given a) (given b) (given out) ⌝ }
 {
     if refusal::MAX_WORDS < a.len() {
         return;

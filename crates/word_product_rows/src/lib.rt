@@ -5,7 +5,7 @@ ghost use mathlib.Core.Path.{_≡_};
 ghost use mathlib.Core.Bool.{cond};
 ghost use Prim.Native.Nat.{_+_, _-_, _*_, _%_, _<_, _≤_};
 ghost use lib.ListN.{length};
-ghost use Rattle.refusal.specs.Contract.{given, final};
+ghost use Rattle.refusal.specs.Contract.{given};
 ghost use Rattle.word_product_rows.specs.Placed.{Placed};
 ghost use Rattle.word_product_rows.specs.Rows.{dot, gainAt, rowsFit, withRows};
 
@@ -42,7 +42,7 @@ fn dot8(x: &[u64], y: &[u64], i: usize, z: usize) -> u64
 // The eight rows from i on: word i + z gains their words there, for each z where y has eight words.
 fn add_eight(x: &[u64], y: &[u64], i: usize, s: &mut [u64])
     requires { ⌜ (i + 8 ≤ length (now x)) × (7 ≤ length (now y)) × (i + length (now y) ≤ length (now s) + 7) ⌝ }
-    ensures { λ _. ⌜ Placed i (length (given y) - 7) (gainAt (given x) (given y) (given s) i) (given s) (final s) ⌝ }
+    ensures { λ _. ⌜ Placed i (length (given y) - 7) (gainAt (given x) (given y) (given s) i) (given s) (now (s .exit)) ⌝ }
 {
     let mut z = 0;
     while z < y.len() - 7 {
@@ -54,7 +54,7 @@ fn add_eight(x: &[u64], y: &[u64], i: usize, s: &mut [u64])
 // All rows, eight after eight.
 fn add_all(x: &[u64], y: &[u64], s: &mut [u64])
     requires { ⌜ (7 ≤ length (now y)) × (length (now x) + length (now y) ≤ length (now s) + 15) ⌝ }
-    ensures { λ _. ⌜ final s ≡ withRows (given x) (given y) (given s) ⌝ }
+    ensures { λ _. ⌜ now (s .exit) ≡ withRows (given x) (given y) (given s) ⌝ }
 {
     let mut g = 0;
     while g < x.len() / 8 {
@@ -66,7 +66,7 @@ fn add_all(x: &[u64], y: &[u64], s: &mut [u64])
 // s with the rows of x times y added, where it has room for them. Where y begins and ends with 7 zeros, and nothing passes the bits that
 // count, that is the product of the words of x and of those between the zeros.
 pub fn add_rows(x: &[u64], y: &[u64], s: &mut [u64])
-    ensures { λ _. ⌜ final s ≡ cond (rowsFit (given x) (given y) (given s)) (withRows (given x) (given y) (given s)) (given s) ⌝ }
+    ensures { λ _. ⌜ now (s .exit) ≡ cond (rowsFit (given x) (given y) (given s)) (withRows (given x) (given y) (given s)) (given s) ⌝ }
 {
     if y.len() < 7 {
         return;

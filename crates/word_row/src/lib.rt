@@ -2,14 +2,14 @@
 ghost use mathlib.Core.Path.{_≡_};
 ghost use Prim.Native.Nat.{ℕ, _+_, _-_, _*_, _%_, _<_, _≤_};
 ghost use lib.ListN.{length};
-ghost use Rattle.refusal.specs.Contract.{given, final};
+ghost use Rattle.refusal.specs.Contract.{given};
 ghost use Rattle.field.specs.Fields.{modulus};
 ghost use Rattle.word_row.specs.Rows.{row, Partway};
 ghost use Rattle.word_row.specs.Montgomery.{Modulus, Factor};
 
 // x plus m times y, as far as both reach: whole groups of 8 words by Montgomery's products, and the rest word by word.
 pub fn add_row(field: u8, x: &mut [u16], m: u16, y: &[u16])
-    ensures { λ _. ⌜ final x ≡ row (modulus field) (given x) m (given y) ⌝ }
+    ensures { λ _. ⌜ now (x .exit) ≡ row (modulus field) (given x) m (given y) ⌝ }
 {
     let n = words::smaller(x.len(), y.len());
     let wide = n - n % 8;
@@ -27,7 +27,7 @@ pub fn add_row(field: u8, x: &mut [u16], m: u16, y: &[u16])
 
 // x plus m times y word by word, for the fewer than 8 words at a row's end.
 fn add_rest(field: u8, x: &mut [u16], m: u16, y: &[u16])
-    ensures { λ _. ⌜ final x ≡ row (modulus field) (given x) m (given y) ⌝ }
+    ensures { λ _. ⌜ now (x .exit) ≡ row (modulus field) (given x) m (given y) ⌝ }
 {
     let n = words::smaller(x.len(), y.len());
     let mut i = 0;
@@ -42,7 +42,7 @@ fn add_rest(field: u8, x: &mut [u16], m: u16, y: &[u16])
 fn montgomery_row(x: &mut [u16], m: u16, y: &[u16], n: usize, p: u16, e: u16, square: u16)
     requires { ⌜ Modulus p e square ⌝ }
     requires { ⌜ (n ≤ length (now x)) × (n ≤ length (now y)) ⌝ }
-    ensures { λ _. ⌜ Partway p (given x) m (given y) (final x) n ⌝ }
+    ensures { λ _. ⌜ Partway p (given x) m (given y) (now (x .exit)) n ⌝ }
 {
     // m times 2^16. LLVM knows that it has 16 bits, since it is a difference of words; of a remainder by p it would not.
     let g = add_product(0, m, square, word_montgomery::low_half(square, e), p);

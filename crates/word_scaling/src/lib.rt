@@ -3,7 +3,7 @@
 ghost use mathlib.Core.Path.{_≡_};
 ghost use Prim.Native.Nat.{_*_, _%_, _<_, _≤_};
 ghost use lib.ListN.{length};
-ghost use Rattle.refusal.specs.Contract.{given, final};
+ghost use Rattle.refusal.specs.Contract.{given};
 ghost use Rattle.field.specs.Fields.{modulus};
 ghost use Rattle.word_montgomery.specs.Montgomery.{montgomery};
 ghost use Rattle.word_scaling.specs.Scaling.{weighedInto, weighted};
@@ -43,7 +43,7 @@ fn product_of_four(field: u8, x: u16, d: u16, a: u16, b: u16) -> u16
 // Word k times whole[n], part[k] and part[n - k], n + 1 being the length of out. C(n,k) is n! / (k! (n - k)!): with the factorials as
 // whole and their inverses as part the words are multiplied by C(n,k), and with the two exchanged they are divided by it.
 pub fn weigh(field: u8, words: &[u16], whole: &[u16], part: &[u16], out: &mut [u16])
-    ensures { λ _. ⌜ final out ≡ weighedInto (modulus field) (given words) (given whole) (given part) (given out) ⌝ }
+    ensures { λ _. ⌜ now (out .exit) ≡ weighedInto (modulus field) (given words) (given whole) (given part) (given out) ⌝ }
 {
     if words.len() < out.len() {
         return;
@@ -60,7 +60,7 @@ pub fn weigh(field: u8, words: &[u16], whole: &[u16], part: &[u16], out: &mut [u
 // The same, where the lengths fit.
 fn weigh_in(field: u8, words: &[u16], whole: &[u16], part: &[u16], out: &mut [u16])
     requires { ⌜ (length (now out) ≤ length (now words)) × (length (now out) ≤ length (now whole)) × (length (now out) ≤ length (now part)) ⌝ }
-    ensures { λ _. ⌜ final out ≡ weighted (modulus field) (given whole) (given part) (length (given out)) (given words) ⌝ }
+    ensures { λ _. ⌜ now (out .exit) ≡ weighted (modulus field) (given whole) (given part) (length (given out)) (given words) ⌝ }
 {
     let n = out.len();
     if n == 0 {

@@ -3,7 +3,7 @@
 ghost use mathlib.Core.Path.{_≡_};
 ghost use Prim.Native.Nat.{max, min, _/_, _%_, _<_};
 ghost use lib.ListN.{length, getD};
-ghost use Rattle.refusal.specs.Contract.{given, final};
+ghost use Rattle.refusal.specs.Contract.{given};
 ghost use Rattle.lists.specs.Bytes.{byteValues, wordAt, wordsOf};
 ghost use Rattle.words.specs.Transfer.{wordsInto, bytesInto};
 
@@ -56,7 +56,7 @@ fn word_or_zero(bytes: &[u8], k: usize) -> u16
 
 // The words of some bytes, as many as the slice takes, zeros after them.
 pub fn read_words(bytes: &[u8], words: &mut [u16])
-    ensures { λ _. ⌜ final words ≡ wordsInto (length (given words)) (given bytes) ⌝ }
+    ensures { λ _. ⌜ now (words .exit) ≡ wordsInto (length (given words)) (given bytes) ⌝ }
 {
     let mut k = 0;
     while k < words.len() {
@@ -67,7 +67,7 @@ pub fn read_words(bytes: &[u8], words: &mut [u16])
 
 // The bytes of some words, in a slice of exactly so many bytes; nothing in another.
 pub fn write_words(words: &[u16], bytes: &mut [u8])
-    ensures { λ _. ⌜ final bytes ≡ bytesInto (given words) (given bytes) ⌝ }
+    ensures { λ _. ⌜ now (bytes .exit) ≡ bytesInto (given words) (given bytes) ⌝ }
 {
     if bytes.len() % 2 == 1 {
         return;

@@ -3,6 +3,7 @@ ghost use mathlib.Core.Path.{_≡_};
 ghost use mathlib.Core.Bool.{cond};
 ghost use Prim.Native.Nat.{ℕ, suc, max, _+_, _-_, _<_, _≤_};
 ghost use lib.ListN.{length, getD, take, drop};
+ghost use Rattle.refusal.specs.Contract.{given};
 ghost use Rattle.algebra.specs.PrimeField.{residue};
 ghost use Rattle.refusal.specs.Contract.{given};
 ghost use Rattle.refusal.specs.Limits.{maxWords};
@@ -313,7 +314,83 @@ fn cofactors_in(
 // The number of words of the longest row.
 const ROW: usize = 3 * refusal::MAX_WORDS;
 
-// The cofactors where nothing is refused.
+// The cofactors where nothing is refused, with tables that are lent.
+fn cofactors_with(
+    field: u8,
+    whole: &[u16],
+    part: &[u16],
+    inverses: &[u16],
+    f: &[u16],
+    g: &[u16],
+    h: &mut [u16],
+    a: &mut [u16],
+    b: &mut [u16],
+) -> Gcd
+    requires { ⌜ Tables (fieldAt field) (longest field) (now whole) (now part) ⌝ }
+    requires { ⌜ Ready (fieldAt field) (longest field) (now f) (now g) ⌝ }
+    requires { ⌜ Slices (longest field) (now f) (now g) (now h) (now a) (now b) ⌝ }
+    ensures { λ r. ⌜ Results (fieldAt field) (longest field) (given f) (given g) r (now (h .exit)) (now (a .exit)) (now (b .exit)) ⌝ }
+{
+    let mut u = [0u16; ROW];
+    let mut v = [0u16; ROW];
+    let mut q = [0u16; refusal::MAX_WORDS];
+    cofactors_between(
+        field,
+        whole,
+        part,
+        inverses,
+        f,
+        g,
+        &mut u,
+        &mut v,
+        &mut q,
+        h,
+        a,
+        b,
+    )
+}
+
+// The same in as much of three arrays of zeros as the longest list takes.
+fn cofactors_between(
+    field: u8,
+    whole: &[u16],
+    part: &[u16],
+    inverses: &[u16],
+    f: &[u16],
+    g: &[u16],
+    u: &mut [u16],
+    v: &mut [u16],
+    q: &mut [u16],
+    h: &mut [u16],
+    a: &mut [u16],
+    b: &mut [u16],
+) -> Gcd
+    requires { ⌜ Tables (fieldAt field) (longest field) (now whole) (now part) ⌝ }
+    requires { ⌜ Ready (fieldAt field) (longest field) (now f) (now g) ⌝ }
+    requires { ⌜ Slices (longest field) (now f) (now g) (now h) (now a) (now b) ⌝ }
+    requires { ⌜ ZeroRows maxWords (now u) (now v) (now q) ⌝ }
+    ensures { λ r. ⌜ Results (fieldAt field) (longest field) (given f) (given g) r (now (h .exit)) (now (a .exit)) (now (b .exit)) ⌝ }
+{
+    let n = field::longest_of(field);
+    let row = 3 * n;
+    cofactors_in(
+        field,
+        n,
+        whole,
+        part,
+        inverses,
+        f,
+        g,
+        &mut u[..row],
+        &mut v[..row],
+        &mut q[..n],
+        h,
+        a,
+        b,
+    )
+}
+
+// The same with our own tables.
 fn cofactors_into(
     field: u8,
     f: &[u16],
@@ -326,47 +403,8 @@ fn cofactors_into(
     requires { ⌜ Slices (longest field) (now f) (now g) (now h) (now a) (now b) ⌝ }
     ensures { λ r. ⌜ Results (fieldAt field) (longest field) (given f) (given g) r (now (h .exit)) (now (a .exit)) (now (b .exit)) ⌝ }
 {
-    let mut u = [0u16; ROW];
-    let mut v = [0u16; ROW];
-    let mut q = [0u16; refusal::MAX_WORDS];
-    cofactors_between(field, f, g, &mut u, &mut v, &mut q, h, a, b)
-}
-
-// The same in as much of three arrays of zeros as the longest list takes.
-fn cofactors_between(
-    field: u8,
-    f: &[u16],
-    g: &[u16],
-    u: &mut [u16],
-    v: &mut [u16],
-    q: &mut [u16],
-    h: &mut [u16],
-    a: &mut [u16],
-    b: &mut [u16],
-) -> Gcd
-    requires { ⌜ Ready (fieldAt field) (longest field) (now f) (now g) ⌝ }
-    requires { ⌜ Slices (longest field) (now f) (now g) (now h) (now a) (now b) ⌝ }
-    requires { ⌜ ZeroRows maxWords (now u) (now v) (now q) ⌝ }
-    ensures { λ r. ⌜ Results (fieldAt field) (longest field) (given f) (given g) r (now (h .exit)) (now (a .exit)) (now (b .exit)) ⌝ }
-{
     let whole = field_tables::factorials(field);
     let part = field_tables::inverse_factorials(field);
     let inverses = field_tables::inverses(field);
-    let n = field::longest_of(field);
-    let row = 3 * n;
-    cofactors_in(
-        field,
-        n,
-        &whole,
-        &part,
-        &inverses,
-        f,
-        g,
-        &mut u[..row],
-        &mut v[..row],
-        &mut q[..n],
-        h,
-        a,
-        b,
-    )
+    cofactors_with(field, &whole, &part, &inverses, f, g, h, a, b)
 }

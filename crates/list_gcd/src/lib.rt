@@ -234,8 +234,17 @@ fn gcd_in(
     Gcd::Done(w, c, Rounds(ended.rounds))
 }
 
-// The GCD where nothing is refused.
-fn gcd_into(field: u8, f: &[u16], g: &[u16], h: &mut [u16]) -> Gcd
+// The GCD where nothing is refused, with tables that are lent.
+fn gcd_with(
+    field: u8,
+    whole: &[u16],
+    part: &[u16],
+    inverses: &[u16],
+    f: &[u16],
+    g: &[u16],
+    h: &mut [u16],
+) -> Gcd
+    requires { ⌜ Tables (fieldAt field) (longest field) (now whole) (now part) ⌝ }
     requires { ⌜ Ready (fieldAt field) (longest field) (now f) (now g) ⌝ }
     requires { ⌜ length (now h) ≡ longest field ⌝ }
     ensures { λ r. ⌜ r ≡ gcdDone (fieldAt field) (given f) (given g) ⌝ }
@@ -244,12 +253,26 @@ fn gcd_into(field: u8, f: &[u16], g: &[u16], h: &mut [u16]) -> Gcd
     let mut x = [0u16; refusal::MAX_WORDS];
     let mut y = [0u16; refusal::MAX_WORDS];
     let mut q = [0u16; refusal::MAX_WORDS];
-    gcd_between(field, f, g, &mut x, &mut y, &mut q, h)
+    gcd_between(
+        field,
+        whole,
+        part,
+        inverses,
+        f,
+        g,
+        &mut x,
+        &mut y,
+        &mut q,
+        h,
+    )
 }
 
 // The same in as much of three arrays of zeros as the longest list takes.
 fn gcd_between(
     field: u8,
+    whole: &[u16],
+    part: &[u16],
+    inverses: &[u16],
     f: &[u16],
     g: &[u16],
     x: &mut [u16],
@@ -257,21 +280,19 @@ fn gcd_between(
     q: &mut [u16],
     h: &mut [u16],
 ) -> Gcd
+    requires { ⌜ Tables (fieldAt field) (longest field) (now whole) (now part) ⌝ }
     requires { ⌜ Ready (fieldAt field) (longest field) (now f) (now g) ⌝ }
     requires { ⌜ Zeros maxWords (now x) (now y) (now q) ⌝ }
     requires { ⌜ length (now h) ≡ longest field ⌝ }
     ensures { λ r. ⌜ r ≡ gcdDone (fieldAt field) (given f) (given g) ⌝ }
     ensures { λ _. ⌜ now (h .exit) ≡ padded (longest field) (gcdOf (fieldAt field) (given f) (given g)) ⌝ }
 {
-    let whole = field_tables::factorials(field);
-    let part = field_tables::inverse_factorials(field);
-    let inverses = field_tables::inverses(field);
     let n = field::longest_of(field);
     gcd_in(
         field,
-        &whole,
-        &part,
-        &inverses,
+        whole,
+        part,
+        inverses,
         f,
         g,
         &mut x[..n],
@@ -279,4 +300,17 @@ fn gcd_between(
         &mut q[..n],
         h,
     )
+}
+
+// The same with our own tables.
+fn gcd_into(field: u8, f: &[u16], g: &[u16], h: &mut [u16]) -> Gcd
+    requires { ⌜ Ready (fieldAt field) (longest field) (now f) (now g) ⌝ }
+    requires { ⌜ length (now h) ≡ longest field ⌝ }
+    ensures { λ r. ⌜ r ≡ gcdDone (fieldAt field) (given f) (given g) ⌝ }
+    ensures { λ _. ⌜ now (h .exit) ≡ padded (longest field) (gcdOf (fieldAt field) (given f) (given g)) ⌝ }
+{
+    let whole = field_tables::factorials(field);
+    let part = field_tables::inverse_factorials(field);
+    let inverses = field_tables::inverses(field);
+    gcd_with(field, &whole, &part, &inverses, f, g, h)
 }

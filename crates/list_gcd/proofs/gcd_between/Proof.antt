@@ -1,4 +1,4 @@
--- `list_gcd::gcd_between` meets its contract: parts of zeros are zeros, and the tables hold.
+-- `list_gcd::gcd_between` meets its contract: parts of zeros are zeros.
 -- Assumes nothing.
 use Prim.Native.Nat.{_≤_}
 use native.Mathlib.Omega.{arith}
@@ -10,53 +10,35 @@ use borrow.Author.Needs.{needs}
 use Rattle.list_gcd.proofs.gcd_between.Statement.{statement}
 use Rattle.list_gcd.proofs.gcd_between.Tie as tie
 
--- the parts stand in the arrays
-fits : (c : tie.After-longest-of) → c .longest-of .result ≤ maxWords
-fits c = omega (arith, longest-room (c .before .before .before .before .before .before .before .before .before .before .args .field), c .longest-of .ensures)
-
-factorials-requires : tie.Need-factorials-requires
-factorials-requires c κs = search needs
-
-inverse-factorials-requires : tie.Need-inverse-factorials-requires
-inverse-factorials-requires c κs = search needs
-
-inverses-requires : tie.Need-inverses-requires
-inverses-requires c κs = search needs
-
 longest-of-requires : tie.Need-longest-of-requires
 longest-of-requires c κs = search needs
 
-slice-aggregate-gcd-in : tie.Need-slice-aggregate-gcd-in
-slice-aggregate-gcd-in c = search needs
-
-slice-aggregate-gcd-in-2 : tie.Need-slice-aggregate-gcd-in-2
-slice-aggregate-gcd-in-2 c = search needs
-
-slice-aggregate-gcd-in-3 : tie.Need-slice-aggregate-gcd-in-3
-slice-aggregate-gcd-in-3 c = search needs
-
 slice-relend-prefix-gcd-in : tie.Need-slice-relend-prefix-gcd-in
-slice-relend-prefix-gcd-in c = search needs
+slice-relend-prefix-gcd-in c = omega (arith, longest-room (c .before .before .before .before .before .before .before .before .before .before .args .field))
 
-slice-aggregate-gcd-in-4 : tie.Need-slice-aggregate-gcd-in-4
-slice-aggregate-gcd-in-4 c = simp length-take (omega (arith, fits (c .before .before .before .before)))
+slice-aggregate-gcd-in : tie.Need-slice-aggregate-gcd-in
+slice-aggregate-gcd-in c = simp length-take (omega (arith, longest-room (c .before .before .before .before .before .before .before .before .before .before .before .args .field)))
 
 slice-relend-prefix-gcd-in-2 : tie.Need-slice-relend-prefix-gcd-in-2
-slice-relend-prefix-gcd-in-2 c = search needs
+slice-relend-prefix-gcd-in-2 c = omega (arith, longest-room (c .before .before .before .before .before .before .before .before .before .before .before .args .field))
 
-slice-aggregate-gcd-in-5 : tie.Need-slice-aggregate-gcd-in-5
-slice-aggregate-gcd-in-5 c = simp length-take (omega (arith, fits (c .before .before .before .before .before)))
+slice-aggregate-gcd-in-2 : tie.Need-slice-aggregate-gcd-in-2
+slice-aggregate-gcd-in-2 c = simp length-take (omega (arith, longest-room (c .before .before .before .before .before .before .before .before .before .before .before .before .args .field)))
 
 slice-relend-prefix-gcd-in-3 : tie.Need-slice-relend-prefix-gcd-in-3
-slice-relend-prefix-gcd-in-3 c = search needs
+slice-relend-prefix-gcd-in-3 c = omega (arith, longest-room (c .before .before .before .before .before .before .before .before .before .before .before .before .args .field))
 
-slice-aggregate-gcd-in-6 : tie.Need-slice-aggregate-gcd-in-6
-slice-aggregate-gcd-in-6 c = simp length-take (omega (arith, fits (c .before .before .before .before .before .before)))
+slice-aggregate-gcd-in-3 : tie.Need-slice-aggregate-gcd-in-3
+slice-aggregate-gcd-in-3 c = simp length-take (omega (arith, longest-room (c .before .before .before .before .before .before .before .before .before .before .before .before .before .args .field)))
 
 gcd-in-requires : tie.Need-gcd-in-requires
 gcd-in-requires c κs =
-    let start = c .before .before .before .before .before .before .before .before .before .before .before .before .before .before .before .before .before in
-    (search needs, (start .pre .0, (zeros-part (c .before .before .before .before .before .before .before .longest-of .result) (c .before .before .before .before .before .before .before .longest-of .ensures) (fits (c .before .before .before .before .before .before .before)) (start .pre .1 .0), start .pre .1 .1)))
+    let k = c .before .before .before .before .before .before .before .before .before .before .before .before .before .before .args .field in
+    let pre = c .before .before .before .before .before .before .before .before .before .before .before .before .before .before .pre in
+    let n = c .before .before .before .before .longest-of .result in
+    let e = c .before .before .before .before .longest-of .ensures in
+    let l : n ≤ maxWords = omega (arith, longest-room k) in
+    (pre .0, (pre .1 .0, (zeros-part n e l (pre .1 .1 .0), pre .1 .1 .1)))
 
 same-length : tie.Need-same-length
 same-length c = search needs
@@ -77,19 +59,13 @@ pub gcd-between-spec : {M : Type 1} → statement M
 gcd-between-spec =
     tie.close
     (tie.spec
-    factorials-requires
-    inverse-factorials-requires
-    inverses-requires
     longest-of-requires
-    slice-aggregate-gcd-in
-    slice-aggregate-gcd-in-2
-    slice-aggregate-gcd-in-3
     slice-relend-prefix-gcd-in
-    slice-aggregate-gcd-in-4
+    slice-aggregate-gcd-in
     slice-relend-prefix-gcd-in-2
-    slice-aggregate-gcd-in-5
+    slice-aggregate-gcd-in-2
     slice-relend-prefix-gcd-in-3
-    slice-aggregate-gcd-in-6
+    slice-aggregate-gcd-in-3
     gcd-in-requires
     same-length
     same-length-2

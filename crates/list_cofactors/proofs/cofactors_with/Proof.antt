@@ -1,10 +1,10 @@
--- `list_cofactors::cofactors_into` meets its contract: it lends rows of zeros.
+-- `list_cofactors::cofactors_with` meets its contract: it lends rows of zeros.
 -- Assumes nothing.
 use Rattle.refusal.specs.Limits.{maxWords}
 use borrow.Author.Needs.{needs}
 use Rattle.list_cofactors.proofs.StartRow.{rows-arrays}
-use Rattle.list_cofactors.proofs.cofactors_into.Statement.{statement}
-use Rattle.list_cofactors.proofs.cofactors_into.Tie as tie
+use Rattle.list_cofactors.proofs.cofactors_with.Statement.{statement}
+use Rattle.list_cofactors.proofs.cofactors_with.Tie as tie
 
 slice-aggregate-cofactors-between : tie.Need-slice-aggregate-cofactors-between
 slice-aggregate-cofactors-between c = search needs
@@ -17,8 +17,8 @@ slice-aggregate-cofactors-between-3 c = search needs
 
 cofactors-between-requires : tie.Need-cofactors-between-requires
 cofactors-between-requires c κs =
-    let pre = c .before .before .before .before .before .before .before .before .before .before .before .pre in
-    (pre .0, (pre .1, rows-arrays maxWords))
+    let pre = c .before .before .before .before .before .before .before .before .before .before .before .before .before .before .pre in
+    (pre .0, (pre .1 .0, (pre .1 .1, rows-arrays maxWords)))
 
 same-length : tie.Need-same-length
 same-length c = search needs
@@ -32,8 +32,8 @@ same-length-3 c = search needs
 returns : tie.Need-returns
 returns c = search needs
 
-pub cofactors-into-spec : {M : Type 1} → statement M
-cofactors-into-spec =
+pub cofactors-with-spec : {M : Type 1} → statement M
+cofactors-with-spec =
     tie.close
     (tie.spec
     slice-aggregate-cofactors-between

@@ -1,7 +1,7 @@
 // Words as bytes: two bytes to a word, low byte first. Each function is total: past the end of some bytes stand zeros. And the larger and the
 // smaller of two numbers.
 ghost use mathlib.Core.Path.{_≡_};
-ghost use Prim.Native.Nat.{max, min, _/_, _%_, _<_};
+ghost use Prim.Native.Nat.{ℕ, max, min, _+_, _*_, _/_, _%_, _≤_, _<_};
 ghost use lib.ListN.{length, getD};
 ghost use Rattle.refusal.specs.Contract.{given};
 ghost use Rattle.lists.specs.Bytes.{byteValues, wordAt, wordsOf};
@@ -54,11 +54,32 @@ fn word_or_zero(bytes: &[u8], k: usize) -> u16
     }
 }
 
+// A word from its two bytes.
+fn word(low: u8, high: u8) -> u16
+    ensures { λ r. ⌜ r ≡ low + byteValues * high ⌝ }
+{
+    low as u16 + 256 * (high as u16)
+}
+
+// The first n words of some bytes. No test stands in the loop, so that LLVM takes several words at a time.
+fn read_first(bytes: &[u8], words: &mut [u16], n: usize)
+    requires { ⌜ (n ≤ length (now words)) × (2 * n ≤ length (now bytes)) ⌝ }
+    ensures { λ _. ⌜ ((k : ℕ) → k < n → getD (now (words .exit)) k 0 ≡ getD (wordsOf (given bytes)) k 0) ⌝ }
+{
+    let mut k = 0;
+    while k < n {
+        words[k] = word(bytes[2 * k], bytes[2 * k + 1]);
+        k += 1;
+    }
+}
+
 // The words of some bytes, as many as the slice takes, zeros after them.
 pub fn read_words(bytes: &[u8], words: &mut [u16])
     ensures { λ _. ⌜ now (words .exit) ≡ wordsInto (length (given words)) (given bytes) ⌝ }
 {
-    let mut k = 0;
+    let n = smaller(words.len(), bytes.len() / 2);
+    read_first(bytes, words, n);
+    let mut k = n;
     while k < words.len() {
         words[k] = word_or_zero(bytes, k);
         k += 1;

@@ -2,23 +2,33 @@
 -- Assumes nothing.
 use mathlib.Core.Path.{_≡_}
 use Prim.Native.Nat.{_≤_, _-_}
+use native.Mathlib.Nat.{div-add-mod}
 use native.Mathlib.Omega.{arith}
 use lib.ListN.{length, length-set}
 use Rattle.lists.specs.Bytes.{wordsOf}
-use Rattle.lists.proofs.Filled.{Filled, fill-start, fill-step}
+use Rattle.lists.proofs.Filled.{Filled, fill-step}
 use Rattle.words.proofs.Transfer.{into-is}
 use borrow.Author.Needs.{needs}
 use Rattle.words.proofs.read_words.Statement.{statement}
 use Rattle.words.proofs.read_words.Tie as tie
 
 abbrev Inv-loop : tie.InvT-loop
-Inv-loop bytes words₀ k₀ words k = (k ≤ length words) × (length words ≡ length words₀) × Filled words k (wordsOf bytes)
+Inv-loop bytes words₀ n k₀ words k = (k ≤ length words) × (length words ≡ length words₀) × Filled words k (wordsOf bytes)
 
 abbrev μ-loop : tie.MeasureT-loop
-μ-loop bytes words₀ k₀ words k = length words₀ - k
+μ-loop bytes words₀ n k₀ words k = length words₀ - k
+
+smaller-requires : tie.Need-smaller-requires Inv-loop μ-loop
+smaller-requires c κs = search needs
+
+read-first-requires : tie.Need-read-first-requires Inv-loop μ-loop
+read-first-requires c κs =
+    let n = c .before .smaller .ensures in
+    let half = div-add-mod (length (c .before .before .before .before .args .bytes .now)) 2 in
+    (omega arith, omega arith)
 
 loop-holds : tie.Need-loop-holds Inv-loop μ-loop
-loop-holds c = (search needs, search needs, fill-start _ _)
+loop-holds c = (omega (arith, c .before .before .before .before .smaller .ensures), search needs, record { at = c .before .before .read-first .ensures })
 
 word-or-zero-requires : tie.Need-word-or-zero-requires Inv-loop μ-loop
 word-or-zero-requires c κs = search needs
@@ -54,6 +64,8 @@ read-words-spec =
     (tie.spec
     Inv-loop
     μ-loop
+    smaller-requires
+    read-first-requires
     loop-holds
     word-or-zero-requires
     mul-words

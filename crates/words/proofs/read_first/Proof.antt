@@ -1,7 +1,7 @@
 -- `words::read_first` meets its contract. The loop's invariant: the words below k are read, and the bytes of n words are there. The measure is
 -- the number of words left.
 -- Assumes nothing.
-use mathlib.Core.Path.{_≡_, sym, _∙_}
+use mathlib.Core.Path.{_≡_, _∙_}
 use Prim.Native.Nat.{_*_, _-_, _≤_}
 use native.Mathlib.Omega.{arith}
 use lib.ListN.{length, length-set}

@@ -1,4 +1,4 @@
-"""Writes the albums of samples/ from the lists below: run `python3 samples/write.py`."""
+"""Writes the albums and the texts of samples/ from the lists below: run `python3 samples/write.py`."""
 from math import comb
 from pathlib import Path
 
@@ -11,6 +11,10 @@ def album(lists):
         out += [len(c) - 1, place % 256, place // 256]
         place += 2 * len(c)
     return bytes(out + [b for c in lists for w in c for b in (w % 256, w // 256)])
+
+
+def text(lists):
+    return "".join(" ".join(map(str, c)) + "\n" for c in lists)
 
 
 def times(f, g):
@@ -35,16 +39,19 @@ def some_words(n, seed):
 EXAMPLE = [[0, 1], [0, 0, 1]]
 FACTOR = [3, 1, 4, 1]
 SHARED = [times(FACTOR, some_words(n, n)) for n in (2, 3, 5)]
+POWERS = [[1, 0], [1, 0, 0]]
+ZERO_LISTS = [[0, 0, 0], SHARED[0], [0], SHARED[1]]
+LOOSE_WORD = [[0, 1], [0, 0, P]]
 LARGEST = [some_words(256, k) for k in range(1, 17)]
 EXAMPLE_BYTES = album(EXAMPLE)
 
 SAMPLES = {
     "example": EXAMPLE_BYTES,
     "shared_factor": album(SHARED),
-    "powers": album([[1, 0], [1, 0, 0]]),
+    "powers": album(POWERS),
     "factor_and_powers": album([times(c, [1] + [0] * k) for k, c in zip((3, 2, 4), SHARED)]),
     "coprime": album([some_words(n, 7 * n) for n in (4, 6, 8)]),
-    "zero_lists": album([[0, 0, 0], SHARED[0], [0], SHARED[1]]),
+    "zero_lists": album(ZERO_LISTS),
     "all_zero": album([[0], [0, 0]]),
     "one_list": album([[5, 7, 0, 0]]),
     "largest": album(LARGEST),
@@ -52,8 +59,21 @@ SAMPLES = {
     "cut": EXAMPLE_BYTES[:-1],
     "byte_too_many": EXAMPLE_BYTES + bytes(1),
     "wrong_place": EXAMPLE_BYTES[:5] + bytes([12]) + EXAMPLE_BYTES[6:],
-    "loose_word": album([[0, 1], [0, 0, P]]),
+    "loose_word": album(LOOSE_WORD),
+}
+
+# a text has the name of its album; those that are refused have none
+TEXTS = {
+    "example": text(EXAMPLE),
+    "shared_factor": text(SHARED),
+    "powers": text(POWERS),
+    "zero_lists": text(ZERO_LISTS),
+    "largest": text(LARGEST),
+    "empty_line": text([[0, 1], [], [0, 0, 1]]),
+    "word_too_large": text(LOOSE_WORD),
 }
 
 for name, content in SAMPLES.items():
     Path(__file__).with_name(name + ".album").write_bytes(content)
+for name, content in TEXTS.items():
+    Path(__file__).with_name(name + ".txt").write_bytes(content.encode())

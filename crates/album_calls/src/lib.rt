@@ -14,11 +14,13 @@ ghost use Rattle.refusal.specs.declared.Outcome.the-variants.{Done};
 ghost use Rattle.album_layout.specs.Layout.{listsOf};
 ghost use Rattle.album_layout.specs.Calls.{checkRefusals, checkAnswer, bodyOf, bodyPlace, PartFrom};
 ghost use Rattle.album_reader.specs.Calls.{listedReply, readRows, readAnswer, readWritten};
+ghost use Rattle.album_writer.specs.Calls.{writtenReply, writeRows, writeAnswer, writeWritten};
 ghost use Rattle.list_gcd.specs.Calls.{gcdReply};
 ghost use Rattle.album_gcd.specs.Calls.{albumGcdRows, albumGcdAnswer, albumGcdWritten, AlbumGreatest};
 ghost use Rattle.statement.specs.Demand1.{Demand1, EmptyRefused, slice};
-ghost use Rattle.statement.specs.Demand2Calls.{ReadSo, BodySo};
+ghost use Rattle.statement.specs.Demand2Calls.{ReadSo, BodySo, WriteSo};
 use album_reader::Listed;
+use album_writer::Written;
 use list_gcd::Gcd;
 use refusal::Outcome;
 
@@ -49,6 +51,18 @@ pub fn read_list(album: &[u8], i: usize, out: &mut [u16]) -> Listed
     ensures demand2 { λ r. ⌜ ReadSo F65521 (given album) i (given out) (now (out .exit)) (listedReply r) ⌝ }
 {
     album_reader::read_list_over(0, album, i, out)
+}
+
+// The album of the lists that the degrees cut from the words, at the front of a target of at least as many bytes as the largest album has;
+// the bytes after it stay as they are. `album` says that the album reads back as these lists, and that one which is accepted is written
+// again byte for byte.
+pub fn write_album(words: &[u16], degrees: &[u8], out: &mut [u8]) -> Written
+    ensures answer { λ r. ⌜ writtenReply r ≡ writeAnswer 0 (given words) (given degrees) (given out) ⌝ }
+    ensures writes { λ _. ⌜ now (out .exit) ≡ writeWritten 0 (given words) (given degrees) (given out) ⌝ }
+    ensures demand1 { λ r. ⌜ Demand1 (writeRows p (given words) (given degrees) (given out)) (writtenReply r .number) (slice out ∷ []) ⌝ }
+    ensures album { λ r. ⌜ WriteSo F65521 (given words) (given degrees) (given out) (now (out .exit)) (writtenReply r) ⌝ }
+{
+    album_writer::write_album_over(0, words, degrees, out)
 }
 
 // The GCD of the album's lists: h goes to a slice of as many words as the longest list has, zeros after word w.

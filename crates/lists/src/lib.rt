@@ -50,7 +50,7 @@ fn wrong_length(field: u8, list: &[u16]) -> bool
 }
 
 // Whether a word of a list is p or more: whether the largest is. The loop has one way out, so that LLVM takes eight words at a time.
-fn has_loose(field: u8, list: &[u16]) -> bool
+pub fn has_loose(field: u8, list: &[u16]) -> bool
     ensures { λ r. ⌜ r ≡ hasLoose (modulus field) (given list) ⌝ }
 {
     let mut largest: u16 = 0;

@@ -1,5 +1,6 @@
 -- The calls on an album: their contracts imply what demand 2 says of them.
 --     read-so, body-so     of read_list and body
+--     held-fine            the album of lists without a loose word obeys the layout and reads as these lists
 --     contents-so          of contents, whose slice is of structs: the two clauses of its contract imply it
 -- Assumes nothing.
 use mathlib.Core.Path.{_≡_, refl, sym, _∙_, ap, ap₂, subst}
@@ -38,12 +39,12 @@ use Rattle.statement.proofs.Demand2.{of-engine}
 use Rattle.statement.specs.Demand2Calls.{Holds, Handed, ReadSo, BodySo, Entries, ContentsSo}
 
 -- no word is loose, list by list
-none-loose : (n : ℕ) (lists : List (List ℕ)) → ((k j : ℕ) → getD (getD lists k []) j 0 < n) → anyOf (hasLoose n) lists ≡ false
-none-loose n [] h = refl
-none-loose n (c ∷ lists) h = ap₂ (λ a b. a || b) (tight n c (h 0)) (none-loose n lists (λ k. h (suc k)))
+pub no-loose : (n : ℕ) (lists : List (List ℕ)) → ((k j : ℕ) → getD (getD lists k []) j 0 < n) → anyOf (hasLoose n) lists ≡ false
+no-loose n [] h = refl
+no-loose n (c ∷ lists) h = ap₂ (λ a b. a || b) (tight n c (h 0)) (no-loose n lists (λ k. h (suc k)))
 
 -- an album that obeys the layout and has no loose word
-record Fine (s : List ℕ) : Type 0 where
+pub record Fine (s : List ℕ) : Type 0 where
   pub counted : wrongCount maxLists s ≡ false
   pub laid : brokenLayout s ≡ false
   pub tight : anyOf (hasLoose p) (listsOf s) ≡ false
@@ -52,7 +53,7 @@ fine-passes : (s : List ℕ) → Fine s → Passed p s
 unfolding lowest albumRefusals
 fine-passes s f = simp (f .counted, f .laid, f .tight)
 
-checked-fine : (s : List ℕ) (i : ℕ) → lowest (checkRefusals p s i) ≡ Done → Fine s × (i < count s)
+pub checked-fine : (s : List ℕ) (i : ℕ) → lowest (checkRefusals p s i) ≡ Done → Fine s × (i < count s)
 unfolding checkRefusals
 checked-fine s i e =
     let a = refuse-done (wrongCount maxLists s) _ _ (sym (first-is (checkRefusals p s i) tt) ∙ e) in
@@ -66,7 +67,7 @@ unfolding readRows checkRefusals
 read-checked s i old d = or-else-done _ _ (sym (first-then (checkRefusals p s i) _ tt) ∙ d) .0
 
 module _ (s : List ℕ) (bytes : Bytes s) (fine : Fine s) where
-  contained : Contained F65521 s (listsOf s)
+  pub contained : Contained F65521 s (listsOf s)
   unfolding fieldAt
   contained = of-engine .of-reading s bytes (fine .counted) (fine .laid) (fine .tight) .1
 
@@ -91,7 +92,7 @@ module _ (s : List ℕ) (bytes : Bytes s) (fine : Fine s) where
       go (yes l) = passed-each p s (fine-passes s fine) bytes entryWords (omega arith) k l .words j
       go (no l) = rw (List·getD-eq-default (listsOf s) [] {n = k} (omega arith)) (modulus-some 0)
 
-  holds : Holds F65521 s (listsOf s)
+  pub holds : Holds F65521 s (listsOf s)
   unfolding fieldAt
   holds = record { writable = writable; tight = low; album = of-engine .of-reading s bytes (fine .counted) (fine .laid) (fine .tight) .0 }
 
@@ -106,7 +107,7 @@ module _ (s : List ℕ) (bytes : Bytes s) (fine : Fine s) where
         }
 
 -- the album of some lists
-held-fine : (s : List ℕ) (lists : List (List ℕ)) → Holds F65521 s lists → (listsOf s ≡ lists) × Bytes s × Fine s
+pub held-fine : (s : List ℕ) (lists : List (List ℕ)) → Holds F65521 s lists → (listsOf s ≡ lists) × Bytes s × Fine s
 unfolding fieldAt
 held-fine s lists h =
     let a = of-engine .of-albums lists (h .writable) in
@@ -116,7 +117,7 @@ held-fine s lists h =
       record {
         counted = subst (λ l. wrongCount maxLists l ≡ false) (h .album) (a .1);
         laid = subst (λ l. brokenLayout l ≡ false) (h .album) (a .2);
-        tight = ap (anyOf (hasLoose p)) same ∙ none-loose p lists (h .tight);
+        tight = ap (anyOf (hasLoose p)) same ∙ no-loose p lists (h .tight);
       },
     )
 

@@ -3,5 +3,7 @@ pub mod Contained
 pub mod Demand2
 pub mod Demand2Calls
 pub mod Demand2Albums
+pub mod Demand2Writer
+pub mod RoundTrip
 pub mod Demand3
 pub mod Demand3Calls

@@ -10,16 +10,19 @@
 --                          are written, zeros after them; and a call that completes was handed such an album
 --     BodySo               of such an album the part is the bytes of list i
 --     ContentsSo           of such an album each record names the naive degree of its list and the place of its bytes, zeros after the last
+--     WriteSo              the bytes that are written are such an album: of the lists that the degrees cut from the words, so that all their
+--                          words and degrees are those given; the bytes after it are what they were; and where the words and degrees are
+--                          those of such an album, that album is written, byte for byte
 --     HostProductSo        the bytes at exit are those of a list, and it is the one that means the product of the lists whose bytes were given
 -- Assumes nothing.
 use mathlib.Core.Path.{_≡_}
-use mathlib.Core.List.{List, [], _∷_}
+use mathlib.Core.List.{List, [], _∷_, map}
 use Prim.Native.Nat.{ℕ, suc, _+_, _≤_, _<_, max}
 use lib.ListN.{length, getD, take, drop}
 use Rattle.algebra.specs.Ring.{CommRing}
 use Rattle.algebra.specs.Derivative as D
 use Rattle.algebra.specs.PrimeField.{PrimeField, scalars, residue}
-use Rattle.refusal.specs.Limits.{maxLists, maxWords}
+use Rattle.refusal.specs.Limits.{maxLists, maxWords, maxBytes}
 use Rattle.refusal.specs.Refusal.{Reply, reply}
 use Rattle.refusal.specs.declared.Outcome.the-variants.{Done}
 use Rattle.field.specs.Field.{IsInverse}
@@ -29,6 +32,8 @@ use Rattle.lists.specs.Lists.{meaning}
 use Rattle.lists.specs.Padded.{padded}
 use Rattle.list_derivative.specs.Calls.{derivativeWords}
 use Rattle.album_layout.specs.Written.{albumOf, Writable}
+use Rattle.album_writer.specs.Cut.{cutBy, joined}
+use Rattle.album_writer.specs.Calls.{overFront}
 use Rattle.album_contents.specs.declared.Entry.{Entry}
 use Rattle.statement.specs.Meant.{TheWord, TheValue, TheList, TheTrim, IsExtent}
 use Rattle.statement.specs.Contained.{none}
@@ -115,6 +120,19 @@ module _ (F : PrimeField) where
 
   abbrev pub ContentsSo : List ℕ → (old entries : List Entry) → Reply → Type 0
   ContentsSo s old entries r = (lists : List (List ℕ)) → Holds s lists → length old ≡ maxLists → Answers r [] × Entries s lists entries
+
+  -- n bytes are the album of the lists cut from the words
+  pub record AlbumWritten (words degrees old out : List ℕ) (n : ℕ) : Type 0 where
+    pub album : Holds (take n out) (cutBy degrees words)
+    pub all-words : joined (cutBy degrees words) ≡ words
+    pub all-degrees : map naiveDegree (cutBy degrees words) ≡ degrees
+    pub size : n ≡ length (albumOf (cutBy degrees words))
+    pub after : drop n out ≡ drop n old
+
+  pub record WriteSo (words degrees old out : List ℕ) (r : Reply) : Type 0 where
+    pub writes : (n : ℕ) → Answers r (n ∷ []) → AlbumWritten words degrees old out n
+    pub again : (s : List ℕ) (lists : List (List ℕ)) → Holds s lists → words ≡ joined lists → degrees ≡ map naiveDegree lists
+        → maxBytes ≤ length old → Answers r (length s ∷ []) × (out ≡ overFront s old)
 
   -- n is the number that a host is answered
   abbrev pub HostProductSo : (f g out : List ℕ) → ℕ → Type 0

@@ -3,6 +3,7 @@ pub mod Meant
 pub mod Contained
 pub mod Demand2
 pub mod Demand2Calls
+pub mod RoundTrip
 pub mod Demand3
 pub mod Demand3Calls
 pub mod Sums

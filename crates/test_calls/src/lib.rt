@@ -19,11 +19,13 @@ ghost use Rattle.list_gcd.specs.Calls.{gcdReply, gcdAnswer, gcdWritten};
 ghost use Rattle.list_cofactors.specs.Calls.{cofactorAnswer, cofactorGcd, cofactorsWrittenA, cofactorsWrittenB};
 ghost use Rattle.album_layout.specs.Calls.{checkAnswer, bodyOf};
 ghost use Rattle.album_reader.specs.Calls.{listedReply, readAnswer, readWritten};
+ghost use Rattle.album_writer.specs.Calls.{writtenReply, writeAnswer, writeWritten};
 ghost use Rattle.album_contents.specs.Calls.{contentsAnswer, contentsWritten};
 ghost use Rattle.album_gcd.specs.Calls.{albumGcdAnswer, albumGcdWritten};
 ghost use Rattle.test_calls.specs.Lent.{fitted};
 use album_contents::Entry;
 use album_reader::Listed;
+use album_writer::Written;
 use field::Word;
 use list_extent::Found;
 use list_gcd::Gcd;
@@ -215,6 +217,21 @@ pub extern "C" fn test_read_list(
     note_listed(album_calls::read_list(album, i, out), answer)
 }
 
+// The album of some lists; the answer is the number of its bytes.
+#[no_mangle]
+pub extern "C" fn test_write_album(
+    words: &[u16],
+    degrees: &[u8],
+    out: &mut [u8],
+    answer: &mut [usize],
+) -> u8
+    ensures number { λ r. ⌜ r ≡ writeAnswer 0 (given words) (given degrees) (given out) .number ⌝ }
+    ensures writes { λ _. ⌜ now (out .exit) ≡ writeWritten 0 (given words) (given degrees) (given out) ⌝ }
+    ensures values { λ _. ⌜ now (answer .exit) ≡ fitted (writeAnswer 0 (given words) (given degrees) (given out) .values) (given answer) ⌝ }
+{
+    note_written(album_calls::write_album(words, degrees, out), answer)
+}
+
 // The contents of an album as records.
 #[no_mangle]
 pub extern "C" fn test_contents(album: &[u8], out: &mut [Entry]) -> u8
@@ -271,6 +288,19 @@ fn note_listed(found: Listed, answer: &mut [usize]) -> u8
             COMPLETED
         }
         Listed::Refused(why) => refusal::number_of(why),
+    }
+}
+
+fn note_written(found: Written, answer: &mut [usize]) -> u8
+    ensures number { λ r. ⌜ r ≡ writtenReply found .number ⌝ }
+    ensures values { λ _. ⌜ now (answer .exit) ≡ fitted (writtenReply found .values) (given answer) ⌝ }
+{
+    match found {
+        Written::Done(size) => {
+            note_one(size, answer);
+            COMPLETED
+        }
+        Written::Refused(why) => refusal::number_of(why),
     }
 }
 

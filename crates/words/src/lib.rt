@@ -30,14 +30,14 @@ pub fn word_at(bytes: &[u8], at: usize) -> usize
 }
 
 // The low byte of a word.
-fn low(word: u16) -> u8
+pub fn low(word: u16) -> u8
     ensures { λ r. ⌜ r ≡ word % 256 ⌝ }
 {
     (word % 256) as u8
 }
 
 // The high byte of a word.
-fn high(word: u16) -> u8
+pub fn high(word: u16) -> u8
     ensures { λ r. ⌜ r ≡ word / 256 ⌝ }
 {
     (word / 256) as u8

@@ -1,4 +1,4 @@
-//! Albums: the layout judged and read, and the GCD of an album.
+//! Albums: the layout judged, read and written, and the GCD of an album.
 
 use crate::model::{self, Gcd, List, MAX_WORDS};
 
@@ -97,6 +97,25 @@ pub fn written(lists: &[List]) -> Vec<u8> {
     }
     album.extend(lists.iter().flat_map(|list| bytes(list)));
     album
+}
+
+/// What may be refused where an album is written, each with whether it applies; `out` is the length of the target.
+pub fn write_rows(words: &[u32], degrees: &[u8], out: usize) -> [(u8, bool); 4] {
+    let named: usize = degrees.iter().map(|&n| usize::from(n) + 1).sum();
+    [
+        (1, degrees.is_empty() || degrees.len() > MAX_LISTS),
+        (4, named != words.len()),
+        (5, model::is_loose(words)),
+        (10, out < MAX_BYTES),
+    ]
+}
+
+/// The album of the lists that the degrees cut from the words.
+pub fn write(words: &[u32], degrees: &[u8], out: usize) -> Result<Vec<u8>, u8> {
+    model::refuse(&write_rows(words, degrees, out))?;
+    let mut rest = words.iter().copied();
+    let lists: Vec<List> = degrees.iter().map(|&n| rest.by_ref().take(usize::from(n) + 1).collect()).collect();
+    Ok(written(&lists))
 }
 
 /// The GCD of the lists of an album; 9 if all are zero.

@@ -24,11 +24,12 @@ pub enum Name {
     ReadList,
     Contents,
     GcdOfAlbum,
+    WriteAlbum,
 }
 
 /// Each call with the numbers that document 01's table can give it, 0 for completed. 11 is not among them: every word that is not
 /// 0 has an inverse.
-pub const CALLS: [(Name, &[u8]); 20] = [
+pub const CALLS: [(Name, &[u8]); 21] = [
     (Name::FieldSum, &[0, 5]),
     (Name::FieldDifference, &[0, 5]),
     (Name::FieldProduct, &[0, 5]),
@@ -49,12 +50,15 @@ pub const CALLS: [(Name, &[u8]); 20] = [
     (Name::ReadList, &[0, 1, 2, 3, 5, 10]),
     (Name::Contents, &[0, 1, 2, 5, 10]),
     (Name::GcdOfAlbum, &[0, 1, 2, 5, 9, 10]),
+    (Name::WriteAlbum, &[0, 1, 4, 5, 10]),
 ];
 
-/// What is handed over, before a call and after it. `part` is where the bytes of a body go, `answer` the values.
+/// What is handed over, before a call and after it. `part` is where the bytes of a body or of a written album go, `answer` the
+/// values. An album is written from one list, the words of all its lists, and from their naive degrees.
 #[derive(Clone, Debug, Default, PartialEq)]
 pub struct Memory {
     pub lists: Vec<Vec<u16>>,
+    pub degrees: Vec<u8>,
     pub album: Vec<u8>,
     pub results: Vec<Vec<u16>>,
     pub part: Vec<u8>,
@@ -133,20 +137,34 @@ unsafe extern "C" {
     ) -> u8;
     fn test_contents(album: Album, album_len: usize, out: *mut Entry, out_len: usize) -> u8;
     fn test_gcd_of_album(album: Album, album_len: usize, h: Slice, h_len: usize, answer: Values, answer_len: usize) -> u8;
+    fn test_write_album(
+        words: List,
+        words_len: usize,
+        degrees: *const u8,
+        degrees_len: usize,
+        out: *mut u8,
+        out_len: usize,
+        answer: Values,
+        answer_len: usize,
+    ) -> u8;
 }
 
 /// Runs a call on copies of its slices.
 pub fn run(call: &PublicCall) -> Answer {
     let before = &call.memory;
     let mut lists: Vec<Lent<u16>> = before.lists.iter().map(|list| Lent::new(list)).collect();
+    let mut degrees = Lent::new(&before.degrees);
     let mut album = Lent::new(&before.album);
     let mut results: Vec<Lent<u16>> = before.results.iter().map(|result| Lent::new(result)).collect();
     let mut part = Lent::new(&before.part);
     let mut answer = Lent::new(&before.answer);
-    let returned = call_engine(call, &mut lists, &mut album, &mut results, &mut part, &mut answer);
-    let stray = lists.iter().chain(&results).any(Lent::is_stray) || album.is_stray() || part.is_stray() || answer.is_stray();
+    let returned = call_engine(call, &mut lists, &mut degrees, &mut album, &mut results, &mut part, &mut answer);
+    let words_stray = lists.iter().chain(&results).any(Lent::is_stray);
+    let bytes_stray = [&degrees, &album, &part].into_iter().any(Lent::is_stray);
+    let stray = words_stray || bytes_stray || answer.is_stray();
     let memory = Memory {
         lists: lists.iter_mut().map(|list| list.part().to_vec()).collect(),
+        degrees: degrees.part().to_vec(),
         album: album.part().to_vec(),
         results: results.iter_mut().map(|result| result.part().to_vec()).collect(),
         part: part.part().to_vec(),
@@ -158,6 +176,7 @@ pub fn run(call: &PublicCall) -> Answer {
 fn call_engine(
     call: &PublicCall,
     lists: &mut [Lent<u16>],
+    degrees: &mut Lent<u8>,
     album: &mut Lent<u8>,
     results: &mut [Lent<u16>],
     part: &mut Lent<u8>,
@@ -170,6 +189,7 @@ fn call_engine(
     let results: Vec<(Slice, usize)> =
         results.iter_mut().map(|result| (result.part().as_mut_ptr(), result.part().len())).collect();
     let result = |k: usize| results[k];
+    let degrees = degrees.part();
     let (s, n) = (album.part().as_ptr(), album.part().len());
     let (values, room) = (answer.part().as_mut_ptr(), answer.part().len());
     // SAFETY: each pointer goes with the length of a slice that is borrowed until the call returns, and no two overlap.
@@ -210,6 +230,10 @@ fn call_engine(
             Name::ReadList => test_read_list(s, n, number(0), result(0).0, result(0).1, values, room),
             Name::Contents => test_contents(s, n, result(0).0.cast(), result(0).1 * size_of::<u16>() / size_of::<Entry>()),
             Name::GcdOfAlbum => test_gcd_of_album(s, n, result(0).0, result(0).1, values, room),
+            Name::WriteAlbum => {
+                let ((words, count), out) = (list(0), part.part());
+                test_write_album(words, count, degrees.as_ptr(), degrees.len(), out.as_mut_ptr(), out.len(), values, room)
+            }
         }
     };
     usize::from(refusal)

@@ -1,11 +1,11 @@
-//! The engine: its three functions for a C host, and the program `report`.
+//! The engine: its three functions for a C host, and the programs `report` and `bind`.
 
 use crate::album::bytes;
 use crate::lent::Lent;
 use crate::model::MAX_WORDS;
 use std::fs::File;
-use std::io::{Read, Write};
-use std::process::{Command, Stdio};
+use std::io::Write;
+use std::process::{ChildStdout, Command, Stdio};
 use std::{env, thread, time::Duration};
 
 #[derive(Clone, Copy, Debug, PartialEq)]
@@ -88,20 +88,24 @@ fn call_host(operation: Operation, lists: [&mut [u8]; 2], mut results: Vec<&mut 
     }
 }
 
-/// The program `report`. The environment variable REPORT may name another.
-fn program() -> String {
-    env::var("REPORT").unwrap_or("target/bin/report".into())
+/// The file that the environment variable REPORT or BIND names, to be taken for that program.
+pub fn stand_in(name: &str) -> Option<String> {
+    env::var(name.to_uppercase()).ok().filter(|file| !file.is_empty())
 }
 
-/// What `report` writes to standard output and to standard error when it is started with these arguments on no input.
-pub fn report_with(arguments: &[&str]) -> [Vec<u8>; 2] {
-    let ended = Command::new(program()).args(arguments).stdin(Stdio::null()).output().expect("report runs");
+fn program(name: &str) -> String {
+    stand_in(name).unwrap_or(format!("target/bin/{name}"))
+}
+
+/// What a program writes to standard output and to standard error when it is started with these arguments on no input.
+pub fn run_with(name: &str, arguments: &[&str]) -> [Vec<u8>; 2] {
+    let ended = Command::new(program(name)).args(arguments).stdin(Stdio::null()).output().expect("the program runs");
     [ended.stdout, ended.stderr]
 }
 
-/// What `report` writes to standard error where standard output is this file.
-pub fn report_to(file: File) -> Vec<u8> {
-    Command::new(program()).stdin(Stdio::null()).stdout(file).output().expect("report runs").stderr
+/// What a program writes to standard error on this input, where standard output is this file.
+pub fn run_to(name: &str, input: File, output: File) -> Vec<u8> {
+    Command::new(program(name)).stdin(input).stdout(output).output().expect("the program runs").stderr
 }
 
 /// What `report` writes on this input.
@@ -109,10 +113,27 @@ pub fn report(input: &[u8]) -> Result<Vec<u8>, String> {
     report_in_pieces(input, usize::MAX)
 }
 
-/// The same with the input written in pieces, a moment apart, so that the program's reads are short.
+/// The same with the input written in pieces.
 pub fn report_in_pieces(input: &[u8], size: usize) -> Result<Vec<u8>, String> {
-    let program = program();
-    let started = Command::new(&program).stdin(Stdio::piped()).stdout(Stdio::piped()).spawn();
+    let [text, said] = run_on("report", input, size)?;
+    if said.is_empty() { Ok(text) } else { Err(format!("report says {:?}", String::from_utf8_lossy(&said))) }
+}
+
+/// What `report` writes where its input is what a command writes.
+pub fn report_on(source: ChildStdout) -> Vec<u8> {
+    Command::new(program("report")).stdin(source).output().expect("report runs").stdout
+}
+
+/// What `bind` writes to standard output and to standard error on this text, written in pieces.
+pub fn bind_in_pieces(text: &[u8], size: usize) -> Result<[Vec<u8>; 2], String> {
+    run_on("bind", text, size)
+}
+
+/// What a program writes to standard output and to standard error on an input that is written in pieces, a moment apart, so that
+/// the program's reads are short.
+fn run_on(name: &str, input: &[u8], size: usize) -> Result<[Vec<u8>; 2], String> {
+    let program = program(name);
+    let started = Command::new(&program).stdin(Stdio::piped()).stdout(Stdio::piped()).stderr(Stdio::piped()).spawn();
     let mut child = started.map_err(|error| format!("{program}: {error}"))?;
     let mut pipe = child.stdin.take().expect("a pipe");
     for (i, piece) in input.chunks(size).enumerate() {
@@ -125,8 +146,6 @@ pub fn report_in_pieces(input: &[u8], size: usize) -> Result<Vec<u8>, String> {
         }
     }
     drop(pipe);
-    let mut text = vec![];
-    child.stdout.take().expect("a pipe").read_to_end(&mut text).expect("the report is read");
-    let status = child.wait().expect("the program ends");
-    if status.success() { Ok(text) } else { Err(format!("{program}: {status}")) }
+    let ended = child.wait_with_output().expect("the program ends");
+    if ended.status.success() { Ok([ended.stdout, ended.stderr]) } else { Err(format!("{program}: {}", ended.status)) }
 }

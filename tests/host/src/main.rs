@@ -1,6 +1,9 @@
-//! Compares the engine with a second implementation of document 01, with fixed seeds. tests/host/run builds both and runs this.
+//! Compares the engine with a second implementation of document 01 and of the orders after it, with fixed seeds. tests/host/run
+//! builds both and runs this.
 
 mod album;
+mod bind;
+mod bind_runs;
 mod calls;
 mod compare;
 mod engine;
@@ -11,7 +14,9 @@ mod poly;
 mod public;
 mod random;
 mod report;
+mod texts;
 mod vectors;
+mod writing;
 
 use calls::{Name, PublicCall};
 use compare::{call_fault, gcd_results, report_fault};
@@ -73,14 +78,22 @@ fn main() {
     let mut tally = Tally::default();
     compare_calls(&mut tally);
     compare_public_calls(&mut tally);
+    writing::compare(&mut tally);
     compare_albums(&mut tally);
+    bind_runs::compare(&mut tally);
     compare_sums(&mut tally);
     compare_edges(&mut tally);
     compare_tables(&mut tally);
     compare_vectors(&mut tally);
     compare_examples(&mut tally);
     compare_messages(&mut tally);
-    for said in [compare::try_broken_copies(&mut Random(4)), public::try_broken_copies(&mut Random(5))] {
+    let noticed = [
+        compare::try_broken_copies(&mut Random(4)),
+        public::try_broken_copies(&mut Random(5)),
+        writing::try_broken_copies(&mut Random(8)),
+        bind_runs::try_broken_copies(),
+    ];
+    for said in noticed {
         match said {
             Ok(said) => println!("the comparer notices: {said}"),
             Err(said) => {
@@ -141,7 +154,7 @@ fn compare_calls(tally: &mut Tally) {
 /// Compares the engine's answer to a public call with the model's.
 fn compare_public(tally: &mut Tally, call: &PublicCall) {
     if let Some(fault) = public::fault(call, &calls::run(call)) {
-        tally.fault(&format!("{call:?}"), &fault);
+        tally.fault(&public::shown(call), &fault);
     }
 }
 
@@ -153,7 +166,8 @@ fn compare_printed(tally: &mut Tally, place: &str, call: &PublicCall, printed: R
 
 fn compare_public_calls(tally: &mut Tally) {
     let mut random = Random(3);
-    for (name, numbers) in calls::CALLS {
+    // writing::compare has the call that writes an album
+    for (name, numbers) in calls::CALLS.into_iter().filter(|(name, _)| *name != Name::WriteAlbum) {
         let what = format!("{name:?}");
         for _ in 0..PUBLIC_CALLS {
             let call = random.public_call(name);
@@ -519,19 +533,22 @@ fn compare_examples(tally: &mut Tally) {
 /// Where tests/host/run puts what examples/run prints.
 const EXAMPLES: &str = "target/comparer/examples.txt";
 
-/// What `report` says when it is given arguments, and when its output cannot be written.
+/// What the programs say when they are given arguments, and when their output cannot be written.
 fn compare_messages(tally: &mut Tally) {
-    for arguments in [&["--help"][..], &["samples/example.album"], &["a", "b"]] {
-        let [out, said] = engine::report_with(arguments);
-        let said = String::from_utf8_lossy(&said);
-        if !out.is_empty() || said.lines().count() != 3 || !said.starts_with("report <FILE ") {
-            tally.fault(&format!("report {arguments:?}"), &format!("it says {said:?}, and not in three lines how it is run"));
+    let programs = [("report", "report <FILE ", "samples/example.album"), ("bind", "bind <TEXT >FILE ", "samples/example.txt")];
+    for (name, usage, sample) in programs {
+        for arguments in [&["--help"][..], &[sample], &["a", "b"]] {
+            let [out, said] = engine::run_with(name, arguments);
+            let said = String::from_utf8_lossy(&said);
+            if !out.is_empty() || said.lines().count() != 3 || !said.starts_with(usage) {
+                tally.fault(&format!("{name} {arguments:?}"), &format!("it says {said:?}, and not in three lines how it is run"));
+            }
+        }
+        let full = fs::File::options().write(true).open("/dev/full").expect("the device /dev/full");
+        let said = engine::run_to(name, fs::File::open(sample).expect("a sample"), full);
+        if said != format!("{name}: standard output cannot be written\n").into_bytes() {
+            tally.fault(&format!("{name} >/dev/full"), &format!("it says {:?}", String::from_utf8_lossy(&said)));
         }
     }
-    let full = fs::File::options().write(true).open("/dev/full").expect("the device /dev/full");
-    let said = engine::report_to(full);
-    if said != b"report: standard output cannot be written\n" {
-        tally.fault("report >/dev/full", &format!("it says {:?}", String::from_utf8_lossy(&said)));
-    }
-    println!("report: what it says to arguments, and where its output cannot be written");
+    println!("report and bind: what they say to arguments, and where their output cannot be written");
 }

@@ -7,7 +7,8 @@ use crate::model::{self, Gcd, List, MAX_WORDS};
 use crate::poly::{of_list, one_minus_t, plus, times};
 use crate::random::Random;
 
-/// What a call that completes writes and hands back: the words of its results, its values, and of a body the bytes.
+/// What a call that completes writes and hands back: the words of its results, its values, and of a body or a written album the
+/// bytes.
 #[derive(Debug, Default, PartialEq)]
 pub struct Done {
     pub results: Vec<List>,
@@ -48,7 +49,7 @@ fn list(words: &[u16]) -> List {
 pub fn values(name: Name) -> usize {
     match name {
         Name::FieldSum | Name::FieldDifference | Name::FieldProduct | Name::Inverse => 1,
-        Name::FindExtent | Name::Evaluate | Name::ReadList => 1,
+        Name::FindExtent | Name::Evaluate | Name::ReadList | Name::WriteAlbum => 1,
         Name::Gcd | Name::Cofactors | Name::GcdOfAlbum => 3,
         _ => 0,
     }
@@ -79,8 +80,21 @@ pub fn fitting(name: Name, lists: &[List], album: &[u8], numbers: &[usize]) -> P
         results: room.into_iter().map(|length| vec![0; length]).collect(),
         part: vec![0; part],
         answer: vec![usize::MAX; values(name)],
+        ..Memory::default()
     };
     PublicCall { name, numbers: numbers.to_vec(), memory }
+}
+
+/// The call that writes the album of these lists, with the shortest target that is taken, full of zeros.
+pub fn writing(lists: &[List]) -> PublicCall {
+    let memory = Memory {
+        lists: vec![words(&lists.concat())],
+        degrees: lists.iter().map(|list| (list.len() - 1) as u8).collect(),
+        part: vec![0; album::MAX_BYTES],
+        answer: vec![usize::MAX; values(Name::WriteAlbum)],
+        ..Memory::default()
+    };
+    PublicCall { name: Name::WriteAlbum, numbers: vec![], memory }
 }
 
 /// What the call does, or the number of its refusal.
@@ -119,10 +133,16 @@ pub fn outcome(call: &PublicCall) -> Result<Done, u8> {
         }),
         Name::Contents => album::contents(album, room(0) / 2).map(one),
         Name::GcdOfAlbum => album::gcd_of_album(album, room(0)).map(Done::gcd),
+        Name::WriteAlbum => album::write(&lists[0], &call.memory.degrees, call.memory.part.len()).map(|part| Done {
+            values: vec![part.len()],
+            part,
+            ..Done::default()
+        }),
     }
 }
 
-/// The answer that document 01 gives. Values are written where their slice has room for exactly them, and so is a body.
+/// The answer that document 01 gives. Values are written where their slice has room for exactly them, and so is a body; an album
+/// is written to the front of its target.
 pub fn expected(call: &PublicCall) -> Answer {
     let mut memory = call.memory.clone();
     let returned = match outcome(call) {
@@ -132,8 +152,8 @@ pub fn expected(call: &PublicCall) -> Answer {
                 memory.answer = done.values;
             }
             let bytes = done.part.len();
-            if memory.part.len() == bytes {
-                memory.part = done.part;
+            if memory.part.len() == bytes || call.name == Name::WriteAlbum {
+                memory.part[..bytes].copy_from_slice(&done.part);
             }
             if call.name == Name::Body { bytes } else { 0 }
         }
@@ -147,9 +167,34 @@ pub fn expected(call: &PublicCall) -> Answer {
 pub fn fault(call: &PublicCall, answer: &Answer) -> Option<String> {
     let expected = expected(call);
     if *answer != expected {
-        return Some(format!("{answer:?}, and not {expected:?}"));
+        return Some(difference(call.name, answer, &expected));
     }
-    if call.name == Name::Cofactors && answer.returned == 0 { cofactor_fault(&answer.memory) } else { None }
+    match call.name {
+        Name::Cofactors if answer.returned == 0 => cofactor_fault(&answer.memory),
+        Name::WriteAlbum if answer.returned == 0 => read_back_fault(&answer.memory),
+        _ => None,
+    }
+}
+
+/// The call; of one that writes an album, without what its target holds.
+pub fn shown(call: &PublicCall) -> String {
+    if call.name != Name::WriteAlbum {
+        return format!("{call:?}");
+    }
+    let Memory { lists, degrees, part, answer, .. } = &call.memory;
+    format!("WriteAlbum of {:?}, degrees {degrees:?}, target of {} bytes, answer of {}", lists[0], part.len(), answer.len())
+}
+
+/// What is different; of a call that writes an album, the numbers and where the target differs first.
+fn difference(name: Name, answer: &Answer, right: &Answer) -> String {
+    if name != Name::WriteAlbum {
+        return format!("{answer:?}, and not {right:?}");
+    }
+    let numbers = |answer: &Answer| format!("returned {}, answer {:?}", answer.returned, answer.memory.answer);
+    let place = answer.memory.part.iter().zip(&right.memory.part).position(|(byte, right)| byte != right);
+    let inputs = answer.stray || answer.memory.lists != right.memory.lists || answer.memory.degrees != right.memory.degrees;
+    let more = if inputs { "; an input, or something beside a slice, is changed" } else { "" };
+    format!("{}, and not {}; the target differs at byte {place:?}{more}", numbers(answer), numbers(right))
 }
 
 /// Demand 3's identity of the cofactors, between polynomials in t: a f + b g = (1-t)^(m-w) h.
@@ -161,6 +206,22 @@ pub fn cofactor_fault(memory: &Memory) -> Option<String> {
     let left = plus(&times(&of_list(&a), &of_list(&f)), &times(&of_list(&b), &of_list(&g)));
     let right = times(&one_minus_t(m - w), &of_list(&h[..=w]));
     if left == right { None } else { Some("a f + b g is not (1-t)^(m-w) h".into()) }
+}
+
+/// The number of bytes of the album that a call writes.
+pub fn album_size(memory: &Memory) -> usize {
+    1 + 3 * memory.degrees.len() + 2 * memory.lists[0].len()
+}
+
+/// A written album, read by the model's reader, has the lists that it was written from.
+pub fn read_back_fault(memory: &Memory) -> Option<String> {
+    let read = match album::read(&memory.part[..album_size(memory)]) {
+        Ok(read) => read,
+        Err(number) => return Some(format!("the written album is refused with {number}")),
+    };
+    let same_degrees = read.iter().map(List::len).eq(memory.degrees.iter().map(|&n| usize::from(n) + 1));
+    let same_words = words(&read.concat()) == memory.lists[0];
+    if same_degrees && same_words { None } else { Some(format!("the written album reads as {read:?}")) }
 }
 
 /// A way to break a copy of an answer, where it can be broken so: true if it was.
@@ -177,7 +238,7 @@ const BREAKS: [(&str, Break); 6] = [
     ("a value", |answer| answer.memory.answer.last_mut().map(|value| *value ^= 1).is_some()),
     ("one word of a list", |answer| answer.memory.lists.last_mut().and_then(|l| l.last_mut()).map(|word| *word ^= 1).is_some()),
     ("a byte of an album", |answer| answer.memory.album.last_mut().map(|byte| *byte ^= 1).is_some()),
-    ("a byte of a body", |answer| answer.memory.part.last_mut().map(|byte| *byte ^= 1).is_some()),
+    ("a byte of a body or of a target", |answer| answer.memory.part.last_mut().map(|byte| *byte ^= 1).is_some()),
 ];
 
 /// Tries broken copies of real answers, of each call; an error names the first that is not noticed.

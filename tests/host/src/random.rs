@@ -1,7 +1,7 @@
-//! Inputs drawn with a fixed seed: lists, calls for a C host, and albums, valid and damaged.
+//! Inputs drawn with a fixed seed: lists, calls for a C host, public calls, and albums, valid and damaged.
 
 use crate::album::{self, bytes};
-use crate::calls::{Name, PublicCall};
+use crate::calls::{Memory, Name, PublicCall};
 use crate::engine::{Call, Operation};
 use crate::field::P;
 use crate::model::{List, MAX_WORDS, multiply};
@@ -35,7 +35,7 @@ impl Random {
         1 + self.below(P as usize - 1) as u32
     }
 
-    fn loose(&mut self) -> u32 {
+    pub fn loose(&mut self) -> u32 {
         P + self.below(15) as u32
     }
 
@@ -226,6 +226,7 @@ impl Random {
                 numbers = vec![self.index(&album)];
             }
             Name::Contents | Name::GcdOfAlbum => album = self.album(),
+            Name::WriteAlbum => return self.fair_writing(),
         }
         public::fitting(name, &lists, &album, &numbers)
     }
@@ -260,8 +261,78 @@ impl Random {
         }
     }
 
+    /// The lists of an album to be written, seldom those of a largest one.
+    pub fn lists_to_write(&mut self) -> Vec<List> {
+        if self.percent(3) {
+            return (0..album::MAX_LISTS).map(|_| self.list(MAX_WORDS)).collect();
+        }
+        let count = 1 + self.below(album::MAX_LISTS);
+        (0..count).map(|_| self.any_list()).collect()
+    }
+
+    fn fair_writing(&mut self) -> PublicCall {
+        let mut call = public::writing(&self.lists_to_write());
+        let more = match self.below(20) {
+            0 => self.below(60_000),
+            1..=6 => self.below(300),
+            7..=10 => 1,
+            _ => 0,
+        };
+        call.memory.part.resize(album::MAX_BYTES + more, 0);
+        call
+    }
+
+    fn damage_writing(&mut self, memory: &mut Memory) {
+        let words = &mut memory.lists[0];
+        match self.below(10) {
+            0 | 1 => self.damage_count(memory),
+            // other words than the degrees name
+            2 => words.push(self.word() as u16),
+            3 => {
+                words.pop();
+            }
+            4 if !memory.degrees.is_empty() => {
+                let which = self.below(memory.degrees.len());
+                memory.degrees[which] = self.below(256) as u8;
+            }
+            5 | 6 if !words.is_empty() => {
+                let at = [0, words.len() - 1, self.below(words.len())][self.below(3)];
+                words[at] = self.loose() as u16;
+            }
+            7 | 8 => {
+                let short = [album::MAX_BYTES - 1, public::album_size(memory), self.below(album::MAX_BYTES)][self.below(3)];
+                memory.part.resize(short.min(album::MAX_BYTES - 1), 0);
+            }
+            _ => self.damage_length(&mut memory.answer),
+        }
+    }
+
+    /// No list, or more than 16, with the words that the degrees name or without them.
+    fn damage_count(&mut self, memory: &mut Memory) {
+        let with_words = self.percent(50);
+        if self.percent(50) {
+            memory.degrees.clear();
+            if with_words {
+                memory.lists[0].clear();
+            }
+            return;
+        }
+        // as a byte the last of these are a count that an album may have
+        let count = [17, 18 + self.below(20), 257 + self.below(16)][self.below(3)];
+        while memory.degrees.len() < count {
+            let degree = self.below(3);
+            memory.degrees.push(degree as u8);
+            if with_words {
+                memory.lists[0].extend(vec![7; degree + 1]);
+            }
+        }
+    }
+
     fn damage_public_call(&mut self, call: &mut PublicCall) {
         let memory = &mut call.memory;
+        if call.name == Name::WriteAlbum {
+            return self.damage_writing(memory);
+        }
         match self.below(10) {
             0..=4 if !memory.lists.is_empty() => {
                 let which = self.below(memory.lists.len());

@@ -1,0 +1,4 @@
+pub mod Cut
+pub mod Album
+pub mod Judged
+pub mod Loops

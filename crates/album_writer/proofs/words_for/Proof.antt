@@ -1,0 +1,65 @@
+-- `album_writer::words_for` meets its contract. The loop's invariant: the total and the degrees left make up the sum. The measure is the
+-- number of degrees left.
+-- Assumes nothing.
+use mathlib.Core.Path.{_≡_}
+use Prim.Native.Nat.{_+_, _*_, _-_, _≤_}
+use native.Mathlib.Omega.{arith}
+use lib.ListN.{length, drop}
+use Rattle.lists.specs.Bytes.{byteValues}
+use Rattle.album_writer.specs.Cut.{wordsFor}
+use Rattle.album_writer.proofs.Loops.{sum-next, sum-end}
+use borrow.Author.Needs.{needs}
+use Rattle.album_writer.proofs.words_for.Statement.{statement}
+use Rattle.album_writer.proofs.words_for.Tie as tie
+
+abbrev Inv-loop : tie.InvT-loop
+Inv-loop degrees total₀ k₀ total k = (k ≤ length degrees) × (total + wordsFor (drop k degrees) ≡ wordsFor degrees) × (total ≤ byteValues * k)
+
+abbrev μ-loop : tie.MeasureT-loop
+μ-loop degrees total₀ k₀ total k = length degrees - k
+
+loop-holds : tie.Need-loop-holds Inv-loop μ-loop
+loop-holds c = (omega arith, omega arith, omega arith)
+
+byte-at-requires : tie.Need-byte-at-requires Inv-loop μ-loop
+byte-at-requires c κs = search needs
+
+add-total : tie.Need-add-total Inv-loop μ-loop
+add-total c = search needs
+
+add-total-2 : tie.Need-add-total-2 Inv-loop μ-loop
+add-total-2 c = search needs
+
+add-k : tie.Need-add-k Inv-loop μ-loop
+add-k c = search needs
+
+loop-less : tie.Need-loop-less Inv-loop μ-loop
+loop-less c = search needs
+
+loop-again : tie.Need-loop-again Inv-loop μ-loop
+loop-again c =
+    let degrees = c .before .before .before .before .args .degrees .now in
+    let loop = c .before .before .loop in
+    let next = sum-next degrees (loop .k) (omega arith) in
+    (omega arith, omega (arith, loop .inv .1, c .byte-at .ensures), omega (arith, loop .inv .2, c .byte-at .ensures))
+
+returns : tie.Need-returns Inv-loop μ-loop
+returns c =
+    let loop = c .before .loop in
+    let last = sum-end (c .before .before .before .args .degrees .now) (loop .k) (omega arith) in
+    omega (arith, loop .inv .1)
+
+pub words-for-spec : {M : Type 1} → statement M
+words-for-spec =
+    tie.close
+    (tie.spec
+    Inv-loop
+    μ-loop
+    loop-holds
+    byte-at-requires
+    add-total
+    add-total-2
+    add-k
+    loop-less
+    loop-again
+    returns)

@@ -1,0 +1,3 @@
+pub mod Cut
+pub mod Calls
+pub mod Internal

@@ -7,13 +7,13 @@
 --     album-inside                                                           an album that is written lies in the target
 -- Assumes nothing.
 use mathlib.Core.Path.{_≡_, refl, sym, _∙_, ap, ap₂}
-use mathlib.Core.Bool.{true, false, not, _||_, or-true}
+use mathlib.Core.Bool.{true, false, _||_, or-true}
 use mathlib.Core.List.{List, [], _∷_, map}
 use Prim.Native.Nat.{ℕ, zero, suc, _≤_, _<_}
 use native.Mathlib.Omega.{arith}
 use lib.Dec.{eqb, ltb}
 use lib.ListN.{length, getD, take, drop, length-append, length-map}
-use borrow.Author.Tests.{eq-eqb, ne-eqb, lt-ltb, le-ltb, eqb-false, ltb-false}
+use borrow.Author.Tests.{eq-eqb, lt-ltb, le-ltb, eqb-false}
 use Rattle.refusal.specs.Limits.{maxLists, maxWords, maxBytes}
 use Rattle.refusal.specs.Refusal.{reply, written}
 use Rattle.refusal.specs.Lowest.{_given-when_, lowest}
@@ -32,9 +32,10 @@ use Rattle.album_writer.specs.Calls.{wrongLists, writeRows, overFront, writtenR
 use Rattle.album_writer.specs.declared.Written.{Written}
 use Rattle.album_writer.specs.declared.Written.the-variants as W
 use Rattle.album_writer.proofs.Cut.{cut-joined, joined-size, joined-loose}
+use Rattle.album_writer.proofs.Judged.{some-lists, right-lists, write-judged}
 use Rattle.bind_text.specs.Text.{linesOf, listsIn, hasOther}
-use Rattle.bind_text.specs.Calls.{maxInput, bindRows, bindAnswer, bindWritten}
-use Rattle.bind_text.specs.Internal.{capped, textRefusals, Sound, Loaded}
+use Rattle.bind_text.specs.Calls.{maxInput, textRefusals, bindRows, bindAnswer, bindWritten}
+use Rattle.bind_text.specs.Internal.{capped, Sound, Loaded}
 use Rattle.bind_text.proofs.Lines.{length-lists}
 use Rattle.bind_text.proofs.Numbers.{loose-capped, tight-capped}
 
@@ -62,8 +63,7 @@ module _ (text : List ℕ) where
 
   module _ (some : 0 < length (linesOf text)) (few : length (linesOf text) ≤ maxLists) where
     counted : wrongLists (length (linesOf text)) ≡ false
-    unfolding wrongLists
-    counted = simp (ne-eqb (length (linesOf text)) 0 (λ e. omega arith), le-ltb maxLists (length (linesOf text)) few)
+    counted = right-lists (length (linesOf text)) some few
 
     pub text-long : maxInput < length text → Refused Contents ≡ lowest (textRefusals text)
     text-long l = sym (text-judged ∙ simp (counted, lt-ltb maxInput (length text) l))
@@ -86,12 +86,8 @@ module _ (text : List ℕ) where
       let contents = refuse-done (ltb maxInput (length text) || hasOther text) _ _ (count .1) in
       (count .0, refuse-done (anyOf (wrongLength maxWords) (listsIn text)) _ _ (contents .1) .0)
 
-  few-lines : wrongLists (length (linesOf text)) ≡ false → length (linesOf text) ≤ maxLists
-  unfolding wrongLists
-  few-lines e = ltb-false maxLists (length (linesOf text)) (or-false (eqb (length (linesOf text)) 0) (ltb maxLists (length (linesOf text))) e .1)
-
   pub text-sound : lowest (textRefusals text) ≡ Done → Sound text
-  text-sound e = let fine = text-fine e in record { few = few-lines (fine .0); each = fine .1 }
+  text-sound e = let fine = text-fine e in record { few = some-lists (length (linesOf text)) (fine .0) .1; each = fine .1 }
 
 -- lists of no wrong length have words
 each-some : (most : ℕ) (lists : List (List ℕ)) → anyOf (wrongLength most) lists ≡ false
@@ -125,13 +121,6 @@ module _ (p : ℕ) (text out : List ℕ) where
       → lowest (bindRows p text out) ≡ refuse (anyOf (hasLoose p) (listsIn text)) LooseWord (refuse (ltb (length out) maxBytes) Misfit Done)
   bind-sound e = bind-judged ∙ simp e
 
-write-judged : (p : ℕ) (words degrees out : List ℕ) → lowest (writeRows p words degrees out)
-    ≡ refuse (wrongLists (length degrees)) Count
-    (refuse (not (eqb (length words) (wordsFor degrees))) Length
-    (refuse (hasLoose p words) LooseWord (refuse (ltb (length out) maxBytes) Misfit Done)))
-unfolding writeRows
-write-judged p words degrees out = first-is (writeRows p words degrees out) tt
-
 pub record Given (text words degrees : List ℕ) : Type 0 where
   pub fine : lowest (textRefusals text) ≡ Done
   pub read : words ≡ map capped (joined (listsIn text))
@@ -162,8 +151,8 @@ module _ (p : ℕ) (small : p ≤ 65535) (text words degrees out : List ℕ) (g 
   some-words : (k : ℕ) → k < length (listsIn text) → 0 < length (getD (listsIn text) k [])
   some-words = each-some maxWords (listsIn text) (text-fine text (g .fine) .1)
 
-  right-lists : wrongLists (length degrees) ≡ false
-  right-lists =
+  right-number : wrongLists (length degrees) ≡ false
+  right-number =
       ap (λ d. wrongLists (length d)) (g .told)
       ∙ ap wrongLists (length-map (listsIn text) naiveDegree ∙ length-lists text)
       ∙ text-fine text (g .fine) .0
@@ -181,7 +170,7 @@ module _ (p : ℕ) (small : p ≤ 65535) (text words degrees out : List ℕ) (g 
   same-rows : lowest (writeRows p words degrees out) ≡ lowest (bindRows p text out)
   same-rows =
       write-judged p words degrees out
-      ∙ simp (right-lists, eq-eqb (length words) (wordsFor degrees) right-size, same-loose) (sym (bind-sound p text out (g .fine)))
+      ∙ simp (right-number, eq-eqb (length words) (wordsFor degrees) right-size, same-loose) (sym (bind-sound p text out (g .fine)))
 
   -- where nothing is refused, no number was cut off
   same-lists : lowest (writeRows p words degrees out) ≡ Done → cutBy degrees words ≡ listsIn text

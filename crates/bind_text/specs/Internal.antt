@@ -2,25 +2,20 @@
 --     before b s         the number of bytes that stand before the first b, or of all where there is none
 --     PartEnd            where the part of some bytes ends that begins at a place: at the next b, or with the bytes
 --     capped n           a number as a word: the largest word where it is larger, and so as loose as the number is
---     textRefusals       what a text is refused with before its numbers are read
---     Sound              a text that is not
+--     Sound              a text that is not refused with 1 or 4
 --     Loaded             n words and the degrees of a text's lists stand at the front of two buffers
 -- Assumes nothing.
 use mathlib.Core.Path.{_≡_}
-use mathlib.Core.Bool.{false, cond, _||_}
+use mathlib.Core.Bool.{false, cond}
 use mathlib.Core.List.{List, [], _∷_, map}
 use Prim.Native.Nat.{ℕ, suc, _+_, _≤_, min}
-use lib.Dec.{eqb, ltb}
+use lib.Dec.{eqb}
 use lib.ListN.{length, take, drop}
 use Rattle.refusal.specs.Limits.{maxLists, maxWords}
-use Rattle.refusal.specs.Lowest.{Condition, _given-when_}
-use Rattle.refusal.specs.declared.Refusal.the-variants.{Count, Contents, Length}
 use Rattle.lists.specs.Degrees.{naiveDegree}
 use Rattle.lists.specs.Refused.{wrongLength, anyOf}
 use Rattle.album_writer.specs.Cut.{joined}
-use Rattle.album_writer.specs.Calls.{wrongLists}
-use Rattle.bind_text.specs.Text.{linesOf, listsIn, hasOther}
-use Rattle.bind_text.specs.Calls.{maxInput}
+use Rattle.bind_text.specs.Text.{linesOf, listsIn}
 
 unfoldable pub before : ℕ → List ℕ → ℕ
 before b [] = 0
@@ -33,13 +28,6 @@ pub record PartEnd (b : ℕ) (s : List ℕ) (at end : ℕ) : Type 0 where
 
 abbrev pub capped : ℕ → ℕ
 capped n = min n 65535
-
-unfoldable pub textRefusals : List ℕ → List Condition
-textRefusals text =
-    Count given-when wrongLists (length (linesOf text)) ∷
-    Contents given-when (ltb maxInput (length text) || hasOther text) ∷
-    Length given-when anyOf (wrongLength maxWords) (listsIn text) ∷
-    []
 
 pub record Sound (text : List ℕ) : Type 0 where
   pub few : length (linesOf text) ≤ maxLists

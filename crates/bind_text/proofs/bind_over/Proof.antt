@@ -9,7 +9,7 @@ use Rattle.refusal.specs.Lowest.{lowest}
 use Rattle.refusal.specs.declared.Outcome.the-variants.{Done}
 use Rattle.field.specs.Fields.{modulus}
 use Rattle.field.proofs.Fields.{modulus-high}
-use Rattle.bind_text.specs.Internal.{textRefusals}
+use Rattle.bind_text.specs.Calls.{textRefusals}
 use Rattle.bind_text.proofs.Reading.{loaded-inside}
 use Rattle.bind_text.proofs.Judged.{text-sound, bind-refused, given-loaded, bind-answer, bind-writes}
 use borrow.Author.Needs.{needs}

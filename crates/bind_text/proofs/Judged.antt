@@ -9,11 +9,11 @@
 use mathlib.Core.Path.{_≡_, refl, sym, _∙_, ap, ap₂}
 use mathlib.Core.Bool.{true, false, _||_, or-true}
 use mathlib.Core.List.{List, [], _∷_, map}
-use Prim.Native.Nat.{ℕ, zero, suc, _≤_, _<_}
+use Prim.Native.Nat.{ℕ, _≤_, _<_}
 use native.Mathlib.Omega.{arith}
-use lib.Dec.{eqb, ltb}
+use lib.Dec.{ltb}
 use lib.ListN.{length, getD, take, drop, length-append, length-map}
-use borrow.Author.Tests.{eq-eqb, lt-ltb, le-ltb, eqb-false}
+use borrow.Author.Tests.{eq-eqb, lt-ltb, le-ltb}
 use Rattle.refusal.specs.Limits.{maxLists, maxWords, maxBytes}
 use Rattle.refusal.specs.Refusal.{reply, written}
 use Rattle.refusal.specs.Lowest.{_given-when_, lowest}
@@ -21,7 +21,7 @@ use Rattle.refusal.specs.declared.Refusal.{Refusal}
 use Rattle.refusal.specs.declared.Refusal.the-variants.{Count, Contents, Length, LooseWord, Misfit}
 use Rattle.refusal.specs.declared.Outcome.{Outcome}
 use Rattle.refusal.specs.declared.Outcome.the-variants.{Done, Refused}
-use Rattle.refusal.proofs.First.{refuse, or-else, first-is, first-then, refuse-done, or-false}
+use Rattle.refusal.proofs.First.{refuse, or-else, first-is, first-then, refuse-done}
 use Rattle.refusal.proofs.Answers.{kept, done-reply}
 use Rattle.field.specs.Fields.{modulus}
 use Rattle.lists.specs.Degrees.{naiveDegree}
@@ -31,12 +31,12 @@ use Rattle.album_writer.specs.Cut.{wordsFor, cutBy, joined}
 use Rattle.album_writer.specs.Calls.{wrongLists, writeRows, overFront, writtenReply}
 use Rattle.album_writer.specs.declared.Written.{Written}
 use Rattle.album_writer.specs.declared.Written.the-variants as W
-use Rattle.album_writer.proofs.Cut.{cut-joined, joined-size, joined-loose}
+use Rattle.album_writer.proofs.Cut.{AllSome, cut-joined, joined-size, joined-loose}
 use Rattle.album_writer.proofs.Judged.{some-lists, right-lists, write-judged}
 use Rattle.bind_text.specs.Text.{linesOf, listsIn, hasOther}
 use Rattle.bind_text.specs.Calls.{maxInput, textRefusals, bindRows, bindAnswer, bindWritten}
 use Rattle.bind_text.specs.Internal.{capped, Sound, Loaded}
-use Rattle.bind_text.proofs.Lines.{length-lists}
+use Rattle.bind_text.proofs.Lines.{length-lists, each-some}
 use Rattle.bind_text.proofs.Numbers.{loose-capped, tight-capped}
 
 module _ (text : List ℕ) where
@@ -89,18 +89,6 @@ module _ (text : List ℕ) where
   pub text-sound : lowest (textRefusals text) ≡ Done → Sound text
   text-sound e = let fine = text-fine e in record { few = some-lists (length (linesOf text)) (fine .0) .1; each = fine .1 }
 
--- lists of no wrong length have words
-each-some : (most : ℕ) (lists : List (List ℕ)) → anyOf (wrongLength most) lists ≡ false
-    → (k : ℕ) → k < length lists → 0 < length (getD lists k [])
-unfolding wrongLength
-each-some most [] e k l = absurd (omega arith)
-each-some most (c ∷ lists) e zero l =
-    let tests = or-false (wrongLength most c) (anyOf (wrongLength most) lists) e in
-    let words = eqb-false (length c) 0 (or-false (eqb (length c) 0) (ltb most (length c)) (tests .0) .0) in
-    omega arith
-each-some most (c ∷ lists) e (suc k) l =
-    each-some most lists (or-false (wrongLength most c) (anyOf (wrongLength most) lists) e .1) k (omega arith)
-
 module _ (p : ℕ) (text out : List ℕ) where
   bind-judged : lowest (bindRows p text out)
       ≡ or-else (lowest (textRefusals text))
@@ -148,8 +136,8 @@ left {found} {other} v w old e f = go found f ∙ ap (λ o. written o w old) e
     go (Refused why) f = refl
 
 module _ (p : ℕ) (small : p ≤ 65535) (text words degrees out : List ℕ) (g : Given text words degrees) where
-  some-words : (k : ℕ) → k < length (listsIn text) → 0 < length (getD (listsIn text) k [])
-  some-words = each-some maxWords (listsIn text) (text-fine text (g .fine) .1)
+  some-words : AllSome (listsIn text)
+  some-words = each-some (listsIn text) (text-fine text (g .fine) .1)
 
   right-number : wrongLists (length degrees) ≡ false
   right-number =

@@ -3,17 +3,21 @@
 --     lists-next, lists-none                 the same of the lists of a text
 --     length-lists                           as many lists as lines
 --     wrong-here, wrong-on, wrong-none       the search for a list of a wrong length
+--     right-length, each-some                lists of no wrong length have words, and no more than the limit
 --     list-word, list-gap, list-none         the words of a line: a part is a word, or it is empty; none past the end
 -- Assumes nothing.
 use mathlib.Core.Path.{_≡_, _∙_, ap}
 use mathlib.Core.Bool.{true, false, cond, _||_}
 use mathlib.Core.List.{List, [], _∷_, map}
-use Prim.Native.Nat.{ℕ, _+_, _-_, _≤_, _<_}
+use Prim.Native.Nat.{ℕ, zero, suc, _+_, _-_, _≤_, _<_}
 use native.Mathlib.Omega.{arith}
+use lib.Dec.{eqb, ltb}
 use lib.ListN.{length, take, drop, length-map}
-use borrow.Author.Tests.{eq-eqb, ne-eqb}
+use borrow.Author.Tests.{eq-eqb, ne-eqb, eqb-false, ltb-false}
 use Rattle.refusal.specs.Limits.{maxWords}
+use Rattle.refusal.proofs.First.{or-false}
 use Rattle.lists.specs.Refused.{wrongLength, anyOf}
+use Rattle.album_writer.proofs.Cut.{AllSome}
 use Rattle.bind_text.specs.Text.{⟨line-end⟩, ⟨space⟩, parts, linesOf, filledOf, fieldsOf, valueOf, listOf, listsIn}
 use Rattle.bind_text.specs.Internal.{PartEnd}
 use Rattle.bind_text.proofs.Parts.{length-part, parts-next, parts-none}
@@ -52,6 +56,18 @@ module _ (text : List ℕ) (at : ℕ) where
 
   pub wrong-none : length text ≤ at → anyOf (wrongLength maxWords) (listsIn (drop at text)) ≡ false
   wrong-none l = ap (anyOf (wrongLength maxWords)) (lists-none l)
+
+pub right-length : (c : List ℕ) → wrongLength maxWords c ≡ false → (0 < length c) × (length c ≤ maxWords)
+unfolding wrongLength
+right-length c e =
+    let tests = or-false (eqb (length c) 0) (ltb maxWords (length c)) e in
+    let words = eqb-false (length c) 0 (tests .0) in
+    (omega arith, ltb-false maxWords (length c) (tests .1))
+
+pub each-some : (lists : List (List ℕ)) → anyOf (wrongLength maxWords) lists ≡ false → AllSome lists
+each-some [] e k l = absurd (omega arith)
+each-some (c ∷ lists) e zero l = right-length c (or-false (wrongLength maxWords c) (anyOf (wrongLength maxWords) lists) e .0) .0
+each-some (c ∷ lists) e (suc k) l = each-some lists (or-false (wrongLength maxWords c) (anyOf (wrongLength maxWords) lists) e .1) k (omega arith)
 
 pub length-lists : (text : List ℕ) → length (listsIn text) ≡ length (linesOf text)
 unfolding listsIn

@@ -10,10 +10,8 @@ use mathlib.Core.List.{List, [], _∷_, _++_, map, append-assoc, append-nil, map
 use Prim.Native.Nat.{ℕ, _+_, _-_, _*_, _≤_, _<_}
 use native.Mathlib.Numerals.{add-one}
 use native.Mathlib.Omega.{arith}
-use lib.Dec.{eqb, ltb}
 use lib.ListN.{length, take, drop, set, length-append, length-set, length-take, length-map}
 use lib.Seq.{length-take-le, take-suc-set, take-all, take-at}
-use borrow.Author.Tests.{eqb-false, ltb-false}
 use Rattle.refusal.specs.Limits.{maxLists, maxWords}
 use Rattle.refusal.proofs.First.{or-false}
 use Rattle.lists.specs.Degrees.{naiveDegree}
@@ -21,7 +19,7 @@ use Rattle.lists.specs.Refused.{wrongLength, anyOf}
 use Rattle.album_writer.specs.Cut.{joined}
 use Rattle.bind_text.specs.Text.{⟨line-end⟩, ⟨space⟩, linesOf, valueOf, listOf, listsIn}
 use Rattle.bind_text.specs.Internal.{PartEnd, capped, Loaded}
-use Rattle.bind_text.proofs.Lines.{lines-next, lines-none, lists-next, lists-none, length-lists, list-word, list-gap, list-none}
+use Rattle.bind_text.proofs.Lines.{lines-next, lines-none, lists-next, lists-none, length-lists, right-length, list-word, list-gap, list-none}
 
 -- one word more, and those left
 word-more : (out rest : List ℕ) (n v : ℕ) → n < length out → take (n + 1) (set out n v) ++ rest ≡ take n out ++ (v ∷ rest)
@@ -88,13 +86,6 @@ pub record Turn (used k n : ℕ) : Type 0 where
   pub short : n ≤ maxWords
   pub few : k < maxLists
   pub room : used + n ≤ maxLists * maxWords
-
-right-length : (c : List ℕ) → wrongLength maxWords c ≡ false → (0 < length c) × (length c ≤ maxWords)
-unfolding wrongLength
-right-length c e =
-    let tests = or-false (eqb (length c) 0) (ltb maxWords (length c)) e in
-    let words = eqb-false (length c) 0 (tests .0) in
-    (omega arith, ltb-false maxWords (length c) (tests .1))
 
 -- the words of a list and of those after it
 joined-more : (c : List ℕ) (lists : List (List ℕ)) → joined (c ∷ lists) ≡ c ++ joined lists

@@ -1,4 +1,4 @@
-/* The engine's product, division, GCD, evaluation and cofactors against FLINT doing the same work from the same bytes. Build and run:
+/* The engine's product, divisions, GCD, evaluation and cofactors against FLINT doing the same work from the same bytes. Build and run:
    bench/run */
 #include "../include/bernstein.h"
 #include "../tests/calls.h"
@@ -26,8 +26,8 @@ typedef struct {
   list f, g;
 } pair;
 
-/* Product: the product. Division: q and r. GCD: h and the answer, of which FLINT's side gives w and c. Evaluation: the value. Cofactors: h, a
-   and b. */
+/* Product: the product. Either division: q and r. GCD: h and the answer, of which FLINT's side gives w and c. Evaluation: the value.
+   Cofactors: h, a and b. */
 typedef union {
   struct {
     uint8_t first[MAX_BYTES], second[MAX_BYTES], third[MAX_BYTES];
@@ -66,6 +66,11 @@ static void engine_division(const pair *in, result *out) {
                                2 * (f->words - 1)));
 }
 
+static void engine_ordinary_division(const pair *in, result *out) {
+  const list *f = &in->f, *g = &in->g;
+  completed(test_divide_ordinary(g->whole, g->words, f->whole, f->words, out->first_whole, g->words, out->second_whole, g->words));
+}
+
 static void engine_gcd(const pair *in, result *out) {
   const list *f = &in->f, *g = &in->g;
   completed(bernstein_gcd(f->bytes, 2 * f->words, g->bytes, 2 * g->words, out->first, MAX_BYTES, out->second, 6));
@@ -86,7 +91,7 @@ static void engine_cofactors(const pair *in, result *out) {
                            out->third_whole, f->words - 1, answer, 3));
 }
 
-/* ---- FLINT's side: scale, compute in the monomial basis of u, scale back. ---- */
+/* ---- FLINT's side: scale, compute in the monomial basis of u, scale back; ordinary division in that of t. ---- */
 
 /* A constant of the field with the quotient that FLINT's n_mulmod_shoup wants, its quickest product by a known constant. */
 typedef struct {
@@ -96,12 +101,40 @@ typedef struct {
 /* C(n,k) modulo P and its inverse, in row n, filled before anything is timed. */
 static factor binomials[MAX_WORDS][MAX_WORDS], inverses[MAX_WORDS][MAX_WORDS];
 
+/* k! and its inverse; n!/(n-j)! and its inverse, in row n. */
+static factor factorials[MAX_WORDS], inverse_factorials[MAX_WORDS];
+static factor falling[MAX_WORDS][MAX_WORDS], inverse_falling[MAX_WORDS][MAX_WORDS];
+
+/* The first 256 terms of exp(u) and of exp(-u), each term u^i / i!. */
+static nmod_poly_t growing, alternating;
+
 /* Kept from call to call, so that FLINT allocates its operands once. */
-static nmod_poly_t scaled_f, scaled_g, first, second, third;
+static nmod_poly_t scaled_f, scaled_g, powers_f, powers_g, weighed, first, second, third;
 
 static factor factor_of(mp_limb_t value) { return (factor){value, n_mulmod_precomp_shoup(value, P)}; }
 
 static mp_limb_t times(const factor *c, mp_limb_t x) { return n_mulmod_shoup(c->value, x, c->quotient, P); }
+
+static void prepare_powers(void) {
+  mp_limb_t product = 1;
+  nmod_poly_init2(growing, P, MAX_WORDS);
+  nmod_poly_init2(alternating, P, MAX_WORDS);
+  nmod_poly_init2(powers_f, P, MAX_WORDS);
+  nmod_poly_init2(powers_g, P, MAX_WORDS);
+  nmod_poly_init2(weighed, P, MAX_WORDS);
+  for (size_t k = 0; k < MAX_WORDS; k++) {
+    if (k > 0) product = n_mulmod2(product, k, P);
+    mp_limb_t inverse = n_invmod(product, P);
+    factorials[k] = factor_of(product);
+    inverse_factorials[k] = factor_of(inverse);
+    nmod_poly_set_coeff_ui(growing, k, inverse);
+    nmod_poly_set_coeff_ui(alternating, k, k % 2 == 0 ? inverse : P - inverse);
+    for (size_t j = 0; j <= k; j++) {
+      falling[k][j] = factor_of(n_mulmod2(product, inverse_factorials[k - j].value, P));
+      inverse_falling[k][j] = factor_of(n_mulmod2(inverse, factorials[k - j].value, P));
+    }
+  }
+}
 
 static void prepare_flint(void) {
   for (size_t n = 0; n < MAX_WORDS; n++)
@@ -115,6 +148,7 @@ static void prepare_flint(void) {
   nmod_poly_init2(first, P, MAX_WORDS);
   nmod_poly_init2(second, P, MAX_WORDS);
   nmod_poly_init2(third, P, MAX_WORDS);
+  prepare_powers();
 }
 
 /* The scaled form of a list. */
@@ -146,6 +180,36 @@ static void flint_division(const pair *in, result *out) {
   nmod_poly_divrem(first, second, scaled_g, scaled_f);
   unscale(first, in->g.words - in->f.words + 1, out->first);
   unscale(second, in->f.words - 1, out->second);
+}
+
+/* The polynomial in t of a list: its coefficient j is n!/(n-j)! times the sum over k of c_k/k! (-1)^(j-k)/(j-k)!, a product of series.
+   With FLINT's own nmod_poly_taylor_shift, on scaled forms read backwards, the row takes it about twice as long. */
+static void to_powers(const list *from, nmod_poly_t to) {
+  const factor *row = falling[from->words - 1];
+  for (size_t k = 0; k < from->words; k++) weighed->coeffs[k] = times(&inverse_factorials[k], word(from->bytes, k));
+  _nmod_poly_set_length(weighed, from->words);
+  _nmod_poly_normalise(weighed);
+  nmod_poly_mullow(to, weighed, alternating, from->words);
+  for (slong j = 0; j < to->length; j++) to->coeffs[j] = times(&row[j], to->coeffs[j]);
+}
+
+/* The list of so many words that means a polynomial in t: c_k is k! times the sum over j of P_j (n-j)!/n! 1/(k-j)!. */
+static void from_powers(const nmod_poly_t from, size_t words, uint8_t *bytes) {
+  const factor *row = inverse_falling[words - 1];
+  for (slong j = 0; j < from->length; j++) weighed->coeffs[j] = times(&row[j], from->coeffs[j]);
+  _nmod_poly_set_length(weighed, from->length);
+  nmod_poly_mullow(third, weighed, growing, words);
+  size_t length = third->length;
+  for (size_t k = 0; k < length; k++) put(bytes, k, times(&factorials[k], third->coeffs[k]));
+  memset(bytes + 2 * length, 0, 2 * (words - length));
+}
+
+static void flint_ordinary_division(const pair *in, result *out) {
+  to_powers(&in->f, powers_f);
+  to_powers(&in->g, powers_g);
+  nmod_poly_divrem(first, second, powers_g, powers_f);
+  from_powers(first, in->g.words, out->first);
+  from_powers(second, in->g.words, out->second);
 }
 
 /* h in its 256 words. FLINT's GCD is monic, and C(w,w) is 1, so h ends in 1 as it has to. */
@@ -211,6 +275,13 @@ static void draw_division(pair *in) {
   draw_list(&in->g, 255);
 }
 
+/* The divisor's degree in t is nearly always its naive degree; this makes sure of it. */
+static void draw_ordinary_division(pair *in) {
+  draw_division(in);
+  to_powers(&in->f, first);
+  if (nmod_poly_degree(first) != 128) fail("the divisor has another degree in t than the row says", "ordinary division");
+}
+
 /* Two random lists are nearly always coprime; compare() makes sure of it. */
 static void draw_coprime(pair *in) {
   draw_list(&in->f, 255);
@@ -261,6 +332,7 @@ static const task tasks[] = {
     {"GCD, 255 and 255, factor of 100", draw_shared, engine_gcd, flint_gcd, 256, 2, 0, 100},
     {"evaluation, 255", draw_evaluation, engine_evaluation, flint_evaluation, 1, 0, 0, -1},
     {"cofactors, 255 and 255, coprime", draw_coprime, engine_cofactors, flint_cofactors, 256, 255, 255, 0},
+    {"ordinary division, 255 by 128", draw_ordinary_division, engine_ordinary_division, flint_ordinary_division, 256, 256, 0, -1},
 };
 
 /* w, as h has it: the place of its last word that is not 0. */

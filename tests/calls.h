@@ -31,6 +31,13 @@ uint8_t test_derivative(const uint16_t *f, size_t f_len, uint16_t *out, size_t o
 uint8_t test_evaluate(const uint16_t *f, size_t f_len, uint16_t x, size_t *answer, size_t answer_len);
 uint8_t test_divide(const uint16_t *g, size_t g_len, const uint16_t *f, size_t f_len, uint16_t *q, size_t q_len, uint16_t *r, size_t r_len);
 
+/* Division in the usual sense, g = q f + r in powers of t; q and r have as many words as g. */
+uint8_t test_divide_ordinary(const uint16_t *g, size_t g_len, const uint16_t *f, size_t f_len, uint16_t *q, size_t q_len, uint16_t *r,
+                             size_t r_len);
+
+/* Returns the degree in t of a list, 0 for a zero list and for one of more than 256 words; it refuses nothing. */
+size_t test_degree_in_t(const uint16_t *list, size_t list_len);
+
 /* answer, here and below: w, c and rounds. */
 uint8_t test_gcd(const uint16_t *f, size_t f_len, const uint16_t *g, size_t g_len, uint16_t *h, size_t h_len, size_t *answer,
                  size_t answer_len);

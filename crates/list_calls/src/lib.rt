@@ -13,6 +13,8 @@ ghost use Rattle.list_extent.specs.Calls.{extentReply, extentRows, extentAnswer
 ghost use Rattle.list_derivative.specs.Calls.{derivativeRows, derivativeAnswer, derivativeWritten};
 ghost use Rattle.list_value.specs.Calls.{evaluateRows, evaluateAnswer};
 ghost use Rattle.list_division.specs.Calls.{divideRows, divideAnswer, quotientWritten, remainderWritten, DividesSo};
+ghost use Rattle.ordinary_theory.specs.Ordinary.{OrdinarySo};
+ghost use Rattle.list_ordinary_division.specs.Calls.{ordinaryRows, ordinaryAnswer, ordinaryQuotientWritten, ordinaryRemainderWritten};
 ghost use Rattle.list_gcd.specs.Calls.{gcdReply, gcdRows, gcdAnswer, gcdWritten, Greatest};
 ghost use Rattle.list_cofactors.specs.Calls.{cofactorRows, cofactorAnswer, cofactorGcd, cofactorsWrittenA, cofactorsWrittenB};
 ghost use Rattle.statement.specs.Demand1.{Demand1, slice};
@@ -111,6 +113,17 @@ pub fn divide(g: &[u16], f: &[u16], q: &mut [u16], r: &mut [u16]) -> Outcome
     ensures demand3 { λ a. ⌜ (a ≡ Outcome.Done → DividesSo F65521 (given g) (given f) (now (q .exit)) (now (r .exit))) ⌝ }
 {
     list_division::divide_over(0, g, f, q, r)
+}
+
+// g divided by f in the usual sense: g = q·f + r, where r is 0 or has a smaller degree in t than f, and q and r have g's own naive degree.
+pub fn divide_ordinary(g: &[u16], f: &[u16], q: &mut [u16], r: &mut [u16]) -> Outcome
+    ensures answer { λ a. ⌜ outcomeReply a ≡ ordinaryAnswer 0 (given g) (given f) (given q) (given r) ⌝ }
+    ensures quotient { λ _. ⌜ now (q .exit) ≡ ordinaryQuotientWritten 0 (given g) (given f) (given q) (given r) ⌝ }
+    ensures remainder { λ _. ⌜ now (r .exit) ≡ ordinaryRemainderWritten 0 (given g) (given f) (given q) (given r) ⌝ }
+    ensures demand1 { λ a. ⌜ Demand1 (ordinaryRows p maxWords (given g) (given f) (given q) (given r)) (outcomeReply a .number) (slice q ∷ slice r ∷ []) ⌝ }
+    ensures demand2 { λ a. ⌜ (a ≡ Outcome.Done → OrdinarySo F65521 (given g) (given f) (now (q .exit)) (now (r .exit))) ⌝ }
+{
+    list_ordinary_division::divide_ordinary_over(0, g, f, q, r)
 }
 
 // The GCD of f and g: h goes to a slice of as many words as the longest list has, zeros after word w.

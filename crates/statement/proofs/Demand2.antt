@@ -42,6 +42,8 @@ use Rattle.list_sum.specs.Calls.{sumRows}
 use Rattle.list_sum.proofs.Judged.{sum-fits}
 use Rattle.list_extent.specs.Calls.{trimRows}
 use Rattle.list_derivative.specs.Calls.{derivativeWords, derivativeRows}
+use Rattle.ordinary_theory.proofs.Ordinary.{ordinary-so}
+use Rattle.list_ordinary_division.proofs.Judged.{ordinary-fits}
 use Rattle.album_layout.proofs.Written.{album-read, album-obeys, album-is-bytes}
 use Rattle.album_layout.proofs.Whole.{album-whole}
 use Rattle.statement.proofs.Demand3.{demand3}
@@ -179,6 +181,7 @@ module _ (F : PrimeField) where
             the-list wide _ _ _ (derivative-length wide f) (coefficients-derivative F f (derivative-listed wide f out e)) (derivative-meaning F f);
         of-value = the-value;
         of-division = demand3 F wide .of-division;
+        of-ordinary-division = λ g f q r e. ordinary-so F g f (ordinary-fits F maxWords wide g f q r (sym e) .dividable);
         of-reading =
             λ s bytes counted laid tight. (album-whole s bytes counted laid, contained F s bytes counted laid tight);
         of-albums = λ lists w. (album-is-bytes lists w, album-obeys lists w .0, album-obeys lists w .1, album-read lists w);

@@ -28,6 +28,8 @@ use Rattle.list_sum.specs.Calls.{sumRows}
 use Rattle.list_extent.specs.Calls.{trimRows}
 use Rattle.list_derivative.specs.Calls.{derivativeWords, derivativeRows}
 use Rattle.list_division.specs.Calls.{divideRows, DividesSo}
+use Rattle.ordinary_theory.specs.Ordinary.{ordinaryQuotient, ordinaryRemainder, OrdinarySo}
+use Rattle.list_ordinary_division.specs.Calls.{ordinaryRows}
 use Rattle.album_layout.specs.Layout.{wrongCount, brokenLayout, listsOf}
 use Rattle.album_layout.specs.Written.{albumOf, Writable}
 use Rattle.statement.specs.Contained.{Contained}
@@ -70,6 +72,9 @@ module _ (F : PrimeField) where
     -- quotient and remainder
     pub of-division : (g f q r : List ℕ) → lowest (divideRows (F .p) maxWords g f q r) ≡ Done
         → DividesSo F g f (quotientOf F g f) (remainderOf F g f)
+    -- in the usual sense: g = q·f + r, r is 0 or has a smaller degree in t than f, and no other two lists of g's length are so
+    pub of-ordinary-division : (g f q r : List ℕ) → lowest (ordinaryRows (F .p) maxWords g f q r) ≡ Done
+        → OrdinarySo F g f (ordinaryQuotient F g f) (ordinaryRemainder F g f)
     -- an album of bytes that obeys the layout and has no loose word is read: it is the album of its lists, and these are handed out
     pub of-reading : (s : List ℕ) → Bytes s → wrongCount maxLists s ≡ false → brokenLayout s ≡ false
         → anyOf (hasLoose (F .p)) (listsOf s) ≡ false → (albumOf (listsOf s) ≡ s) × Contained F s (listsOf s)

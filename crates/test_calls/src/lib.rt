@@ -15,6 +15,8 @@ ghost use Rattle.list_extent.specs.Calls.{extentReply, extentAnswer, trimAnswer
 ghost use Rattle.list_derivative.specs.Calls.{derivativeAnswer, derivativeWritten};
 ghost use Rattle.list_value.specs.Calls.{evaluateAnswer};
 ghost use Rattle.list_division.specs.Calls.{divideAnswer, quotientWritten, remainderWritten};
+ghost use Rattle.list_powers.specs.Powers.{degreeFound};
+ghost use Rattle.list_ordinary_division.specs.Calls.{ordinaryAnswer, ordinaryQuotientWritten, ordinaryRemainderWritten};
 ghost use Rattle.list_gcd.specs.Calls.{gcdReply, gcdAnswer, gcdWritten};
 ghost use Rattle.list_cofactors.specs.Calls.{cofactorAnswer, cofactorGcd, cofactorsWrittenA, cofactorsWrittenB};
 ghost use Rattle.album_layout.specs.Calls.{checkAnswer, bodyOf};
@@ -150,6 +152,24 @@ pub extern "C" fn test_divide(g: &[u16], f: &[u16], q: &mut [u16], r: &mut [u16]
     ensures remainder { λ _. ⌜ now (r .exit) ≡ remainderWritten 0 (given g) (given f) (given q) (given r) ⌝ }
 {
     refusal::outcome_number(list_calls::divide(g, f, q, r))
+}
+
+// g divided by f in the usual sense.
+#[no_mangle]
+pub extern "C" fn test_divide_ordinary(g: &[u16], f: &[u16], q: &mut [u16], r: &mut [u16]) -> u8
+    ensures number { λ n. ⌜ n ≡ ordinaryAnswer 0 (given g) (given f) (given q) (given r) .number ⌝ }
+    ensures quotient { λ _. ⌜ now (q .exit) ≡ ordinaryQuotientWritten 0 (given g) (given f) (given q) (given r) ⌝ }
+    ensures remainder { λ _. ⌜ now (r .exit) ≡ ordinaryRemainderWritten 0 (given g) (given f) (given q) (given r) ⌝ }
+{
+    refusal::outcome_number(list_calls::divide_ordinary(g, f, q, r))
+}
+
+// The degree in t of a list, which is behind no call: what a worker of the engine finds.
+#[no_mangle]
+pub extern "C" fn test_degree_in_t(list: &[u16]) -> usize
+    ensures { λ n. ⌜ n ≡ degreeFound 0 (given list) ⌝ }
+{
+    list_powers::degree_in_t(0, list).0
 }
 
 // The GCD of two lists; the answer is w, c and rounds.

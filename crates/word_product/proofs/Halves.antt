@@ -15,9 +15,10 @@ use native.Mathlib.Nat.{add-zero, add-suc, add-assoc, mul-zero, mul-add, le-refl
 use native.Mathlib.Omega.{arith}
 use lib.ListN.{length, getD, replicate, List·getD-append, List·getD-eq-default}
 use lib.Seq.{getD-append-add}
+use Rattle.lists.proofs.Words.{zeros-are}
 use Rattle.word_product.specs.Rows.{rowSum, behind}
 use Rattle.word_product.specs.Halves.{FirstHalves, SecondHalves, crossAt, Joined, Enough}
-use Rattle.word_product.proofs.Sums.{split, sum-more, sum-past, sum-ext, zeros-are}
+use Rattle.word_product.proofs.Sums.{split, sum-more, sum-past, sum-ext}
 
 -- the product of two sums
 four : (x y u v : ℕ) → (x + y) * (u + v) ≡ x * u + y * v + (x * v + y * u)

@@ -10,8 +10,7 @@ use Prim.Native.Nat.{ℕ, zero, suc, _+_, _-_, _*_, _≤_, _<_, zero-le}
 use native.Mathlib.Nat.{add-zero, add-suc, mul-zero, zero-mul, mul-le-mul}
 use native.Mathlib.Numerals.{add-one}
 use native.Mathlib.Omega.{arith}
-use lib.ListN.{length, getD, replicate, List·getD-eq-default}
-use Rattle.lists.specs.Words.{ZeroFrom}
+use lib.ListN.{length, getD, List·getD-eq-default}
 use Rattle.word_product.specs.Rows.{Factors, rowSum}
 
 -- words of 17 bits
@@ -63,11 +62,3 @@ unfolding rowSum
 sum-ext a b x y k zero f g = refl
 sum-ext a b x y k (suc n) f g =
     ap₂ (λ u v. u + v) (sum-ext a b x y k n (λ j p. f j (omega arith)) g) (ap₂ (λ u v. u * v) (f n (omega arith)) (g (k + 7 - n) (omega arith)))
-
-pub zeros-are : (n : ℕ) → ZeroFrom 0 (replicate n 0)
-zeros-are n = record { at = λ k l. go n k }
-  where
-    go : (n k : ℕ) → _≡_ {A = ℕ} (getD (replicate n 0) k 0) 0
-    go zero k = refl
-    go (suc n) zero = refl
-    go (suc n) (suc k) = go n k

@@ -17,6 +17,7 @@ pub enum Name {
     Derivative,
     Evaluate,
     Divide,
+    DivideOrdinary,
     Gcd,
     Cofactors,
     Check,
@@ -27,9 +28,9 @@ pub enum Name {
     WriteAlbum,
 }
 
-/// Each call with the numbers that document 01's table can give it, 0 for completed. 11 is not among them: every word that is not
-/// 0 has an inverse.
-pub const CALLS: [(Name, &[u8]); 21] = [
+/// Each call with the numbers that document 01's table and the orders after it can give it, 0 for completed. 11 is not among them:
+/// every word that is not 0 has an inverse.
+pub const CALLS: [(Name, &[u8]); 22] = [
     (Name::FieldSum, &[0, 5]),
     (Name::FieldDifference, &[0, 5]),
     (Name::FieldProduct, &[0, 5]),
@@ -43,6 +44,7 @@ pub const CALLS: [(Name, &[u8]); 21] = [
     (Name::Derivative, &[0, 4, 5, 10]),
     (Name::Evaluate, &[0, 4, 5]),
     (Name::Divide, &[0, 4, 5, 7, 8, 10]),
+    (Name::DivideOrdinary, &[0, 4, 5, 9, 10]),
     (Name::Gcd, &[0, 4, 5, 9, 10]),
     (Name::Cofactors, &[0, 4, 5, 9, 10]),
     (Name::Check, &[0, 1, 2, 3, 5]),
@@ -109,6 +111,8 @@ unsafe extern "C" {
     fn test_derivative(f: List, f_len: usize, out: Slice, out_len: usize) -> u8;
     fn test_evaluate(f: List, f_len: usize, x: u16, answer: Values, answer_len: usize) -> u8;
     fn test_divide(g: List, g_len: usize, f: List, f_len: usize, q: Slice, q_len: usize, r: Slice, r_len: usize) -> u8;
+    fn test_divide_ordinary(g: List, g_len: usize, f: List, f_len: usize, q: Slice, q_len: usize, r: Slice, r_len: usize) -> u8;
+    fn test_degree_in_t(list: List, list_len: usize) -> usize;
     fn test_gcd(f: List, f_len: usize, g: List, g_len: usize, h: Slice, h_len: usize, answer: Values, answer_len: usize) -> u8;
     fn test_cofactors(
         f: List,
@@ -173,6 +177,15 @@ pub fn run(call: &PublicCall) -> Answer {
     Answer { returned, memory, stray }
 }
 
+/// What the engine takes for the degree in t of a list; nothing if it changes the list or what lies beside it.
+pub fn degree_in_t(list: &[u16]) -> Option<usize> {
+    let mut lent = Lent::new(list);
+    let part = lent.part();
+    // SAFETY: the pointer goes with the length of a slice that is borrowed until the call returns.
+    let degree = unsafe { test_degree_in_t(part.as_ptr(), part.len()) };
+    (lent.part() == list && !lent.is_stray()).then_some(degree)
+}
+
 fn call_engine(
     call: &PublicCall,
     lists: &mut [Lent<u16>],
@@ -213,9 +226,10 @@ fn call_engine(
             Name::Trim => test_trim(list(0).0, list(0).1, result(0).0, result(0).1),
             Name::Derivative => test_derivative(list(0).0, list(0).1, result(0).0, result(0).1),
             Name::Evaluate => test_evaluate(list(0).0, list(0).1, word(0), values, room),
-            Name::Divide => {
+            Name::Divide | Name::DivideOrdinary => {
+                let function = if call.name == Name::Divide { test_divide } else { test_divide_ordinary };
                 let ((g, e), (f, d), (q, q_len), (r, r_len)) = (list(0), list(1), result(0), result(1));
-                test_divide(g, e, f, d, q, q_len, r, r_len)
+                function(g, e, f, d, q, q_len, r, r_len)
             }
             Name::Gcd => {
                 let ((f, d), (g, e), (h, h_len)) = (list(0), list(1), result(0));

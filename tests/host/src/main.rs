@@ -10,6 +10,7 @@ mod engine;
 mod field;
 mod lent;
 mod model;
+mod ordinary;
 mod poly;
 mod public;
 mod random;
@@ -78,6 +79,7 @@ fn main() {
     let mut tally = Tally::default();
     compare_calls(&mut tally);
     compare_public_calls(&mut tally);
+    ordinary::compare(&mut tally);
     writing::compare(&mut tally);
     compare_albums(&mut tally);
     bind_runs::compare(&mut tally);
@@ -90,6 +92,7 @@ fn main() {
     let noticed = [
         compare::try_broken_copies(&mut Random(4)),
         public::try_broken_copies(&mut Random(5)),
+        ordinary::try_broken_copies(&mut Random(11)),
         writing::try_broken_copies(&mut Random(8)),
         bind_runs::try_broken_copies(),
     ];
@@ -151,11 +154,13 @@ fn compare_calls(tally: &mut Tally) {
     println!("  of the GCDs {with_h} have w above 0 and {with_c} have c above 0; the most rounds are {most_rounds}");
 }
 
-/// Compares the engine's answer to a public call with the model's.
-fn compare_public(tally: &mut Tally, call: &PublicCall) {
-    if let Some(fault) = public::fault(call, &calls::run(call)) {
+/// Compares the engine's answer to a public call with the model's and gives it back.
+fn compare_public(tally: &mut Tally, call: &PublicCall) -> calls::Answer {
+    let answer = calls::run(call);
+    if let Some(fault) = public::fault(call, &answer) {
         tally.fault(&public::shown(call), &fault);
     }
+    answer
 }
 
 /// The same, and compares with what document 01 or a source document prints.
@@ -166,8 +171,9 @@ fn compare_printed(tally: &mut Tally, place: &str, call: &PublicCall, printed: R
 
 fn compare_public_calls(tally: &mut Tally) {
     let mut random = Random(3);
-    // writing::compare has the call that writes an album
-    for (name, numbers) in calls::CALLS.into_iter().filter(|(name, _)| *name != Name::WriteAlbum) {
+    // ordinary::compare and writing::compare have these
+    let elsewhere = [Name::DivideOrdinary, Name::WriteAlbum];
+    for (name, numbers) in calls::CALLS.into_iter().filter(|(name, _)| !elsewhere.contains(name)) {
         let what = format!("{name:?}");
         for _ in 0..PUBLIC_CALLS {
             let call = random.public_call(name);
@@ -417,7 +423,7 @@ fn compare_tables(tally: &mut Tally) {
         [&f[..40], &g[..25]],
     ];
     for pair in pairs {
-        for name in [Name::Sum, Name::Difference, Name::Product, Name::Divide, Name::Gcd, Name::Cofactors] {
+        for name in [Name::Sum, Name::Difference, Name::Product, Name::Divide, Name::DivideOrdinary, Name::Gcd, Name::Cofactors] {
             compare_public(tally, &on_lists(name, &pair, &[]));
         }
     }
@@ -461,16 +467,16 @@ fn compare_tables(tally: &mut Tally) {
     println!("tables: {} pairs and {} albums", pairs.len(), albums.len());
 }
 
-/// The sums that the source documents print, where document 01 has the operation.
+/// The sums that the source documents print, where some call has the operation.
 fn compare_vectors(tally: &mut Tally) {
     let vectors = vectors::parse(include_str!("../vectors.txt"));
-    let (skipped, kept): (Vec<&Vector>, _) = vectors.iter().partition(|vector| NOT_IN_DOCUMENT_01.contains(&vector.operation));
+    let (skipped, kept): (Vec<&Vector>, _) = vectors.iter().partition(|vector| OF_NO_CALL.contains(&vector.operation));
     kept.iter().for_each(|vector| compare_vector(tally, vector));
     println!("vectors of the source documents: {} compared with the model and the engine", kept.len());
-    println!("  skipped, as document 01 has no such operation: {} ({})", skipped.len(), NOT_IN_DOCUMENT_01.join(", "));
+    println!("  skipped, as no call has such an operation: {} ({})", skipped.len(), OF_NO_CALL.join(", "));
 }
 
-const NOT_IN_DOCUMENT_01: [&str; 2] = ["ordinary division", "relations of three"];
+const OF_NO_CALL: [&str; 1] = ["relations of three"];
 
 fn compare_vector(tally: &mut Tally, vector: &Vector) {
     let place = vector.place;
@@ -491,6 +497,9 @@ fn compare_vector(tally: &mut Tally, vector: &Vector) {
             let call = Call::fitting(Operation::Division, &input("g"), &input("f"));
             compare_results(tally, place, &call, &[list("q"), list("r")]);
             (on_lists(Name::Divide, &[&input("g"), &input("f")], &[]), lists_of(&[&list("q"), &list("r")]))
+        }
+        "ordinary division" => {
+            (on_lists(Name::DivideOrdinary, &[&input("g"), &input("f")], &[]), lists_of(&[&list("q"), &list("r")]))
         }
         "gcd of two" => {
             let call = Call::fitting(Operation::Gcd, &input("f"), &input("g"));

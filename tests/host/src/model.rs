@@ -1,4 +1,5 @@
-//! The calls of document 01 on lists of words, worked out in the monomial basis where the engine uses scaled forms.
+//! The calls of document 01 and of the orders after it on lists of words, worked out in the monomial basis where the engine uses
+//! scaled forms; for division in the usual sense both do, the engine by Horner's rule.
 
 use crate::field::{self, P};
 use crate::poly::{self, Poly};
@@ -130,6 +131,24 @@ fn quotient_and_remainder(g: &[u32], f: &[u32]) -> (List, List) {
 
 fn reversed(list: &[u32]) -> List {
     list.iter().rev().copied().collect()
+}
+
+/// What may be refused where a division in the usual sense is asked for, each with whether it applies; q and r are the lengths of
+/// the slices.
+pub fn ordinary_rows(g: &[u32], f: &[u32], q: usize, r: usize) -> [(u8, bool); 4] {
+    [(4, bad_length(g) || bad_length(f)), (5, is_loose(g) || is_loose(f)), (9, is_zero(f)), (10, q != g.len() || r != g.len())]
+}
+
+/// g = q f + r where r is 0 or has a smaller degree in t than f; q and r at g's own naive degree.
+pub fn divide_ordinary(g: &[u32], f: &[u32], q: usize, r: usize) -> Result<(List, List), u8> {
+    refuse(&ordinary_rows(g, f, q, r))?;
+    let (quotient, remainder) = poly::divide(&poly::of_list(g), &poly::of_list(f));
+    Ok((poly::to_list(&quotient, g.len() - 1), poly::to_list(&remainder, g.len() - 1)))
+}
+
+/// The degree after all raising is undone; 0 too for a zero list and for one of more than 256 words.
+pub fn degree_in_t(list: &[u32]) -> usize {
+    if bad_length(list) { 0 } else { poly::of_list(list).len().saturating_sub(1) }
 }
 
 /// h has w+1 words.

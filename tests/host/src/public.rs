@@ -1,4 +1,4 @@
-//! What document 01 says of every public call, compared with what the engine answers.
+//! What document 01 and the orders after it say of every public call, compared with what the engine answers.
 
 use crate::album;
 use crate::calls::{self, Answer, Memory, Name, PublicCall};
@@ -37,11 +37,11 @@ fn padded(mut list: List) -> List {
     list
 }
 
-fn words(list: &[u32]) -> Vec<u16> {
+pub fn words(list: &[u32]) -> Vec<u16> {
     list.iter().map(|&word| word as u16).collect()
 }
 
-fn list(words: &[u16]) -> List {
+pub fn list(words: &[u16]) -> List {
     words.iter().map(|&word| u32::from(word)).collect()
 }
 
@@ -65,6 +65,7 @@ pub fn fitting(name: Name, lists: &[List], album: &[u8], numbers: &[usize]) -> P
         Name::Trim => vec![model::extent(&lists[0]).map_or(1, |x| x + 1)],
         Name::Derivative => vec![length(0).max(2) - 1],
         Name::Divide => vec![(length(0) + 1).saturating_sub(length(1)), length(1) - 1],
+        Name::DivideOrdinary => vec![length(0); 2],
         Name::Gcd | Name::ReadList | Name::GcdOfAlbum => vec![MAX_WORDS],
         Name::Contents => vec![2 * album::MAX_LISTS],
         Name::Cofactors => {
@@ -118,6 +119,9 @@ pub fn outcome(call: &PublicCall) -> Result<Done, u8> {
         Name::Derivative => model::derivative(&lists[0], room(0)).map(one),
         Name::Evaluate => model::evaluate(&lists[0], word(0)).map(Done::value),
         Name::Divide => model::divide(&lists[0], &lists[1], room(0), room(1)).map(|(q, r)| Done::results([q, r])),
+        Name::DivideOrdinary => {
+            model::divide_ordinary(&lists[0], &lists[1], room(0), room(1)).map(|(q, r)| Done::results([q, r]))
+        }
         Name::Gcd => model::gcd(&lists[0], &lists[1], room(0)).map(Done::gcd),
         Name::Cofactors => model::cofactors(&lists[0], &lists[1], room(0), room(1), room(2)).map(|(gcd, a, b)| {
             let mut done = Done::gcd(gcd);
@@ -141,7 +145,7 @@ pub fn outcome(call: &PublicCall) -> Result<Done, u8> {
     }
 }
 
-/// The answer that document 01 gives. Values are written where their slice has room for exactly them, and so is a body; an album
+/// The answer that the call has to give. Values are written where their slice has room for exactly them, and so is a body; an album
 /// is written to the front of its target.
 pub fn expected(call: &PublicCall) -> Answer {
     let mut memory = call.memory.clone();
@@ -171,6 +175,7 @@ pub fn fault(call: &PublicCall, answer: &Answer) -> Option<String> {
     }
     match call.name {
         Name::Cofactors if answer.returned == 0 => cofactor_fault(&answer.memory),
+        Name::DivideOrdinary if answer.returned == 0 => ordinary_fault(&answer.memory),
         Name::WriteAlbum if answer.returned == 0 => read_back_fault(&answer.memory),
         _ => None,
     }
@@ -206,6 +211,20 @@ pub fn cofactor_fault(memory: &Memory) -> Option<String> {
     let left = plus(&times(&of_list(&a), &of_list(&f)), &times(&of_list(&b), &of_list(&g)));
     let right = times(&one_minus_t(m - w), &of_list(&h[..=w]));
     if left == right { None } else { Some("a f + b g is not (1-t)^(m-w) h".into()) }
+}
+
+/// Order 2's sentence on ordinary division, between polynomials in t: g = q f + r, r is 0 or has a smaller degree than f, and q and
+/// r are as long as g.
+pub fn ordinary_fault(memory: &Memory) -> Option<String> {
+    let ([g, f], [q, r]) = (&memory.lists[..], &memory.results[..]) else { panic!("two lists and two results") };
+    if q.len() != g.len() || r.len() != g.len() {
+        return Some("q or r is not as long as g".into());
+    }
+    let [g, f, q, r] = [g, f, q, r].map(|words| of_list(&list(words)));
+    if g != plus(&times(&q, &f), &r) {
+        return Some("g is not q f + r".into());
+    }
+    if r.len() < f.len() { None } else { Some("the degree in t of r is not smaller than that of f".into()) }
 }
 
 /// The number of bytes of the album that a call writes.

@@ -5,7 +5,7 @@ use crate::calls::{Memory, Name, PublicCall};
 use crate::engine::{Call, Operation};
 use crate::field::P;
 use crate::model::{List, MAX_WORDS, multiply};
-use crate::poly;
+use crate::poly::{self, Poly};
 use crate::public;
 
 /// The generator splitmix64.
@@ -39,14 +39,19 @@ impl Random {
         P + self.below(15) as u32
     }
 
-    /// A list of 1 to 256 words, mostly few.
-    fn any_list(&mut self) -> List {
-        let length = match self.below(20) {
+    /// A number of words from 1 to 256, mostly small.
+    fn length(&mut self) -> usize {
+        match self.below(20) {
             0..=11 => 1 + self.below(8),
             12..=16 => 1 + self.below(40),
             17 | 18 => 1 + self.below(MAX_WORDS),
             _ => MAX_WORDS - self.below(2),
-        };
+        }
+    }
+
+    /// A list of 1 to 256 words, mostly few.
+    fn any_list(&mut self) -> List {
+        let length = self.length();
         self.list(length)
     }
 
@@ -107,6 +112,61 @@ impl Random {
         };
         if self.percent(50) {
             pair.reverse();
+        }
+        pair
+    }
+
+    /// A polynomial of this degree in t, often with factors 1-t.
+    fn of_degree(&mut self, degree: usize) -> Poly {
+        let power = if self.percent(30) { self.below(degree + 1) } else { 0 };
+        let mut rest: Poly = (0..degree - power).map(|_| self.word()).collect();
+        rest.push(self.nonzero());
+        poly::times(&poly::one_minus_t(power), &rest)
+    }
+
+    /// A list of so many words whose degree in t is often smaller than its naive degree, down to a raised constant's.
+    pub fn raised_list(&mut self, length: usize) -> List {
+        let degree = match self.below(8) {
+            0 => 0,
+            1..=3 => self.below(length.min(6)),
+            4 | 5 => self.below(length),
+            _ => length - 1,
+        };
+        poly::to_list(&self.of_degree(degree), length - 1)
+    }
+
+    /// A dividend made from a divisor, a quotient and in one case of two a remainder, and that divisor; each at some naive degree.
+    fn divisible(&mut self) -> [List; 2] {
+        let [d, e] = [(); 2].map(|()| (self.length() - 1) / 2);
+        let (f, quotient) = (self.of_degree(d), self.of_degree(e));
+        let below = self.below(d.max(1));
+        let rest = if d == 0 || self.percent(50) { vec![] } else { self.of_degree(below) };
+        let g = poly::plus(&poly::times(&quotient, &f), &rest);
+        [g, f].map(|p| {
+            let more = [0, self.below(6), self.below(MAX_WORDS)][self.below(3)];
+            poly::to_list(&p, (p.len() - 1 + more).min(MAX_WORDS - 1))
+        })
+    }
+
+    /// Two lists of these lengths, their degrees in t drawn apart.
+    pub fn raised_pair(&mut self, lengths: [usize; 2]) -> [List; 2] {
+        lengths.map(|length| self.raised_list(length))
+    }
+
+    /// A dividend and a divisor for a division in the usual sense; either may be zero, and either the longer one.
+    fn ordinary_pair(&mut self) -> [List; 2] {
+        let mut pair = match self.below(10) {
+            0..=2 => self.pair(),
+            3..=6 => {
+                let lengths = [self.length(), self.length()];
+                self.raised_pair(lengths)
+            }
+            _ => self.divisible(),
+        };
+        for list in &mut pair {
+            if self.percent(10) {
+                list.fill(0);
+            }
         }
         pair
     }
@@ -211,6 +271,7 @@ impl Random {
             Name::Product => lists = self.fair_pair(Operation::Product).to_vec(),
             Name::Sum | Name::Difference => lists = self.pair().to_vec(),
             Name::Divide => lists = self.fair_pair(Operation::Division).to_vec(),
+            Name::DivideOrdinary => lists = self.ordinary_pair().to_vec(),
             Name::Gcd | Name::Cofactors => lists = self.fair_pair(Operation::Gcd).to_vec(),
             Name::FindExtent | Name::Trim | Name::Derivative => lists = vec![self.any_list()],
             Name::Raise => {

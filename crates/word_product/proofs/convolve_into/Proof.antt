@@ -3,8 +3,8 @@
 use mathlib.Core.Path.{refl}
 use Prim.Native.Nat.{_+_, _*_}
 use Rattle.refusal.specs.Limits.{maxWords}
+use Rattle.lists.proofs.Words.{zeros-are}
 use borrow.Author.Needs.{needs}
-use Rattle.word_product.proofs.Sums.{zeros-are}
 use Rattle.word_product.proofs.convolve_into.Statement.{statement}
 use Rattle.word_product.proofs.convolve_into.Tie as tie
 

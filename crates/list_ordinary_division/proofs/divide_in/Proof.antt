@@ -1,0 +1,78 @@
+-- `list_ordinary_division::divide_in` meets its contract: the powers of t, a round on them, and back.
+-- Assumes nothing.
+use mathlib.Core.Path.{refl}
+use native.Mathlib.Omega.{arith}
+use Rattle.field.specs.Fields.{fieldAt}
+use Rattle.field.proofs.Fields.{p-at, longest-in}
+use Rattle.list_ordinary_division.proofs.Forms.{quotient-is, remainder-is}
+use borrow.Author.Needs.{needs}
+use Rattle.list_ordinary_division.proofs.divide_in.Statement.{statement}
+use Rattle.list_ordinary_division.proofs.divide_in.Tie as tie
+
+place-requires : tie.Need-place-requires
+place-requires c κs = search needs
+
+place-requires-2 : tie.Need-place-requires-2
+place-requires-2 c κs = search needs
+
+shorten-requires : tie.Need-shorten-requires
+shorten-requires c κs = search needs
+
+write-back-requires : tie.Need-write-back-requires
+write-back-requires c κs =
+    let s = c .before .before .before .before .before .before .before .before .before .before .before .before .before .before .before .before .before .before .before .before .before .before .before .before .before .before .before .before in
+    let fits = s .pre .1 .0 in
+    let buffers = s .pre .1 .1 in
+    omega (arith, fits .quotient-words, buffers .long-dividend, buffers .equal-k, c .before .before .before .before .before .before .shorten .kept .1 .1 .1 .1 .1 .1 .0)
+
+write-back-requires-2 : tie.Need-write-back-requires-2
+write-back-requires-2 c κs =
+    let s = c .before .before .before .before .before .before .before .before .before .before .before .before .before .before .before .before .before .before .before .before .before .before .before .before .before .before .before .before .before .before .before .before .before .before .before in
+    let fits = s .pre .1 .0 in
+    let buffers = s .pre .1 .1 in
+    omega (arith, fits .remainder-words, buffers .long-dividend, c .before .before .before .before .before .before .before .before .before .before .before .before .before .before .before .before .before .before .before .before .before .before .before .place .kept .1 .1 .1 .1 .0, c .before .before .before .before .before .before .before .before .before .before .before .before .before .shorten .kept .1 .1 .0)
+
+same-length : tie.Need-same-length
+same-length c = search needs
+
+same-length-2 : tie.Need-same-length-2
+same-length-2 c = search needs
+
+same-length-3 : tie.Need-same-length-3
+same-length-3 c = search needs
+
+same-length-4 : tie.Need-same-length-4
+same-length-4 c = search needs
+
+same-length-5 : tie.Need-same-length-5
+same-length-5 c = search needs
+
+returns : tie.Need-returns
+returns c =
+    let s = c .before .before .before .before .before .before .before .before .before .before .before .before .before .before .before .before .before .before .before .before .before .before .before .before .before .before .before .before .before .before .before .before .before .before .before .before .before .before .before .before in
+    let a = s .args in
+    let tables = s .pre .0 in
+    let fits = s .pre .1 .0 in
+    let buffers = s .pre .1 .1 in
+    let x = c .before .before .before .before .before .before .before .before .before .before .before .before .before .before .before .before .before .before .before .before .before .before .before .before .before .before .before .before .place .ensures in
+    let y = c .before .before .before .before .before .before .before .before .before .before .before .before .before .before .before .before .before .before .before .before .before .before .before .before .place2 .ensures in
+    let parts = c .before .before .before .before .before .before .before .before .before .before .before .before .before .before .before .before .before .before .shorten .ensures in (
+      quotient-is (fieldAt _) (p-at _) _ (longest-in _) _ _ tables _ _ _ _ _ _ _ fits buffers x y _ refl (parts .1 .1 .1) (c .before .before .before .before .before .before .before .before .before .before .before .write-back .ensures),
+      remainder-is (fieldAt _) (p-at _) _ (longest-in _) _ _ tables _ _ _ _ _ _ _ fits buffers x y _ refl (parts .1 .1 .0) (c .before .before .before .before .write-back2 .ensures),
+    )
+
+pub divide-in-spec : {M : Type 1} → statement M
+divide-in-spec =
+    tie.close
+    (tie.spec
+    place-requires
+    place-requires-2
+    shorten-requires
+    write-back-requires
+    write-back-requires-2
+    same-length
+    same-length-2
+    same-length-3
+    same-length-4
+    same-length-5
+    returns)

@@ -13,10 +13,11 @@ use lib.ListN.{getD, length, set, take, drop, length-append, length-drop, length
 use lib.Seq.{drop-at, take-take, take-add, take-append-add, take-set-le, getD-take, getD-drop, getD-append-add, getD-set-same, getD-set-other, length-take-le}
 use Rattle.algebra.specs.PrimeField.{PrimeField}
 use Rattle.lists.specs.Lists.{scaled}
+use Rattle.lists.proofs.Parts.{getD-zeros, getD-part}
 use Rattle.field_tables.specs.Factorials.{Tables}
 use Rattle.word_scaling.specs.Scaling.{weighFits, weighted}
 use Rattle.list_gcd.specs.Internal.{Holds}
-use Rattle.list_gcd.proofs.Buffers.{getD-zeros, length-part, getD-part, holds-scaled}
+use Rattle.list_gcd.proofs.Buffers.{length-part, holds-scaled}
 use Rattle.list_cofactors.specs.Internal.{ZeroRows, partX, Started}
 use Rattle.list_cofactors.proofs.Parts.{length-partX}
 

@@ -3,11 +3,10 @@
 use mathlib.Core.Path.{_≡_, sym, _∙_, ap}
 use mathlib.Core.Bool.{cond}
 use mathlib.Core.List.{List, _++_}
-use Prim.Native.Nat.{ℕ, _≤_, _<_}
-use native.Mathlib.Decide.{decLt}
+use Prim.Native.Nat.{ℕ, _≤_}
 use native.Mathlib.Omega.{arith}
-use lib.ListN.{getD, length, take, drop, replicate, length-append, length-take, length-drop, length-replicate, getD-replicate, List·getD-eq-default}
-use lib.Seq.{getD-drop, getD-take}
+use lib.ListN.{getD, length, take, drop, replicate, length-append, length-take, length-drop, length-replicate}
+use lib.Seq.{getD-drop}
 use Rattle.algebra.specs.Ring.{CommRing}
 use Rattle.algebra.proofs.Series.{ext}
 use Rattle.algebra.specs.PrimeField.{PrimeField, residue}
@@ -18,26 +17,11 @@ use Rattle.field_tables.specs.Factorials.{Tables}
 use Rattle.word_scaling.specs.Scaling.{weighFits, weighted}
 use Rattle.word_scaling.proofs.Weights.{scale-is}
 use Rattle.list_gcd.specs.Internal.{Zeros, Holds}
-use Rattle.lists.proofs.Parts.{getD-then-zeros}
-
--- an array of zeros
-pub getD-zeros : (n k : ℕ) → getD {A = ℕ} (replicate n 0) k 0 ≡ 0
-getD-zeros n k = go (decLt k n)
-  where
-    go : Dec (k < n) → getD {A = ℕ} (replicate n 0) k 0 ≡ 0
-    go (yes l) = getD-replicate n k 0 0 l
-    go (no l) = let e = length-replicate {A = ℕ} n 0 in List·getD-eq-default (replicate n 0) 0 (omega arith)
+use Rattle.lists.proofs.Parts.{getD-zeros, getD-part, getD-then-zeros}
 
 -- the first n words of a list
 pub length-part : (x : List ℕ) {m : ℕ} (n : ℕ) → length x ≡ m → n ≤ m → length (take n x) ≡ n
 length-part x n e l = simp length-take (omega arith)
-
-pub getD-part : (x : List ℕ) (n : ℕ) → ((k : ℕ) → getD x k 0 ≡ 0) → (k : ℕ) → getD (take n x) k 0 ≡ 0
-getD-part x n h k = go (decLt k n)
-  where
-    go : Dec (k < n) → getD (take n x) k 0 ≡ 0
-    go (yes l) = getD-take n x k 0 l ∙ h k
-    go (no l) = List·getD-eq-default (take n x) 0 {n = k} (simp length-take (omega arith))
 
 -- three arrays of zeros, and as much of them as is lent
 pub zeros-arrays : (n : ℕ) → Zeros n (replicate n 0) (replicate n 0) (replicate n 0)

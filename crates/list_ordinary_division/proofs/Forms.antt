@@ -1,6 +1,5 @@
 -- Division by powers of t: what the functions on words leave in the slices is the quotient and the remainder of the lists, for every prime
 -- field F.
---     zero-part                      the first words of a buffer of 0
 --     quotient-is, remainder-is      what is written to q and to r
 -- Assumes nothing.
 use mathlib.Core.Path.{_≡_, refl, sym, _∙_, ap, ap₂, subst}
@@ -38,13 +37,6 @@ use Rattle.ordinary_theory.proofs.Ordinary.{some-size, below-quotient, below-re
 use Rattle.list_powers.specs.Powers.{powersInto}
 use Rattle.list_powers.proofs.Powers.{powers-are, list-is}
 use Rattle.list_ordinary_division.specs.Internal.{OrdinaryFits, Buffers}
-
-pub zero-part : (n : ℕ) {l : List ℕ} → ZeroFrom 0 l → ZeroFrom 0 (take n l)
-zero-part n {l} z = record { at = λ k h. go k (decLt k n) }
-  where
-    go : (k : ℕ) → Dec (k < n) → getD (take n l) k 0 ≡ 0
-    go k (yes h) = getD-take n l k 0 h ∙ z .at k (omega arith)
-    go k (no h) = List·getD-eq-default (take n l) 0 (simp length-take (omega arith))
 
 zero-rest : (n : ℕ) {l : List ℕ} → ZeroFrom 0 l → (k : ℕ) → getD (drop n l) k 0 ≡ 0
 zero-rest n {l} z k = getD-drop n l k 0 ∙ z .at (n + k) (omega arith)

@@ -2,18 +2,18 @@
 --     scaledWords c     the coefficients of a list's scaled form, as words
 --     Carries buf s     the words are below p, and word k stands for coefficient k of the series
 -- Theorems:
---     zeros-are                                a list of zeros is 0 throughout
+--     zeros-are, zero-part                     an array of zeros is 0 throughout, and so is its front
 --     value-is                                 a word below p is the one that stands for its element
 --     seriesOf-carries, carries-seriesOf       words carry the series that they stand for, and no other
 --     seriesOf-scaledWords, carries-scaled     the words of a scaled form stand for it
 --     carries-zero, carries-nonzero            a coefficient is 0 where its word is, and only there
 -- Assumes nothing.
-use mathlib.Core.Path.{_≡_, refl, sym, _∙_, ap}
+use mathlib.Core.Path.{_≡_, sym, _∙_, ap}
 use mathlib.Core.List.{List}
-use Prim.Native.Nat.{ℕ, zero, suc, _≤_, _<_}
+use Prim.Native.Nat.{ℕ, _≤_, _<_}
 use native.Mathlib.Decide.{decLt}
 use native.Mathlib.Omega.{arith}
-use lib.ListN.{getD, length, replicate, List·getD-eq-default}
+use lib.ListN.{getD, length, take, replicate, List·getD-eq-default}
 use Rattle.algebra.specs.Ring.{CommRing}
 use Rattle.algebra.proofs.Series.{coeff-mk, ext}
 use Rattle.algebra.specs.Polynomial.{Below}
@@ -22,6 +22,7 @@ use Rattle.algebra.proofs.PrimeField.{residue-value, value-residue, value-lt, r
 use Rattle.lists.specs.Tabulate.{tabulate}
 use Rattle.lists.proofs.Tabulate.{length-tabulate, getD-tabulate}
 use Rattle.lists.specs.Lists.{scaledCoefficient, scaled}
+use Rattle.lists.proofs.Parts.{getD-zeros, getD-part}
 use Rattle.lists.proofs.Scaled.{coeff-scaled, below-scaled}
 use Rattle.lists.specs.Words.{ZeroFrom, seriesOf}
 
@@ -29,12 +30,10 @@ pub zero-later : {n m : ℕ} {buf : List ℕ} → n ≤ m → ZeroFrom n buf →
 zero-later l z = record { at = λ k h. z .at k (omega arith) }
 
 pub zeros-are : (n : ℕ) → ZeroFrom 0 (replicate n 0)
-zeros-are n = record { at = λ k l. go n k }
-  where
-    go : (n k : ℕ) → _≡_ {A = ℕ} (getD (replicate n 0) k 0) 0
-    go zero k = refl
-    go (suc n) zero = refl
-    go (suc n) (suc k) = go n k
+zeros-are n = record { at = λ k l. getD-zeros n k }
+
+pub zero-part : (n : ℕ) {buf : List ℕ} → ZeroFrom 0 buf → ZeroFrom 0 (take n buf)
+zero-part n {buf} z = record { at = λ k l. getD-part buf n (λ j. z .at j (omega arith)) k }
 
 module _ (F : PrimeField) where
   open CommRing (scalars F) using (Carrier as K, zero as 𝟘)

@@ -6,7 +6,8 @@ use native.Mathlib.Omega.{arith}
 use lib.ListN.{length-take}
 use Rattle.refusal.specs.Limits.{maxWords}
 use Rattle.field.proofs.Fields.{longest-room}
-use Rattle.list_gcd.proofs.Buffers.{length-part, getD-part}
+use Rattle.lists.proofs.Parts.{getD-part}
+use Rattle.list_gcd.proofs.Buffers.{length-part}
 use borrow.Author.Needs.{needs}
 use Rattle.album_gcd.proofs.gcd_between.Statement.{statement}
 use Rattle.album_gcd.proofs.gcd_between.Tie as tie

@@ -2,7 +2,7 @@
 -- Assumes nothing.
 use mathlib.Core.Path.{refl}
 use Rattle.refusal.specs.Limits.{maxWords}
-use Rattle.list_gcd.proofs.Buffers.{getD-zeros}
+use Rattle.lists.proofs.Parts.{getD-zeros}
 use borrow.Author.Needs.{needs}
 use Rattle.album_gcd.proofs.gcd_into.Statement.{statement}
 use Rattle.album_gcd.proofs.gcd_into.Tie as tie

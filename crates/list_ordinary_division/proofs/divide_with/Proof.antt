@@ -6,9 +6,8 @@ use native.Mathlib.Omega.{arith}
 use lib.ListN.{replicate}
 use Rattle.refusal.specs.Limits.{maxWords}
 use Rattle.field.proofs.Fields.{longest-room}
-use Rattle.lists.proofs.Words.{zeros-are}
+use Rattle.lists.proofs.Words.{zeros-are, zero-part}
 use Rattle.lists.proofs.Parts.{prefix-length}
-use Rattle.list_ordinary_division.proofs.Forms.{zero-part}
 use borrow.Author.Needs.{needs}
 use Rattle.list_ordinary_division.proofs.divide_with.Statement.{statement}
 use Rattle.list_ordinary_division.proofs.divide_with.Tie as tie

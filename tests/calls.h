@@ -24,6 +24,10 @@ uint8_t test_difference(const uint16_t *f, size_t f_len, const uint16_t *g, size
 
 /* answer: the extent. A zero list has none: the call completes with no values. */
 uint8_t test_find_extent(const uint16_t *f, size_t f_len, size_t *answer, size_t answer_len);
+
+/* The same call. answer: how many words its search read. */
+uint8_t test_searched(const uint16_t *f, size_t f_len, size_t *answer, size_t answer_len);
+
 uint8_t test_trim(const uint16_t *f, size_t f_len, uint16_t *out, size_t out_len);
 uint8_t test_derivative(const uint16_t *f, size_t f_len, uint16_t *out, size_t out_len);
 

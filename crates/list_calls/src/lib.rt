@@ -9,7 +9,7 @@ ghost use Rattle.refusal.specs.Limits.{maxWords};
 ghost use Rattle.refusal.specs.Refusal.{outcomeReply};
 ghost use Rattle.list_product.specs.Calls.{productRows, productAnswer, productWritten, raiseRows, raiseAnswer, raiseWritten};
 ghost use Rattle.list_sum.specs.Calls.{sumRows, sumAnswer, sumWritten, differenceWritten};
-ghost use Rattle.list_extent.specs.Calls.{extentReply, extentRows, extentAnswer, trimRows, trimAnswer, trimWritten};
+ghost use Rattle.list_extent.specs.Calls.{extentReply, searchedReply, extentRows, extentAnswer, searchedAnswer, trimRows, trimAnswer, trimWritten};
 ghost use Rattle.list_derivative.specs.Calls.{derivativeRows, derivativeAnswer, derivativeWritten};
 ghost use Rattle.list_value.specs.Calls.{evaluateRows, evaluateAnswer};
 ghost use Rattle.list_division.specs.Calls.{divideRows, divideAnswer, quotientWritten, remainderWritten, DividesSo};
@@ -66,9 +66,10 @@ pub fn difference(f: &[u16], g: &[u16], out: &mut [u16]) -> Outcome
     list_sum::difference_over(0, f, g, out)
 }
 
-// The extent of f.
+// The extent of f, and how many words the search for it read.
 pub fn find_extent(f: &[u16]) -> Found
     ensures answer { λ r. ⌜ extentReply r ≡ extentAnswer 0 (given f) ⌝ }
+    ensures read { λ r. ⌜ searchedReply r ≡ searchedAnswer 0 (given f) ⌝ }
     ensures demand1 { λ r. ⌜ Demand1 (extentRows p maxWords (given f)) (extentReply r .number) [] ⌝ }
     ensures demand2 { λ r. ⌜ ExtentSo (given f) (extentReply r) ⌝ }
 {

@@ -13,28 +13,33 @@ use Rattle.refusal.specs.declared.Refusal.{Refusal}
 use Rattle.refusal.specs.declared.Refusal.the-variants.{AllZero, Misfit}
 use Rattle.refusal.specs.declared.Outcome.the-variants.{Done, Refused}
 use Rattle.refusal.proofs.First.{refuse, or-else, first-then, refuse-done, or-else-done}
-use Rattle.lists.specs.Degrees.{significant, extent}
+use Rattle.lists.specs.Degrees.{significant, extent, searched}
 use Rattle.lists.specs.Refused.{listRefusals}
 use Rattle.lists.proofs.Judged.{one-listed}
-use Rattle.list_extent.specs.Calls.{extentReply, extentValues, extentRows, trimRows}
+use Rattle.list_extent.specs.Calls.{extentReply, searchedReply, extentValues, extentRows, trimRows}
 use Rattle.list_extent.specs.Internal.{TrimFits}
+use Rattle.list_extent.specs.declared.Found.{Found}
 use Rattle.list_extent.specs.declared.Found.the-variants as found
 
 module _ (p most : ℕ) (f : List ℕ) where
-  pub extent-refused : {why : Refusal} → lowest (listRefusals p most (f ∷ [])) ≡ Refused why
-      → extentReply (found.Refused why) ≡ reply (lowest (extentRows p most f)) (extentValues f)
+  -- both replies of an answer are those of the list
+  abbrev Answers : Found → Type 0
+  Answers r =
+      (extentReply r ≡ reply (lowest (extentRows p most f)) (extentValues f))
+      × (searchedReply r ≡ reply (lowest (extentRows p most f)) (searched f ∷ []))
+
+  pub extent-refused : {why : Refusal} → lowest (listRefusals p most (f ∷ [])) ≡ Refused why → Answers (found.Refused why)
   unfolding extentRows
-  extent-refused e = simp e
+  extent-refused e = (simp e, simp e)
 
-  pub extent-zero : lowest (listRefusals p most (f ∷ [])) ≡ Done → significant f ≡ 0
-      → extentReply found.Zero ≡ reply (lowest (extentRows p most f)) (extentValues f)
-  unfolding extentRows extentValues
-  extent-zero e z = simp (e, eq-eqb (significant f) 0 z)
+  module _ {n r : ℕ} (e : lowest (listRefusals p most (f ∷ [])) ≡ Done) (w : n ≡ significant f) (s : r ≡ searched f) where
+    pub extent-zero : n ≡ 0 → Answers (found.Zero (record { 0 = r }))
+    unfolding extentRows extentValues
+    extent-zero z = (simp (e, eq-eqb (significant f) 0 (sym w ∙ z)), simp (e, s))
 
-  pub extent-found : {n : ℕ} → lowest (listRefusals p most (f ∷ [])) ≡ Done → n ≡ significant f → ¬ (n ≡ 0)
-      → extentReply (found.At (record { 0 = n - 1 })) ≡ reply (lowest (extentRows p most f)) (extentValues f)
-  unfolding extentRows extentValues extent
-  extent-found {n} e s h = simp (e, ne-eqb (significant f) 0 (λ z. h (s ∙ z)), s)
+    pub extent-found : ¬ (n ≡ 0) → Answers (found.At (record { 0 = n - 1 }) (record { 0 = r }))
+    unfolding extentRows extentValues extent
+    extent-found h = (simp (e, ne-eqb (significant f) 0 (λ z. h (w ∙ z)), w), simp (e, s))
 
 module _ (p most : ℕ) (f out : List ℕ) where
   trim-judged : lowest (trimRows p most f out)

@@ -7,32 +7,36 @@ ghost use Rattle.refusal.specs.Refusal.{outcomeReply};
 ghost use Rattle.refusal.specs.Lowest.{lowest};
 ghost use Rattle.lists.specs.Operations as of;
 ghost use Rattle.field_tables.specs.Factorials.{Tables};
-ghost use Rattle.list_extent.specs.Calls.{extentReply, trimRows, extentAnswer, trimAnswer, trimWritten};
+ghost use Rattle.list_extent.specs.Calls.{extentReply, searchedReply, trimRows, extentAnswer, searchedAnswer, trimAnswer, trimWritten};
 ghost use Rattle.list_extent.specs.Internal.{TrimFits};
 use lists::Extent;
 use refusal::Outcome;
 use refusal::Refusal;
 
-// The answer of a search for the extent: a zero list has none.
+// The number of words that a search has read.
+pub struct Searched(pub usize);
+
+// The answer of a search for the extent, with how many words it read: a zero list has no extent.
 pub enum Found {
-    At(Extent),
-    Zero,
+    At(Extent, Searched),
+    Zero(Searched),
     Refused(Refusal),
 }
 
 // The same over a field.
 pub fn extent_over(field: u8, f: &[u16]) -> Found
     ensures answer { λ r. ⌜ extentReply r ≡ extentAnswer field (given f) ⌝ }
+    ensures read { λ r. ⌜ searchedReply r ≡ searchedAnswer field (given f) ⌝ }
 {
     if let Outcome::Refused(why) = lists::judge_list(field, f) {
         return Found::Refused(why);
     }
-    let n = lists::significant_words(f);
-    if n == 0 {
-        return Found::Zero;
+    let search = lists::search_from_top(f);
+    if search.words == 0 {
+        return Found::Zero(Searched(search.read));
     }
-    let top = n - 1;
-    Found::At(Extent(top))
+    let top = search.words - 1;
+    Found::At(Extent(top), Searched(search.read))
 }
 
 // The same over a field.

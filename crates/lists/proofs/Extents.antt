@@ -5,12 +5,13 @@
 -- Theorems:
 --     extent-largest          the extent is the largest k whose word is not 0
 --     power-exact             the power is the exact number of factors 1-t of the meaning
+--     extent-searched         the words from c_extent on are as many as the search reads
 --     significant-is-size     the number of significant words is the size of the scaled form
 -- Assumes nothing.
 use mathlib.Core.Path.{_≡_, refl, sym, _∙_, ap}
 use mathlib.Core.Bool.{cond}
 use mathlib.Core.List.{List}
-use Prim.Native.Nat.{ℕ, zero, suc, _-_, _≤_, _<_}
+use Prim.Native.Nat.{ℕ, zero, suc, _+_, _-_, _≤_, _<_}
 use native.Mathlib.Nat as N
 use native.Mathlib.Decide.{decLt, ℕ-discrete}
 use native.Mathlib.Omega.{arith}
@@ -25,7 +26,7 @@ use Rattle.algebra.proofs.Homogenise.{hom-strip, valueAt1-hom}
 use Rattle.algebra.specs.Degree.{Degree, size}
 use Rattle.algebra.proofs.Degree.{size-0, size-yes, size-no, size-below, size-extent, size-least, size-same}
 use Rattle.algebra.specs.PrimeField.{PrimeField, scalars, scalarField}
-use Rattle.lists.specs.Degrees.{naiveDegree, significantIn, significant, extent, power}
+use Rattle.lists.specs.Degrees.{naiveDegree, significantIn, significant, extent, power, searched}
 use Rattle.lists.specs.Lists.{Coefficients, meaning, scaled}
 use Rattle.lists.proofs.Scaled.{coefficient-zero, coefficient-nonzero, coeff-scaled, below-scaled, meaning-hom}
 
@@ -96,6 +97,21 @@ extent-largest c l = (
   unfold extent significant in significantIn-last (length c) c .last l,
   λ k j. after-significant c k (let e = significant-extent c l in omega arith),
 )
+
+-- how many words the search reads
+pub searched-zero : (c : List ℕ) → significant c ≡ 0 → searched c ≡ length c
+unfolding searched
+searched-zero c e = simp (eq-eqb (significant c) 0 e)
+
+searched-some : (c : List ℕ) → ¬ (significant c ≡ 0) → searched c ≡ suc (power c)
+unfolding searched
+searched-some c h = simp (ne-eqb (significant c) 0 h)
+
+pub extent-searched : (c : List ℕ) → 0 < significant c → extent c + searched c ≡ length c
+extent-searched c l = let few = significant-le c in omega (arith, significant-extent c l, searched-some c some, power-is c some)
+  where
+    some : ¬ (significant c ≡ 0)
+    some e = omega arith
 
 module _ (F : PrimeField) where
   open CommRing (scalars F) using (zero as 𝟘)

@@ -1,18 +1,19 @@
 -- Searches in a list, one word on.
 --     none-loose, tight                                      no loose word is found where each word is below p, and only there
 --     significant-here, significant-on, significant-none     the search from the top for the last word that is not 0
+--     searched-here                                          how many words it has read where it ends at one that is not 0
 -- Assumes nothing.
-use mathlib.Core.Path.{_≡_, refl, sym, ap, _∙_}
+use mathlib.Core.Path.{_≡_, refl, sym, ap, _∙_, subst}
 use mathlib.Core.Bool.{false}
 use mathlib.Core.List.{List, [], _∷_}
-use Prim.Native.Nat.{ℕ, zero, suc, _-_, _<_}
+use Prim.Native.Nat.{ℕ, zero, suc, _+_, _-_, _<_}
 use native.Mathlib.Omega.{arith}
 use lib.Dec.{leb}
-use lib.ListN.{getD}
+use lib.ListN.{getD, length}
 use borrow.Author.Tests.{leb-false, lt-leb}
 use Rattle.refusal.proofs.First.{or-false}
-use Rattle.lists.specs.Degrees.{significantIn}
-use Rattle.lists.proofs.Extents.{significantIn-none, significantIn-zero, significantIn-nonzero}
+use Rattle.lists.specs.Degrees.{significantIn, significant, searched}
+use Rattle.lists.proofs.Extents.{significantIn-none, significantIn-zero, significantIn-nonzero, significant-extent, extent-searched}
 use Rattle.lists.specs.Refused.{hasLoose}
 
 module _ (p : ℕ) where
@@ -42,3 +43,11 @@ significant-on c (suc n) l h =
 
 pub significant-none : (c : List ℕ) (n : ℕ) → n ≡ 0 → significantIn n c ≡ 0
 significant-none c n e = ap (λ k. significantIn k c) e ∙ significantIn-none c
+
+-- r words are above the last one that is not 0, which is read too
+pub searched-here : (c : List ℕ) (n r : ℕ) → significant c ≡ n → 0 < n → r + n ≡ length c → r + 1 ≡ searched c
+searched-here c n r e l q =
+    let some = subst (λ m. 0 < m) (sym e) l in
+    let read = extent-searched c some in
+    let top = significant-extent c some in
+    omega arith

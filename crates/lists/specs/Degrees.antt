@@ -4,9 +4,11 @@
 --     significant c         the same among all: the extent plus 1, and 0 for a zero list
 --     extent c              document 01's extent of a list that is not zero: the largest k with c_k not 0
 --     power c               document 01's power of a list that is not zero: n minus the extent
+--     searched c            order 3: how many words the search for the extent reads: the power plus 1, or all n+1 of a zero list
 -- Theorems (proofs/Extents):
 --     extent-largest          the extent is the largest k whose word is not 0
 --     power-exact             the power is the exact number of factors 1-t of the meaning
+--     extent-searched         the words from c_extent on are as many as the search reads
 --     significant-is-size     the number of significant words is the size of the scaled form
 -- Assumes nothing.
 use mathlib.Core.Bool.{cond}
@@ -31,3 +33,6 @@ extent c = significant c - 1
 
 unfoldable pub power : List ℕ → ℕ
 power c = naiveDegree c - extent c
+
+unfoldable pub searched : List ℕ → ℕ
+searched c = cond (eqb (significant c) 0) (length c) (suc (power c))

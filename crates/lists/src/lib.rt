@@ -5,7 +5,7 @@ ghost use Prim.Native.Nat.{_-_};
 ghost use Rattle.refusal.specs.Contract.{given};
 ghost use Rattle.refusal.specs.Lowest.{lowest};
 ghost use Rattle.field.specs.Fields.{modulus, longest};
-ghost use Rattle.lists.specs.Degrees.{naiveDegree, significant, extent, power};
+ghost use Rattle.lists.specs.Degrees.{naiveDegree, significant, extent, power, searched};
 ghost use Rattle.lists.specs.Refused.{wrongLength, hasLoose, listRefusals};
 use refusal::Outcome;
 use refusal::Refusal;
@@ -18,6 +18,12 @@ pub struct Extent(pub usize);
 
 // The number of factors 1-t: the naive degree less the extent.
 pub struct Power(pub usize);
+
+// What the search from the top gives: the number of words up to the last one that is not 0, and how many words it has read.
+pub struct TopSearch {
+    pub words: usize,
+    pub read: usize,
+}
 
 // The power by the two counters; 0 where the extent is the larger one, which no list has.
 fn power_of(degree: NaiveDegree, extent: Extent) -> Power
@@ -65,18 +71,29 @@ pub fn has_loose(field: u8, list: &[u16]) -> bool
     field::modulus_of(field) <= largest
 }
 
-// The number of words up to the last one that is not 0, from the top.
-pub fn significant_words(list: &[u16]) -> usize
-    ensures { λ r. ⌜ r ≡ significant (given list) ⌝ }
+// The search for the last word that is not 0: it begins at the last word, ends at the first that is not 0, and counts what it reads.
+pub fn search_from_top(list: &[u16]) -> TopSearch
+    ensures words { λ r. ⌜ r .words ≡ significant (given list) ⌝ }
+    ensures read { λ r. ⌜ r .read ≡ searched (given list) ⌝ }
 {
     let mut n = list.len();
+    let mut read = 0;
     while 0 < n {
-        if list[n - 1] != 0 {
-            return n;
+        let word = list[n - 1];
+        read += 1;
+        if word != 0 {
+            return TopSearch { words: n, read };
         }
         n -= 1;
     }
-    0
+    TopSearch { words: 0, read }
+}
+
+// The number of words up to the last one that is not 0.
+pub fn significant_words(list: &[u16]) -> usize
+    ensures { λ r. ⌜ r ≡ significant (given list) ⌝ }
+{
+    search_from_top(list).words
 }
 
 // The extent of a list; 0 for a zero list, which has none.

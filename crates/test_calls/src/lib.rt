@@ -11,7 +11,7 @@ ghost use Rattle.field.specs.Calls.{wordSumAnswer, wordDifferenceAnswer, wordPr
 ghost use Rattle.field_inverse.specs.Calls.{inverseAnswer};
 ghost use Rattle.list_product.specs.Calls.{productAnswer, productWritten, raiseAnswer, raiseWritten};
 ghost use Rattle.list_sum.specs.Calls.{sumAnswer, sumWritten, differenceWritten};
-ghost use Rattle.list_extent.specs.Calls.{extentReply, extentAnswer, trimAnswer, trimWritten};
+ghost use Rattle.list_extent.specs.Calls.{extentReply, searchedReply, extentAnswer, searchedAnswer, trimAnswer, trimWritten};
 ghost use Rattle.list_derivative.specs.Calls.{derivativeAnswer, derivativeWritten};
 ghost use Rattle.list_value.specs.Calls.{evaluateAnswer};
 ghost use Rattle.list_division.specs.Calls.{divideAnswer, quotientWritten, remainderWritten};
@@ -115,6 +115,15 @@ pub extern "C" fn test_find_extent(f: &[u16], answer: &mut [usize]) -> u8
     ensures values { λ _. ⌜ now (answer .exit) ≡ fitted (extentAnswer 0 (given f) .values) (given answer) ⌝ }
 {
     note_found(list_calls::find_extent(f), answer)
+}
+
+// The same call, and how many words its search read.
+#[no_mangle]
+pub extern "C" fn test_searched(f: &[u16], answer: &mut [usize]) -> u8
+    ensures number { λ r. ⌜ r ≡ searchedAnswer 0 (given f) .number ⌝ }
+    ensures values { λ _. ⌜ now (answer .exit) ≡ fitted (searchedAnswer 0 (given f) .values) (given answer) ⌝ }
+{
+    note_searched(list_calls::find_extent(f), answer)
 }
 
 // A list less its top zeros.
@@ -289,11 +298,28 @@ fn note_found(found: Found, answer: &mut [usize]) -> u8
     ensures values { λ _. ⌜ now (answer .exit) ≡ fitted (extentReply found .values) (given answer) ⌝ }
 {
     match found {
-        Found::At(extent) => {
+        Found::At(extent, _) => {
             note_one(extent.0, answer);
             COMPLETED
         }
-        Found::Zero => COMPLETED,
+        Found::Zero(_) => COMPLETED,
+        Found::Refused(why) => refusal::number_of(why),
+    }
+}
+
+fn note_searched(found: Found, answer: &mut [usize]) -> u8
+    ensures number { λ r. ⌜ r ≡ searchedReply found .number ⌝ }
+    ensures values { λ _. ⌜ now (answer .exit) ≡ fitted (searchedReply found .values) (given answer) ⌝ }
+{
+    match found {
+        Found::At(_, searched) => {
+            note_one(searched.0, answer);
+            COMPLETED
+        }
+        Found::Zero(searched) => {
+            note_one(searched.0, answer);
+            COMPLETED
+        }
         Found::Refused(why) => refusal::number_of(why),
     }
 }

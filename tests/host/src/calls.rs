@@ -13,6 +13,7 @@ pub enum Name {
     Sum,
     Difference,
     FindExtent,
+    Searched,
     Trim,
     Derivative,
     Evaluate,
@@ -29,8 +30,8 @@ pub enum Name {
 }
 
 /// Each call with the numbers that document 01's table and the orders after it can give it, 0 for completed. 11 is not among them:
-/// every word that is not 0 has an inverse.
-pub const CALLS: [(Name, &[u8]); 22] = [
+/// every word that is not 0 has an inverse. The search for the extent is there twice: for the extent, and for the words it read.
+pub const CALLS: [(Name, &[u8]); 23] = [
     (Name::FieldSum, &[0, 5]),
     (Name::FieldDifference, &[0, 5]),
     (Name::FieldProduct, &[0, 5]),
@@ -40,6 +41,7 @@ pub const CALLS: [(Name, &[u8]); 22] = [
     (Name::Sum, &[0, 4, 5, 10]),
     (Name::Difference, &[0, 4, 5, 10]),
     (Name::FindExtent, &[0, 4, 5]),
+    (Name::Searched, &[0, 4, 5]),
     (Name::Trim, &[0, 4, 5, 9, 10]),
     (Name::Derivative, &[0, 4, 5, 10]),
     (Name::Evaluate, &[0, 4, 5]),
@@ -107,6 +109,7 @@ unsafe extern "C" {
     fn test_sum(f: List, f_len: usize, g: List, g_len: usize, out: Slice, out_len: usize) -> u8;
     fn test_difference(f: List, f_len: usize, g: List, g_len: usize, out: Slice, out_len: usize) -> u8;
     fn test_find_extent(f: List, f_len: usize, answer: Values, answer_len: usize) -> u8;
+    fn test_searched(f: List, f_len: usize, answer: Values, answer_len: usize) -> u8;
     fn test_trim(f: List, f_len: usize, out: Slice, out_len: usize) -> u8;
     fn test_derivative(f: List, f_len: usize, out: Slice, out_len: usize) -> u8;
     fn test_evaluate(f: List, f_len: usize, x: u16, answer: Values, answer_len: usize) -> u8;
@@ -223,6 +226,7 @@ fn call_engine(
             }
             Name::Raise => test_raise(list(0).0, list(0).1, number(0), result(0).0, result(0).1),
             Name::FindExtent => test_find_extent(list(0).0, list(0).1, values, room),
+            Name::Searched => test_searched(list(0).0, list(0).1, values, room),
             Name::Trim => test_trim(list(0).0, list(0).1, result(0).0, result(0).1),
             Name::Derivative => test_derivative(list(0).0, list(0).1, result(0).0, result(0).1),
             Name::Evaluate => test_evaluate(list(0).0, list(0).1, word(0), values, room),

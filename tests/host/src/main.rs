@@ -85,6 +85,7 @@ fn main() {
     bind_runs::compare(&mut tally);
     compare_sums(&mut tally);
     compare_edges(&mut tally);
+    compare_searches(&mut tally);
     compare_tables(&mut tally);
     compare_vectors(&mut tally);
     compare_examples(&mut tally);
@@ -340,6 +341,7 @@ fn compare_edges(tally: &mut Tally) {
 /// The same of every public call. None: the call completes, and what it gives is the model's alone.
 fn public_edges() -> Vec<(PublicCall, Option<Result<Done, u8>>)> {
     let ones = |words| vec![1; words];
+    let first_only = [vec![1], vec![0; 255]].concat();
     let of = on_lists;
     let mut refused = vec![
         (of(Name::FieldSum, &[], &[65521, 0]), 5),
@@ -352,6 +354,9 @@ fn public_edges() -> Vec<(PublicCall, Option<Result<Done, u8>>)> {
         (of(Name::Raise, &[&[0, 1]], &[0]), 7),
         (of(Name::Raise, &[&[0, 1]], &[256]), 6),
         (of(Name::Raise, &[&[0, 1]], &[usize::MAX]), 6),
+        (of(Name::Searched, &[&[0; 257]], &[]), 4),
+        (of(Name::Searched, &[&[]], &[]), 4),
+        (of(Name::Searched, &[&[65521, 1]], &[]), 5),
         (of(Name::Trim, &[&[0, 0]], &[]), 9),
         (of(Name::Evaluate, &[&[1, 2]], &[65521]), 5),
         (of(Name::Divide, &[&[1, 1], &[1, 0]], &[]), 8),
@@ -380,6 +385,13 @@ fn public_edges() -> Vec<(PublicCall, Option<Result<Done, u8>>)> {
         (of(Name::Derivative, &[&[7]], &[]), Some(lists_of(&[&[0]]))),
         (of(Name::FindExtent, &[&[0, 5, 0]], &[]), Some(value_of(1))),
         (of(Name::FindExtent, &[&[0, 0, 0]], &[]), Some(lists_of(&[]))),
+        (of(Name::Searched, &[&[0, 5, 0]], &[]), Some(value_of(2))),
+        (of(Name::Searched, &[&[0, 0, 0]], &[]), Some(value_of(3))),
+        (of(Name::Searched, &[&[7]], &[]), Some(value_of(1))),
+        (of(Name::Searched, &[&[0]], &[]), Some(value_of(1))),
+        (of(Name::Searched, &[&ones(256)], &[]), Some(value_of(1))),
+        (of(Name::Searched, &[&first_only], &[]), Some(value_of(256))),
+        (of(Name::Searched, &[&[0; 256]], &[]), Some(value_of(256))),
         (of(Name::Derivative, &[&ones(256)], &[]), None),
         // "longer" goes by the degrees of the scaled forms
         (of(Name::Gcd, &[&[1, 0, 0], &[0, 1]], &[]), Some(gcd_of(Gcd { h: vec![1], c: 0, rounds: 1 }, &[]))),
@@ -395,6 +407,25 @@ fn public_edges() -> Vec<(PublicCall, Option<Result<Done, u8>>)> {
 fn noise(words: usize, seed: u32) -> List {
     let next = |word: &u32| Some((13_849 + 25_173 * u64::from(*word)).rem_euclid(u64::from(field::P)) as u32);
     std::iter::successors(Some(seed), next).take(words).collect()
+}
+
+/// The search for the extent from the last word on: at every extent that lists of some lengths have, and in zero lists, the extent
+/// and how many words are read.
+fn compare_searches(tally: &mut Tally) {
+    let mut lists = 0;
+    for words in [1, 2, 3, 8, 255, MAX_WORDS] {
+        for zeros in 0..=words {
+            let mut list = noise(words - zeros, 1);
+            list.last_mut().into_iter().for_each(|word| *word = (*word).max(1));
+            list.resize(words, 0);
+            let place = format!("{words} words, the last {zeros} of them 0");
+            let (extent, read) = if zeros == words { (lists_of(&[]), words) } else { (value_of(words - zeros - 1), zeros + 1) };
+            compare_printed(tally, &place, &on_lists(Name::FindExtent, &[&list], &[]), extent);
+            compare_printed(tally, &place, &on_lists(Name::Searched, &[&list], &[]), value_of(read));
+            lists += 1;
+        }
+    }
+    println!("the search for the extent: {lists} lists, of six lengths with every extent");
 }
 
 /// Pairs and albums of every kind: zero lists, constants, top zeros, shared factors, the longest lists and the largest album.

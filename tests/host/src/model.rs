@@ -49,6 +49,23 @@ pub fn find_extent(f: &[u32]) -> Result<Option<usize>, u8> {
     Ok(extent(f))
 }
 
+/// How many words the search for the extent reads: the power plus 1, the power being the number of factors 1-t of P(t), or all of a
+/// zero list.
+pub fn searched(f: &[u32]) -> Result<usize, u8> {
+    find_extent(f)?;
+    Ok(if is_zero(f) { f.len() } else { without_factors(poly::of_list(f)).1 + 1 })
+}
+
+/// A polynomial that is not 0 without its factors 1-t, and their number.
+fn without_factors(mut p: Poly) -> (Poly, usize) {
+    let mut factors = 0;
+    while poly::value(&p, 1) == 0 {
+        p = poly::divide(&p, &poly::one_minus_t(1)).0;
+        factors += 1;
+    }
+    (p, factors)
+}
+
 pub fn product(f: &[u32], g: &[u32], out: usize) -> Result<List, u8> {
     let words = f.len() + g.len();
     refuse(&[
@@ -197,11 +214,7 @@ fn common_part(lists: &[&[u32]]) -> (List, usize) {
         at_infinity = at_infinity.min(list.len() - p.len());
         common = poly::gcd(&common, &p);
     }
-    let mut c = 0;
-    while poly::value(&common, 1) == 0 {
-        common = poly::divide(&common, &poly::one_minus_t(1)).0;
-        c += 1;
-    }
+    let (common, c) = without_factors(common);
     let ending_in_1 = poly::scale(&common, field::inverse(poly::value(&common, 1)));
     (poly::to_list(&ending_in_1, common.len() - 1 + at_infinity), c)
 }

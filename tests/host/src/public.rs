@@ -49,7 +49,7 @@ pub fn list(words: &[u16]) -> List {
 pub fn values(name: Name) -> usize {
     match name {
         Name::FieldSum | Name::FieldDifference | Name::FieldProduct | Name::Inverse => 1,
-        Name::FindExtent | Name::Evaluate | Name::ReadList | Name::WriteAlbum => 1,
+        Name::FindExtent | Name::Searched | Name::Evaluate | Name::ReadList | Name::WriteAlbum => 1,
         Name::Gcd | Name::Cofactors | Name::GcdOfAlbum => 3,
         _ => 0,
     }
@@ -115,6 +115,7 @@ pub fn outcome(call: &PublicCall) -> Result<Done, u8> {
         Name::Sum => model::sum(&lists[0], &lists[1], room(0)).map(one),
         Name::Difference => model::difference(&lists[0], &lists[1], room(0)).map(one),
         Name::FindExtent => model::find_extent(&lists[0]).map(|x| Done { values: x.into_iter().collect(), ..Done::default() }),
+        Name::Searched => model::searched(&lists[0]).map(|n| Done { values: vec![n], ..Done::default() }),
         Name::Trim => model::remove_top_zeros(&lists[0], room(0)).map(one),
         Name::Derivative => model::derivative(&lists[0], room(0)).map(one),
         Name::Evaluate => model::evaluate(&lists[0], word(0)).map(Done::value),

@@ -273,7 +273,7 @@ impl Random {
             Name::Divide => lists = self.fair_pair(Operation::Division).to_vec(),
             Name::DivideOrdinary => lists = self.ordinary_pair().to_vec(),
             Name::Gcd | Name::Cofactors => lists = self.fair_pair(Operation::Gcd).to_vec(),
-            Name::FindExtent | Name::Trim | Name::Derivative => lists = vec![self.any_list()],
+            Name::FindExtent | Name::Searched | Name::Trim | Name::Derivative => lists = vec![self.any_list()],
             Name::Raise => {
                 lists = vec![self.any_list()];
                 numbers = vec![self.target(lists[0].len())];

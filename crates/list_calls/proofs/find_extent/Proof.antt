@@ -14,7 +14,7 @@ returns : tie.Need-returns
 unfolding longest
 returns c =
     let core = c .extent-over .ensures in
-    (core, (replies _ core no-slice, extent-so _ core))
+    (core .0, (core .1, (replies _ (core .0) no-slice, extent-so _ (core .0))))
 
 pub find-extent-spec : {M : Type 1} → statement M
 find-extent-spec = tie.close (tie.spec extent-over-requires returns)

@@ -27,17 +27,21 @@ enum-told c = search needs
 listed : (c : tie.After-enum-told) → lowest (listRefusals (modulus (c .before .before .before .before .args .field)) (longest (c .before .before .before .before .args .field)) (c .before .before .before .before .args .f .now ∷ [])) ≡ Done
 listed c = sym (c .before .before .judge-list .ensures) ∙ c .enum-told .given .1
 
-significant-words-requires : tie.Need-significant-words-requires
-significant-words-requires c κs = search needs
+search-from-top-requires : tie.Need-search-from-top-requires
+search-from-top-requires c κs = search needs
 
 returns-2 : tie.Need-returns-2
-returns-2 c = extent-zero _ _ _ (listed (c .before .before)) (sym (c .before .significant-words .ensures) ∙ c .if1 .taken)
+returns-2 c =
+    let top = c .before .before .search-from-top .ensures in
+    extent-zero _ _ _ (listed (c .before .before .before)) (top .0) (top .1) (c .if1 .taken)
 
 sub-top : tie.Need-sub-top
 sub-top c = search needs
 
 returns-3 : tie.Need-returns-3
-returns-3 c = extent-found _ _ _ (listed (c .before .before)) (c .before .significant-words .ensures) (c .if1 .left)
+returns-3 c =
+    let top = c .before .before .before .search-from-top .ensures in
+    extent-found _ _ _ (listed (c .before .before .before .before)) (top .0) (top .1) (c .before .if1 .left)
 
 pub extent-over-spec : {M : Type 1} → statement M
 extent-over-spec =
@@ -47,7 +51,7 @@ extent-over-spec =
     enum-known-why
     returns
     enum-told
-    significant-words-requires
+    search-from-top-requires
     returns-2
     sub-top
     returns-3)

@@ -27,6 +27,11 @@ def times(f, g):
     return [s * pow(comb(d + e, k), -1, P) % P for k, s in enumerate(scaled)]
 
 
+def raised(f, k):
+    """The list of k more words that means the same."""
+    return times(f, [1] * (k + 1))
+
+
 def some_words(n, seed):
     """n words that follow no pattern."""
     words = []
@@ -40,6 +45,8 @@ EXAMPLE = [[0, 1], [0, 0, 1]]
 FACTOR = [3, 1, 4, 1]
 SHARED = [times(FACTOR, some_words(n, n)) for n in (2, 3, 5)]
 POWERS = [[1, 0], [1, 0, 0]]
+# one factor 1-t in each
+RAISED = [times(raised(c, k), [1, 0]) for k, c in zip((3, 2, 4), SHARED)]
 ZERO_LISTS = [[0, 0, 0], SHARED[0], [0], SHARED[1]]
 LOOSE_WORD = [[0, 1], [0, 0, P]]
 LARGEST = [some_words(256, k) for k in range(1, 17)]
@@ -50,6 +57,8 @@ SAMPLES = {
     "shared_factor": album(SHARED),
     "powers": album(POWERS),
     "factor_and_powers": album([times(c, [1] + [0] * k) for k, c in zip((3, 2, 4), SHARED)]),
+    "raised_constant": album([[1, 1], [1, 1, 1]]),
+    "raised_factor": album(RAISED),
     "coprime": album([some_words(n, 7 * n) for n in (4, 6, 8)]),
     "zero_lists": album(ZERO_LISTS),
     "all_zero": album([[0], [0, 0]]),

@@ -6,15 +6,17 @@ use Prim.Native.Nat.{ℕ, suc, _+_, _*_, _≤_, _<_}
 use native.Mathlib.Decide.{ℕ-discrete}
 use native.Mathlib.Omega.{arith}
 use lib.ListN.{length, getD, length-append}
+use Rattle.algebra.specs.PrimeField.{PrimeField}
 use Rattle.refusal.specs.Refusal.{number}
 use Rattle.refusal.specs.declared.Refusal.{Refusal}
 use Rattle.refusal.proofs.Answers.{number-range}
 use Rattle.lists.specs.Degrees.{naiveDegree, significant, extent, power}
 use Rattle.lists.proofs.Extents.{significant-le, power-is}
 use Rattle.report_text.specs.Text.{decimal, line}
-use Rattle.report_text.specs.Report.{⟨refused⟩, listLine, listLines, gcdLines, refusedLine}
+use Rattle.report_text.specs.Report.{⟨refused⟩, listLine, listLines, gcdDegree, gcdLines, refusedLine}
 use Rattle.report_text.specs.Internal.{lineEnd}
 use Rattle.report_text.proofs.Digits.{decimal-short}
+use Rattle.report_text.proofs.Degrees.{gcd-degree-most}
 use Rattle.report_text.proofs.Lines.{fields, named-line, end-zero, end-nonzero, list-line, gcd-lines, words-line}
 
 -- a word has at most five digits
@@ -67,9 +69,9 @@ words-fit (x ∷ h) some small =
     let rest = fields-fit h (λ k. small (suc k)) in
     rw (words-line (x ∷ h) some) (simp length-append (omega arith))
 
-pub gcd-fits : (h : List ℕ) (c : ℕ) → 0 < length h → length h + c ≤ 65536 → ((k : ℕ) → getD h k 0 < 65536)
-    → length (gcdLines h c) ≤ 16 + 6 * length h
-gcd-fits h c some few small =
-    let d : naiveDegree h + c < 65536 = unfold naiveDegree in omega arith in
-    rw (gcd-lines h c refl)
-    (simp length-append (omega (arith, digits (naiveDegree h + c) d, digits c (omega arith), words-fit h some small)))
+pub gcd-fits : (F : PrimeField) (h : List ℕ) (c : ℕ) → 0 < length h → length h + c ≤ 65536 → ((k : ℕ) → getD h k 0 < 65536)
+    → length (gcdLines F h c) ≤ 16 + 6 * length h
+gcd-fits F h c some few small =
+    let d : gcdDegree F h c < 65536 = let most = gcd-degree-most F h c in unfold naiveDegree in omega arith in
+    rw (gcd-lines F h c refl)
+    (simp length-append (omega (arith, digits (gcdDegree F h c) d, digits c (omega arith), words-fit h some small)))

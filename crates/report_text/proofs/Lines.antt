@@ -11,9 +11,10 @@ use lib.Dec.{eqb}
 use lib.ListN.{length, getD, drop, drop-of-length-le}
 use lib.Seq.{drop-cons}
 use borrow.Author.Tests.{eq-eqb, ne-eqb}
+use Rattle.algebra.specs.PrimeField.{PrimeField}
 use Rattle.lists.specs.Degrees.{naiveDegree, significant, extent, power}
 use Rattle.report_text.specs.Text.{decimal, line}
-use Rattle.report_text.specs.Report.{⟨gcd⟩, ⟨-⟩, listLine, listLines, gcdLines}
+use Rattle.report_text.specs.Report.{⟨gcd⟩, ⟨-⟩, listLine, listLines, gcdDegree, gcdLines}
 use Rattle.report_text.specs.Internal.{lineEnd}
 
 pub named-line : (name : List ℕ) (n : ℕ) → line (name ∷ decimal n ∷ []) ≡ name ++ ((32 ∷ decimal n) ++ (10 ∷ []))
@@ -41,10 +42,11 @@ list-line i c e = rw e (go (eqb (significant c) 0))
     go true = refl
     go false = refl
 
-pub gcd-lines : (h : List ℕ) (c : ℕ) {d : ℕ} → d ≡ naiveDegree h
-    → gcdLines h c ≡ ⟨gcd⟩ ++ ((32 ∷ decimal (d + c)) ++ ((32 ∷ decimal c) ++ ((10 ∷ []) ++ line (map decimal h))))
+-- d is the degree in t as the code finds it
+pub gcd-lines : (F : PrimeField) (h : List ℕ) (c : ℕ) {d : ℕ} → d ≡ gcdDegree F h c
+    → gcdLines F h c ≡ ⟨gcd⟩ ++ ((32 ∷ decimal d) ++ ((32 ∷ decimal c) ++ ((10 ∷ []) ++ line (map decimal h))))
 unfolding gcdLines line
-gcd-lines h c e = rw e (joined (decimal (naiveDegree h + c)) (decimal c) (line (map decimal h)))
+gcd-lines F h c e = rw e (joined (decimal (gcdDegree F h c)) (decimal c) (line (map decimal h)))
   where
     joined : (d e w : List ℕ)
         → (⟨gcd⟩ ++ (32 ∷ (d ++ (32 ∷ (e ++ (10 ∷ [])))))) ++ w ≡ ⟨gcd⟩ ++ ((32 ∷ d) ++ ((32 ∷ e) ++ ((10 ∷ []) ++ w)))

@@ -140,9 +140,9 @@ module _ (F : PrimeField) (lists : List (List ℕ)) where
   answer-zero z = rw z
 
   pub answer-gcd : {slice : List ℕ} {w c : ℕ} → Answer lists (albumGcd F lists .list) slice w c
-      → gcdLines (take (w + 1) slice) c ≡ answerLines F lists
+      → gcdLines F (take (w + 1) slice) c ≡ answerLines F lists
   unfolding answerLines
-  answer-gcd a = rw (a .some) (ap₂ gcdLines (a .list) (a .power))
+  answer-gcd a = rw (a .some) (ap₂ (gcdLines F) (a .list) (a .power))
 
   pub sound-lines : soundReport F lists ≡ line (⟨lists⟩ ∷ decimal (length lists) ∷ []) ++ (listLines 0 lists ++ answerLines F lists)
   unfolding soundReport answerLines
@@ -154,10 +154,10 @@ refused-answer F most s h e q {why} {r} i a =
     let b = ap gcdReply (sym i) ∙ a in
     refused-line F most s h e q why b ∙ sym (answer-zero F (listsOf s) (refused-zero F most s h e q why b))
 
-pub answer-fits : {lists : List (List ℕ)} {h slice : List ℕ} {w c : ℕ} → Answer lists h slice w c → length slice ≤ maxWords
-    → c < maxWords → ((k : ℕ) → getD slice k 0 < 65536) → length (gcdLines h c) ≤ maxAnswer
-answer-fits {lists} {h} {slice} {w} {c} a e l small =
+pub answer-fits : (F : PrimeField) {lists : List (List ℕ)} {h slice : List ℕ} {w c : ℕ} → Answer lists h slice w c → length slice ≤ maxWords
+    → c < maxWords → ((k : ℕ) → getD slice k 0 < 65536) → length (gcdLines F h c) ≤ maxAnswer
+answer-fits F {lists} {h} {slice} {w} {c} a e l small =
     let words = a .words in
     let short = a .short in
-    let fits = gcd-fits h c (omega arith) (omega arith) (λ k. rw (a .word k) (small k)) in
+    let fits = gcd-fits F h c (omega arith) (omega arith) (λ k. rw (a .word k) (small k)) in
     omega arith

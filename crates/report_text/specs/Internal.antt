@@ -34,7 +34,7 @@ lineEnd c = 32 ∷ line (cond (eqb (significant c) 0) (⟨-⟩ ∷ ⟨-⟩ ∷ [
 
 unfoldable pub answerLines : PrimeField → List (List ℕ) → List ℕ
 answerLines F lists =
-    cond (allZero lists) (refusedLine AllZero) (gcdLines (albumGcd F lists .list) (commonPower lists))
+    cond (allZero lists) (refusedLine AllZero) (gcdLines F (albumGcd F lists .list) (commonPower lists))
 
 abbrev pub maxAnswer : ℕ
 maxAnswer = 16 + 6 * maxWords

@@ -1,11 +1,18 @@
 -- The report on an album, byte by byte, as document 01 has it; s is the album's bytes.
 --     listLine        the line of a list: number, naive degree, extent, power, with `-` for the last two of a zero list
 --     listLines       the lines of some lists, numbered from i
---     gcdLines        `gcd`, the degree of the GCD, which is w + c, and c; then the w + 1 words of h
+--     gcdDegree       the degree in t of G = (1-t)^c·h, order 4's degree of the GCD: that of h, and c
+--     gcdLines        `gcd`, that degree, and c; then the w + 1 words of h
 --     refusedLine     `refused` and the number
 --     soundReport     of an album that is not refused: `lists` and their number, a line for each list, then the two lines of the GCD, or
 --                     `refused 9` where all lists are zero
 --     reportOf        the whole text: of a refused album only its refused line
+-- Theorems, each in the module of proofs/ that is named:
+--     album-degree                   of an album that is not refused and has a list that is not zero, the degree printed is that of G as a
+--                                    polynomial: G's coefficient there is not 0, and every one above is (Degrees)
+--     gcd-degree                     the same of any c and any list h of coefficients that is not zero (Degrees)
+--     gcd-degree-most                it is at most w + c (Degrees)
+--     of-document-01, of-order-4     the reports on document 01's album and on order 4's, by computation (Examples)
 -- Assumes nothing.
 use mathlib.Core.Bool.{cond}
 use mathlib.Core.List.{List, [], _∷_, _++_, map}
@@ -21,6 +28,7 @@ use Rattle.refusal.specs.declared.Outcome.{Outcome}
 use Rattle.refusal.specs.declared.Outcome.the-variants.{Done, Refused}
 use Rattle.lists.specs.Degrees.{naiveDegree, significant, extent, power}
 use Rattle.euclid_theory.specs.Gcd.{commonPower}
+use Rattle.ordinary_theory.specs.InT.{degreeInT}
 use Rattle.album_theory.specs.Albums.{albumGcd}
 use Rattle.album_layout.specs.Layout.{listsOf}
 use Rattle.album_layout.specs.Calls.{albumRefusals}
@@ -49,8 +57,11 @@ unfoldable pub listLines : ℕ → List (List ℕ) → List ℕ
 listLines i [] = []
 listLines i (c ∷ lists) = listLine i c ++ listLines (suc i) lists
 
-unfoldable pub gcdLines : (h : List ℕ) (c : ℕ) → List ℕ
-gcdLines h c = line (⟨gcd⟩ ∷ decimal (naiveDegree h + c) ∷ decimal c ∷ []) ++ line (map decimal h)
+unfoldable pub gcdDegree : PrimeField → (h : List ℕ) (c : ℕ) → ℕ
+gcdDegree F h c = degreeInT F h + c
+
+unfoldable pub gcdLines : PrimeField → (h : List ℕ) (c : ℕ) → List ℕ
+gcdLines F h c = line (⟨gcd⟩ ∷ decimal (gcdDegree F h c) ∷ decimal c ∷ []) ++ line (map decimal h)
 
 unfoldable pub refusedLine : Refusal → List ℕ
 refusedLine why = line (⟨refused⟩ ∷ decimal (number why) ∷ [])
@@ -59,7 +70,7 @@ unfoldable pub soundReport : PrimeField → List (List ℕ) → List ℕ
 soundReport F lists =
     line (⟨lists⟩ ∷ decimal (length lists) ∷ []) ++
     (listLines 0 lists ++
-    cond (allZero lists) (refusedLine AllZero) (gcdLines (albumGcd F lists .list) (commonPower lists)))
+    cond (allZero lists) (refusedLine AllZero) (gcdLines F (albumGcd F lists .list) (commonPower lists)))
 
 -- of what the album is refused with, if it is
 abbrev pub reportFor : Outcome → PrimeField → List (List ℕ) → List ℕ

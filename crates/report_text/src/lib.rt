@@ -10,7 +10,7 @@ ghost use Rattle.lists.specs.Padded.{padded};
 ghost use Rattle.album_layout.specs.Layout.{listsOf};
 ghost use Rattle.album_layout.specs.Internal.{Passed};
 ghost use Rattle.report_text.specs.Text.{decimal, line};
-ghost use Rattle.report_text.specs.Report.{listLine, listLines, gcdLines, refusedLine, soundReport, reportOf};
+ghost use Rattle.report_text.specs.Report.{listLine, listLines, gcdDegree, gcdLines, refusedLine, soundReport, reportOf};
 ghost use Rattle.report_text.specs.Calls.{maxText, reportAnswer, reportWritten, textReply};
 ghost use Rattle.report_text.specs.Internal.{Room, Put, lineEnd, maxAnswer, answerLines};
 use list_gcd::Gcd;
@@ -93,7 +93,7 @@ fn put_answer(field: u8, album: &[u8], h: &mut [u16], at: usize, out: &mut [u8])
     ensures { λ r. ⌜ Put (answerLines (fieldAt field) (listsOf (given album))) at (given out) (now (out .exit)) r ⌝ }
 {
     match album_gcd::album_gcd_over(field, album, h) {
-        Gcd::Done(w, c, _) => put_gcd(&h[..w.0 + 1], c, at, out),
+        Gcd::Done(w, c, _) => put_gcd(field, &h[..w.0 + 1], c, at, out),
         Gcd::Refused(why) => put_refused(why, at, out),
     }
 }
@@ -199,15 +199,22 @@ fn put_words(h: &[u16], at: usize, out: &mut [u8]) -> usize
     put(10, place, out)
 }
 
+// The degree in t of (1-t)^c · h.
+fn gcd_degree(field: u8, h: &[u16], c: Power) -> usize
+    requires { ⌜ (length (now h) ≤ longest field) × (c .0 < maxWords) ⌝ }
+    ensures { λ r. ⌜ r ≡ gcdDegree (fieldAt field) (given h) (c .0) ⌝ }
+{
+    list_powers::degree_in_t(field, h).0 + c.0
+}
+
 // The two lines of the GCD.
-fn put_gcd(h: &[u16], c: Power, at: usize, out: &mut [u8]) -> usize
-    requires { ⌜ (0 < length (now h)) × (length (now h) ≤ maxWords) × (c .0 < maxWords) ⌝ }
-    requires { ⌜ Room (gcdLines (now h) (c .0)) at (now out) ⌝ }
-    ensures { λ r. ⌜ Put (gcdLines (given h) (c .0)) at (given out) (now (out .exit)) r ⌝ }
+fn put_gcd(field: u8, h: &[u16], c: Power, at: usize, out: &mut [u8]) -> usize
+    requires { ⌜ (0 < length (now h)) × (length (now h) ≤ longest field) × (c .0 < maxWords) ⌝ }
+    requires { ⌜ Room (gcdLines (fieldAt field) (now h) (c .0)) at (now out) ⌝ }
+    ensures { λ r. ⌜ Put (gcdLines (fieldAt field) (given h) (c .0)) at (given out) (now (out .exit)) r ⌝ }
 {
     let named = put_bytes(b"gcd", at, out);
-    let w = lists::degree_of(h);
-    let degree = put_field(w.0 + c.0, named, out);
+    let degree = put_field(gcd_degree(field, h, c), named, out);
     let power = put_field(c.0, degree, out);
     let end = put(10, power, out);
     put_words(h, end, out)

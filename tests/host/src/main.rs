@@ -30,6 +30,7 @@ use vectors::Vector;
 
 const CALLS: usize = 10_000;
 const ALBUMS: usize = 1_500;
+const RAISED_ALBUMS: usize = 500;
 const PUBLIC_CALLS: usize = 2_000;
 const MOST_DIFFERENCES: usize = 10;
 
@@ -82,6 +83,7 @@ fn main() {
     ordinary::compare(&mut tally);
     writing::compare(&mut tally);
     compare_albums(&mut tally);
+    compare_raised_albums(&mut tally);
     bind_runs::compare(&mut tally);
     compare_sums(&mut tally);
     compare_edges(&mut tally);
@@ -230,10 +232,36 @@ fn compare_albums(tally: &mut Tally) {
     tally.print_numbers("report", &[0, 1, 2, 5, 9], 30);
     println!("  of the albums {} were written in small pieces, and {} are those of samples/", in_pieces.len(), samples.len());
     tally.check("the example of document 01", report::text(&example()) == "lists 2\n0 1 1 0\n1 2 2 0\ngcd 1 0\n0 1\n");
-    // the second example of docs/FORMAT.md
+    // the second example of docs/FORMAT.md, and the third, which is order 4's
     let second = [2, 2, 7, 0, 3, 0x0D, 0, 0, 0, 0xF9, 0x7F, 0, 0, 0, 0, 0xA1, 0xAA, 0, 0, 0, 0];
     compare_report(tally, &second, usize::MAX);
     tally.check("docs/FORMAT.md", report::text(&second) == "lists 2\n0 2 1 1\n1 3 1 2\ngcd 2 1\n0 1\n");
+    let third = [2, 1, 7, 0, 2, 0x0B, 0, 1, 0, 1, 0, 1, 0, 1, 0, 1, 0];
+    compare_report(tally, &third, usize::MAX);
+    tally.check("order 4", report::text(&third) == "lists 2\n0 1 1 0\n1 2 2 0\ngcd 0 0\n1 1\n");
+}
+
+/// Reports on albums of raised lists: where h is raised too, the degree printed is below w + c.
+fn compare_raised_albums(tally: &mut Tally) {
+    let mut random = Random(12);
+    let (mut raised, mut with_c, mut constant) = (0, 0, 0);
+    for _ in 0..RAISED_ALBUMS {
+        let lists = random.raised_lists();
+        compare_report(tally, &album::written(&lists), usize::MAX);
+        if let Ok(gcd) = album::gcd(&lists) {
+            let degree = report::degree_in_t(&gcd);
+            let below = degree + 1 < gcd.h.len() + gcd.c;
+            raised += usize::from(below);
+            with_c += usize::from(below && gcd.c > 0);
+            constant += usize::from(below && degree == 0);
+        }
+    }
+    println!("albums of raised lists: {RAISED_ALBUMS} reports compared");
+    println!("  in {raised} h is raised too; of these c is above 0 in {with_c}, and the degree is 0 in {constant}");
+    if with_c.min(constant) < 30 {
+        println!("some of these are fewer than 30");
+        exit(1);
+    }
 }
 
 /// The albums of the repository's folder samples/.

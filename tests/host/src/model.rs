@@ -1,5 +1,5 @@
 //! The calls of document 01 and of the orders after it on lists of words, worked out in the monomial basis where the engine uses
-//! scaled forms; for division in the usual sense both do, the engine by Horner's rule.
+//! scaled forms; for division in the usual sense and the degree in t both do, the engine by Horner's rule.
 
 use crate::field::{self, P};
 use crate::poly::{self, Poly};

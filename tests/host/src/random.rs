@@ -135,6 +135,22 @@ impl Random {
         poly::to_list(&self.of_degree(degree), length - 1)
     }
 
+    /// The lists of an album that share a factor, often a constant; most lists are raised, and a few are zero. Where all that are
+    /// not zero are raised, so is h.
+    pub fn raised_lists(&mut self) -> Vec<List> {
+        let size = if self.percent(85) { 6 } else { 80 };
+        let count = 1 + self.below(4);
+        let degree = if self.percent(25) { 0 } else { self.below(size) };
+        let factor = self.of_degree(degree);
+        let mut list = || {
+            let degree = self.below(size);
+            let p = poly::times(&factor, &self.of_degree(degree));
+            let raised = poly::to_list(&p, p.len() - 1 + self.below(size));
+            if self.percent(5) { vec![0; raised.len()] } else { raised }
+        };
+        (0..count).map(|_| list()).collect()
+    }
+
     /// A dividend made from a divisor, a quotient and in one case of two a remainder, and that divisor; each at some naive degree.
     fn divisible(&mut self) -> [List; 2] {
         let [d, e] = [(); 2].map(|()| (self.length() - 1) / 2);

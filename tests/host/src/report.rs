@@ -1,6 +1,7 @@
 //! The text that the program `report` writes.
 
-use crate::{album, model};
+use crate::model::{self, Gcd};
+use crate::{album, poly};
 
 pub fn text(input: &[u8]) -> String {
     let lists = match album::read(input) {
@@ -18,11 +19,16 @@ pub fn text(input: &[u8]) -> String {
     text += &match album::gcd(&lists) {
         Ok(gcd) => {
             let words: Vec<String> = gcd.h.iter().map(u32::to_string).collect();
-            format!("gcd {} {}\n{}\n", gcd.h.len() - 1 + gcd.c, gcd.c, words.join(" "))
+            format!("gcd {} {}\n{}\n", degree_in_t(&gcd), gcd.c, words.join(" "))
         }
         Err(number) => refused(number),
     };
     text
+}
+
+/// The degree in t of G = (1-t)^c·h: G is multiplied out in powers of t.
+pub fn degree_in_t(gcd: &Gcd) -> usize {
+    poly::times(&poly::one_minus_t(gcd.c), &poly::of_list(&gcd.h)).len() - 1
 }
 
 fn refused(number: u8) -> String {

@@ -1,11 +1,11 @@
 -- `report_text::put_answer` meets its contract: the GCD answers or says that all lists are zero.
 -- Assumes nothing.
-use mathlib.Core.Path.{refl, sym, _∙_, ap}
+use mathlib.Core.Path.{_≡_, refl, sym, _∙_, ap}
 use Prim.Native.Nat.{_≤_, _<_}
 use native.Mathlib.Omega.{arith}
 use lib.ListN.{length}
 use borrow.Author.Needs.{needs}
-use Rattle.field.specs.Fields.{fieldAt}
+use Rattle.field.specs.Fields.{fieldAt, longest}
 use Rattle.field.proofs.Fields.{longest-room}
 use Rattle.refusal.specs.Limits.{maxWords}
 use Rattle.album_theory.specs.Albums.{albumGcd}
@@ -34,9 +34,12 @@ given c =
     let ensures = c .before .before .before .before .album-gcd-over .ensures in
     answered (fieldAt _) _ _ _ (pre .0) (pre .1) (c .w .given .1) (ensures .0) (ensures .1 .0) (ensures .1 .1)
 
--- h's slice is no longer than the limit
+-- h's slice is as long as the longest list, and no longer than the limit
+tight : (c : tie.After-w) → length (c .before .before .before .before .album-gcd-over .last .1 .1 .0) ≡ longest (c .before .before .before .before .before .before .before .before .before .args .field)
+tight c = omega (arith, c .before .before .before .before .album-gcd-over .kept .1 .1 .0, c .before .before .before .before .before .before .before .before .before .pre .0 .1)
+
 whole : (c : tie.After-w) → length (c .before .before .before .before .album-gcd-over .last .1 .1 .0) ≤ maxWords
-whole c = omega (arith, c .before .before .before .before .album-gcd-over .kept .1 .1 .0, c .before .before .before .before .before .before .before .before .before .pre .0 .1, longest-room (c .before .before .before .before .before .before .before .before .before .args .field))
+whole c = omega (arith, tight c, longest-room (c .before .before .before .before .before .before .before .before .before .args .field))
 
 -- the common power is below the number of words
 small : (c : tie.After-w) → c .w .given .0 .1 .0 .0 < maxWords
@@ -62,12 +65,13 @@ slice-aggregate-put-gcd c = let answer = given (c .before .before .before) in sy
 put-gcd-requires : tie.Need-put-gcd-requires
 put-gcd-requires c κs =
     let found = c .before .before .before .before in
+    let start = found .before .before .before .before .before .before .before .before .before in
     let answer = given found in
     let words = ap length (answer .list) in
-    let text = ap (λ h. length (gcdLines h (found .w .given .0 .1 .0 .0))) (answer .list) in
-    let fits = answer-fits answer (whole found) (small found) (λ k. omega (arith, c .before .before .before .before .before .before .slice-known3 .given k)) in (
-      (omega (arith, answer .words), omega (arith, answer .short, whole found), small found),
-      record { fits = omega (arith, c .before .before .before .before .before .before .before .before .before .before .before .before .before .pre .1) },
+    let text = ap (λ h. length (gcdLines (fieldAt (start .args .field)) h (found .w .given .0 .1 .0 .0))) (answer .list) in
+    let fits = answer-fits (fieldAt (start .args .field)) answer (whole found) (small found) (λ k. omega (arith, c .before .before .before .before .before .before .slice-known3 .given k)) in (
+      (omega (arith, answer .words), omega (arith, answer .short, tight found), small found),
+      record { fits = omega (arith, start .pre .1) },
     )
 
 enum-known-why : tie.Need-enum-known-why

@@ -1,4 +1,4 @@
--- The report on an album, byte by byte, as document 01 has it; s is the album's bytes.
+-- The report on an album, byte by byte, as document 01 has it, and order 4 the degree of the GCD; s is the album's bytes.
 --     listLine        the line of a list: number, naive degree, extent, power, with `-` for the last two of a zero list
 --     listLines       the lines of some lists, numbered from i
 --     gcdDegree       the degree in t of G = (1-t)^c·h, order 4's degree of the GCD: that of h, and c

@@ -10,7 +10,7 @@
 #include <string.h>
 #include <time.h>
 
-enum { P = 65521, MAX_WORDS = 256, MAX_BYTES = 2 * MAX_WORDS, PAIRS = 32, BATCHES = 101, BATCH_NS = 2000000 };
+enum { P = 65521, MAX_WORDS = 1024, MAX_BYTES = 2 * MAX_WORDS, PAIRS = 32, BATCHES = 101, BATCH_NS = 2000000 };
 
 /* A list as bytes for a C host's calls and as words for those of tests/calls.h: x86-64 keeps a word low byte first. */
 typedef struct {
@@ -105,7 +105,7 @@ static factor binomials[MAX_WORDS][MAX_WORDS], inverses[MAX_WORDS][MAX_WORDS];
 static factor factorials[MAX_WORDS], inverse_factorials[MAX_WORDS];
 static factor falling[MAX_WORDS][MAX_WORDS], inverse_falling[MAX_WORDS][MAX_WORDS];
 
-/* The first 256 terms of exp(u) and of exp(-u), each term u^i / i!. */
+/* The first terms of exp(u) and of exp(-u), as many as a list has words, each term u^i / i!. */
 static nmod_poly_t growing, alternating;
 
 /* Kept from call to call, so that FLINT allocates its operands once. */
@@ -212,7 +212,7 @@ static void flint_ordinary_division(const pair *in, result *out) {
   from_powers(second, in->g.words, out->second);
 }
 
-/* h in its 256 words. FLINT's GCD is monic, and C(w,w) is 1, so h ends in 1 as it has to. */
+/* h in its 1,024 words. FLINT's GCD is monic, and C(w,w) is 1, so h ends in 1 as it has to. */
 static void unscale_gcd(const nmod_poly_t from, uint8_t *bytes) {
   size_t words = from->length;
   unscale(from, words, bytes);
@@ -265,50 +265,40 @@ static void draw_list(list *l, size_t n) {
   put(l->bytes, n, 1 + next_random() % (P - 1));
 }
 
-static void draw_product(pair *in) {
-  draw_list(&in->f, 127);
-  draw_list(&in->g, 128);
-}
-
-static void draw_division(pair *in) {
-  draw_list(&in->f, 128);
-  draw_list(&in->g, 255);
+/* Two random lists of naive degrees f and g. They are nearly always coprime; compare() makes sure of it where a row says so. */
+static void draw_two(pair *in, size_t f, size_t g) {
+  draw_list(&in->f, f);
+  draw_list(&in->g, g);
 }
 
 /* The divisor's degree in t is nearly always its naive degree; this makes sure of it. */
-static void draw_ordinary_division(pair *in) {
-  draw_division(in);
+static void draw_ordinary_division(pair *in, size_t f, size_t g) {
+  draw_two(in, f, g);
   to_powers(&in->f, first);
-  if (nmod_poly_degree(first) != 128) fail("the divisor has another degree in t than the row says", "ordinary division");
+  if (nmod_poly_degree(first) != (slong)f) fail("the divisor has another degree in t than the row says", "ordinary division");
 }
 
-/* Two random lists are nearly always coprime; compare() makes sure of it. */
-static void draw_coprime(pair *in) {
-  draw_list(&in->f, 255);
-  draw_list(&in->g, 255);
-}
-
-/* to becomes the product of shared and a random list, of naive degree 255. */
-static void draw_multiple(const list *shared, list *to) {
+/* to becomes the product of shared and a random list, of naive degree n. */
+static void draw_multiple(const list *shared, list *to, size_t n) {
   pair in = {.f = *shared};
   result out;
-  draw_list(&in.g, MAX_WORDS - shared->words);
+  draw_list(&in.g, n + 1 - shared->words);
   flint_product(&in, &out);
-  to->words = MAX_WORDS;
-  memcpy(to->bytes, out.first, MAX_BYTES);
+  to->words = n + 1;
+  memcpy(to->bytes, out.first, 2 * to->words);
 }
 
-static void draw_shared(pair *in) {
+/* Two lists of naive degrees f and g with a factor of degree 100. */
+static void draw_shared(pair *in, size_t f, size_t g) {
   list shared;
   draw_list(&shared, 100);
-  draw_multiple(&shared, &in->f);
-  draw_multiple(&shared, &in->g);
+  draw_multiple(&shared, &in->f, f);
+  draw_multiple(&shared, &in->g, g);
 }
 
-/* A list, and a point other than 1. */
-static void draw_evaluation(pair *in) {
-  draw_list(&in->f, 255);
-  do draw_list(&in->g, 0);
+/* A list of naive degree f, and a point, of naive degree 0, other than 1. */
+static void draw_evaluation(pair *in, size_t f, size_t g) {
+  do draw_two(in, f, g);
   while (in->g.whole[0] == 1);
 }
 
@@ -316,23 +306,33 @@ static void draw_evaluation(pair *in) {
 
 typedef void call(const pair *in, result *out);
 
-/* The numbers of words of the results that are compared, and what w has to be where the row is a GCD or cofactors. */
+/* The naive degrees of f and g, the numbers of words of the results that are compared, and what w has to be where the row is a GCD or
+   cofactors. */
 typedef struct {
   const char *name;
-  void (*draw)(pair *in);
+  void (*draw)(pair *in, size_t f, size_t g);
+  size_t f, g;
   call *engine, *flint;
   size_t first_words, second_words, third_words;
   int w;
 } task;
 
 static const task tasks[] = {
-    {"product, 127 by 128", draw_product, engine_product, flint_product, 256, 0, 0, -1},
-    {"division, 255 by 128", draw_division, engine_division, flint_division, 128, 128, 0, -1},
-    {"GCD, 255 and 255, coprime", draw_coprime, engine_gcd, flint_gcd, 256, 2, 0, 0},
-    {"GCD, 255 and 255, factor of 100", draw_shared, engine_gcd, flint_gcd, 256, 2, 0, 100},
-    {"evaluation, 255", draw_evaluation, engine_evaluation, flint_evaluation, 1, 0, 0, -1},
-    {"cofactors, 255 and 255, coprime", draw_coprime, engine_cofactors, flint_cofactors, 256, 255, 255, 0},
-    {"ordinary division, 255 by 128", draw_ordinary_division, engine_ordinary_division, flint_ordinary_division, 256, 256, 0, -1},
+    {"product, 0 by 0", draw_two, 0, 0, engine_product, flint_product, 1, 0, 0, -1},
+    {"product, 7 by 7", draw_two, 7, 7, engine_product, flint_product, 15, 0, 0, -1},
+    {"product, 127 by 128", draw_two, 127, 128, engine_product, flint_product, 256, 0, 0, -1},
+    {"division, 255 by 128", draw_two, 128, 255, engine_division, flint_division, 128, 128, 0, -1},
+    {"ordinary division, 255 by 128", draw_ordinary_division, 128, 255, engine_ordinary_division, flint_ordinary_division, 256, 256, 0, -1},
+    {"GCD, 255 and 255, coprime", draw_two, 255, 255, engine_gcd, flint_gcd, MAX_WORDS, 2, 0, 0},
+    {"GCD, 255 and 255, factor of 100", draw_shared, 255, 255, engine_gcd, flint_gcd, MAX_WORDS, 2, 0, 100},
+    {"cofactors, 255 and 255, coprime", draw_two, 255, 255, engine_cofactors, flint_cofactors, MAX_WORDS, 255, 255, 0},
+    {"evaluation, 255", draw_evaluation, 255, 0, engine_evaluation, flint_evaluation, 1, 0, 0, -1},
+    {"product, 511 by 512", draw_two, 511, 512, engine_product, flint_product, 1024, 0, 0, -1},
+    {"division, 1,023 by 512", draw_two, 512, 1023, engine_division, flint_division, 512, 512, 0, -1},
+    {"ordinary division, 1,023 by 512", draw_ordinary_division, 512, 1023, engine_ordinary_division, flint_ordinary_division, 1024, 1024, 0, -1},
+    {"GCD, 1,023 and 1,023, coprime", draw_two, 1023, 1023, engine_gcd, flint_gcd, MAX_WORDS, 2, 0, 0},
+    {"cofactors, 1,023 and 1,023", draw_two, 1023, 1023, engine_cofactors, flint_cofactors, MAX_WORDS, 1023, 1023, 0},
+    {"evaluation, 1,023", draw_evaluation, 1023, 0, engine_evaluation, flint_evaluation, 1, 0, 0, -1},
 };
 
 /* w, as h has it: the place of its last word that is not 0. */
@@ -391,7 +391,7 @@ static void measure(const task *t) {
   static pair in[PAIRS];
   double engine[BATCHES], flint[BATCHES];
   for (size_t i = 0; i < PAIRS; i++) {
-    t->draw(&in[i]);
+    t->draw(&in[i], t->f, t->g);
     compare(t, &in[i]);
   }
   for (size_t i = 0; i < BATCHES; i++) {
@@ -399,7 +399,7 @@ static void measure(const task *t) {
     flint[i] = batch(t->flint, in);
   }
   double e = median(engine) / 1000, f = median(flint) / 1000;
-  printf("%-32s %10.2f us %10.2f us %8.2f\n", t->name, e, f, e / f);
+  printf("%-32s %10.3f us %10.3f us %8.2f\n", t->name, e, f, e / f);
   fflush(stdout);
 }
 

@@ -3,7 +3,7 @@ import ctypes
 import struct
 from pathlib import Path
 
-DONE, H_LEN, ANSWER_LEN = 0, 512, 6  # of include/bernstein.h
+DONE, H_LEN, ANSWER_LEN = 0, 2048, 6  # of include/bernstein.h
 library = ctypes.CDLL(str(Path(__file__).resolve().parent.parent / "target/libbernstein.so"))
 
 

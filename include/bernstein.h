@@ -1,7 +1,7 @@
 /* Product, division and GCD of polynomials in Bernstein form over the field of 65,521 elements.
 
-   Lists. A list of n + 1 words c_0 to c_n, c_0 first, means the sum of c_k C(n,k) t^k (1-t)^(n-k); n is its naive degree. It has 1 to 256
-   words, each below 65,521, and is handed over as bytes, two to a word, low byte first.
+   Lists. A list of n + 1 words c_0 to c_n, c_0 first, means the sum of c_k C(n,k) t^k (1-t)^(n-k); n is its naive degree. It has 1 to
+   1,024 words, each below 65,521, and is handed over as bytes, two to a word, low byte first.
 
    Lengths. Each pointer is followed by its length in bytes. The length of a result is exactly the one that stands over its call.
 
@@ -10,7 +10,8 @@
    Pointers. None is ever null, not even with the length 0 (the remainder by a divisor of one word): pass the address of any byte there. A
    pointer needs no alignment. The two lists may be the same memory; a result overlaps neither a list nor another result.
 
-   The calls allocate nothing, keep no state between them and may run in several threads at once, each with results of its own.
+   The calls allocate nothing, keep no state between them and may run in several threads at once, each with results of its own. On the
+   stack the product takes up to 64 KB, the others up to 24: a thread that multiplies has to have 80 KB.
 
    To link:  rt staticlib bernstein
              cc -Iinclude program.c target/staticlib/libbernstein.a */
@@ -25,16 +26,16 @@ extern "C" {
 #endif
 
 #define BERNSTEIN_P 65521          /* every word of a list is below it */
-#define BERNSTEIN_MAX_WORDS 256    /* of a list */
-#define BERNSTEIN_MAX_DEGREE 255   /* naive degree of a list */
-#define BERNSTEIN_H_LEN 512        /* bytes of h */
+#define BERNSTEIN_MAX_WORDS 1024   /* of a list */
+#define BERNSTEIN_MAX_DEGREE 1023  /* naive degree of a list */
+#define BERNSTEIN_H_LEN 2048       /* bytes of h */
 #define BERNSTEIN_ANSWER_LEN 6     /* bytes of a GCD's answer */
 
 enum {
   BERNSTEIN_DONE = 0,
-  BERNSTEIN_LENGTH = 4,     /* a list has 0 words, more than 256, or an odd number of bytes */
+  BERNSTEIN_LENGTH = 4,     /* a list has 0 words, more than 1,024, or an odd number of bytes */
   BERNSTEIN_LOOSE_WORD = 5, /* a word of a list is 65,521 or more */
-  BERNSTEIN_OVER = 6,       /* the product's naive degree would pass 255 */
+  BERNSTEIN_OVER = 6,       /* the product's naive degree would pass 1,023 */
   BERNSTEIN_BACKWARDS = 7,  /* the dividend is shorter than the divisor */
   BERNSTEIN_VANISHES = 8,   /* the divisor's last word is 0 */
   BERNSTEIN_ALL_ZERO = 9,   /* every word of both lists of a GCD is 0 */

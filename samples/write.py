@@ -6,11 +6,16 @@ P = 65521
 
 
 def album(lists):
-    out, place = [len(lists)], 1 + 3 * len(lists)
+    out, place = bytes([len(lists)]), 1 + 4 * len(lists)
     for c in lists:
-        out += [len(c) - 1, place % 256, place // 256]
+        out += two_bytes([len(c) - 1, place])
         place += 2 * len(c)
-    return bytes(out + [b for c in lists for w in c for b in (w % 256, w // 256)])
+    return out + b"".join(map(two_bytes, lists))
+
+
+def two_bytes(words):
+    """Each number as two bytes, low byte first."""
+    return bytes(b for w in words for b in (w % 256, w // 256))
 
 
 def text(lists):
@@ -49,7 +54,7 @@ POWERS = [[1, 0], [1, 0, 0]]
 RAISED = [times(raised(c, k), [1, 0]) for k, c in zip((3, 2, 4), SHARED)]
 ZERO_LISTS = [[0, 0, 0], SHARED[0], [0], SHARED[1]]
 LOOSE_WORD = [[0, 1], [0, 0, P]]
-LARGEST = [some_words(256, k) for k in range(1, 17)]
+LARGEST = [some_words(1024, k) for k in range(1, 17)]
 EXAMPLE_BYTES = album(EXAMPLE)
 
 SAMPLES = {
@@ -67,7 +72,8 @@ SAMPLES = {
     "seventeen_lists": bytes([17]) + EXAMPLE_BYTES[1:],
     "cut": EXAMPLE_BYTES[:-1],
     "byte_too_many": EXAMPLE_BYTES + bytes(1),
-    "wrong_place": EXAMPLE_BYTES[:5] + bytes([12]) + EXAMPLE_BYTES[6:],
+    "wrong_place": EXAMPLE_BYTES[:7] + bytes([14]) + EXAMPLE_BYTES[8:],
+    "degree_too_high": album([some_words(1025, 1)]),
     "loose_word": album(LOOSE_WORD),
 }
 

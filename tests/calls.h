@@ -39,7 +39,7 @@ uint8_t test_divide(const uint16_t *g, size_t g_len, const uint16_t *f, size_t f
 uint8_t test_divide_ordinary(const uint16_t *g, size_t g_len, const uint16_t *f, size_t f_len, uint16_t *q, size_t q_len, uint16_t *r,
                              size_t r_len);
 
-/* Returns the degree in t of a list, 0 for a zero list and for one of more than 256 words; it refuses nothing. */
+/* Returns the degree in t of a list, 0 for a zero list and for one of more than 1,024 words; it refuses nothing. */
 size_t test_degree_in_t(const uint16_t *list, size_t list_len);
 
 /* answer, here and below: w, c and rounds. */
@@ -64,8 +64,8 @@ uint8_t test_read_list(const uint8_t *album, size_t album_len, size_t i, uint16_
 uint8_t test_gcd_of_album(const uint8_t *album, size_t album_len, uint16_t *h, size_t h_len, size_t *answer, size_t answer_len);
 
 /* Writes the album of lists that stand one after the other in words, degrees being their naive degrees, to the front of out, which has at
-   least 8,241 bytes; those after the album are left as they came. answer: the number of bytes of the album. */
-uint8_t test_write_album(const uint16_t *words, size_t words_len, const uint8_t *degrees, size_t degrees_len, uint8_t *out, size_t out_len,
+   least 32,833 bytes; those after the album are left as they came. answer: the number of bytes of the album. */
+uint8_t test_write_album(const uint16_t *words, size_t words_len, const uint16_t *degrees, size_t degrees_len, uint8_t *out, size_t out_len,
                          size_t *answer, size_t answer_len);
 
 #endif

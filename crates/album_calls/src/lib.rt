@@ -56,7 +56,7 @@ pub fn read_list(album: &[u8], i: usize, out: &mut [u16]) -> Listed
 // The album of the lists that the degrees cut from the words, at the front of a target of at least as many bytes as the largest album has;
 // the bytes after it stay as they are. `album` says that the album reads back as these lists, and that one which is accepted is written
 // again byte for byte.
-pub fn write_album(words: &[u16], degrees: &[u8], out: &mut [u8]) -> Written
+pub fn write_album(words: &[u16], degrees: &[u16], out: &mut [u8]) -> Written
     ensures answer { λ r. ⌜ writtenReply r ≡ writeAnswer 0 (given words) (given degrees) (given out) ⌝ }
     ensures writes { λ _. ⌜ now (out .exit) ≡ writeWritten 0 (given words) (given degrees) (given out) ⌝ }
     ensures demand1 { λ r. ⌜ Demand1 (writeRows p (given words) (given degrees) (given out)) (writtenReply r .number) (slice out ∷ []) ⌝ }

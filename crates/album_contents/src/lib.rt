@@ -60,8 +60,8 @@ fn record_at(album: &[u8], k: usize) -> Entry
 {
     if k < words::byte_at(album, 0) {
         let e = 1 + refusal::ENTRY_BYTES * k;
-        let degree = words::byte_at(album, e);
-        let offset = words::word_at(album, e + 1);
+        let degree = words::word_at(album, e);
+        let offset = words::word_at(album, e + 2);
         Entry {
             offset: offset as u16,
             degree: degree as u16,

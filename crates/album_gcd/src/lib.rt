@@ -91,7 +91,7 @@ fn gcd_in(
     if h.len() != n {
         return Gcd::Refused(Refusal::Misfit);
     }
-    copy(result, h);
+    words::copy(result, h);
     Gcd::Done(
         NaiveDegree(found.words - 1),
         Power(found.least),
@@ -166,7 +166,7 @@ fn join_list(
         };
     }
     let power = lists::power_in(list);
-    copy(result, last);
+    words::copy(result, last);
     match list_gcd::gcd_over(field, &last[..used], list, result) {
         Gcd::Done(w, _, more) => SoFar {
             words: w.0 + 1,
@@ -178,17 +178,5 @@ fn join_list(
             rounds,
             least,
         },
-    }
-}
-
-// The words of one slice, to another of the same length.
-fn copy(from: &[u16], to: &mut [u16])
-    requires { ⌜ length (now from) ≡ length (now to) ⌝ }
-    ensures { λ _. ⌜ now (to .exit) ≡ given from ⌝ }
-{
-    let mut i = 0;
-    while i < to.len() {
-        to[i] = from[i];
-        i += 1;
     }
 }

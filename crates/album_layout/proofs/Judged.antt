@@ -4,20 +4,21 @@ use mathlib.Core.Path.{_≡_, refl, sym, _∙_}
 use mathlib.Core.Bool.{Bool, true, false, or-true, and-false}
 use mathlib.Core.List.{List, [], _∷_}
 use Prim.Native.Nat.{ℕ, _≤_, _<_}
+use native.Mathlib.Omega.{arith}
 use lib.Dec.{leb}
 use lib.ListN.{length}
 use borrow.Author.Tests.{eq-eqb, ne-eqb, lt-ltb, leb-false, le-leb, lt-leb}
-use Rattle.refusal.specs.Limits.{maxLists}
+use Rattle.refusal.specs.Limits.{maxDegree, maxLists}
 use Rattle.refusal.specs.Lowest.{_given-when_, lowest}
 use Rattle.refusal.specs.declared.Refusal.{Refusal}
 use Rattle.refusal.specs.declared.Refusal.the-variants.{Count, Contents, Index, LooseWord}
 use Rattle.refusal.specs.declared.Outcome.the-variants.{Done, Refused}
 use Rattle.refusal.proofs.First.{refuse, or-else, first-is, first-then, refuse-done, or-else-done}
 use Rattle.lists.specs.Refused.{hasLoose, anyOf}
-use Rattle.album_layout.specs.Layout.{count, offsetAt, startAt, offsetsAgree, wrongCount, brokenLayout, listsOf}
+use Rattle.album_layout.specs.Layout.{count, degreeAt, offsetAt, startAt, offsetsAgree, degreesFit, wrongCount, brokenLayout, listsOf}
 use Rattle.album_layout.specs.Calls.{albumRefusals, checkRefusals}
 use Rattle.album_layout.specs.Internal.{layoutRefusals, Obeys, Passed}
-use Rattle.album_layout.proofs.Places.{agree-at, obeys, right-count, right-layout}
+use Rattle.album_layout.proofs.Places.{agree-at, fit-at, obeys, right-count, right-layout}
 
 not-true-false : (b : Bool) → (b ≡ true → ⊥) → b ≡ false
 not-true-false true f = absurd (f refl)
@@ -48,6 +49,10 @@ module _ (s : List ℕ) where
   unfolding brokenLayout
   broken-place e = simp (e, and-false)
 
+  broken-degree : degreesFit maxDegree s (count s) ≡ false → brokenLayout s ≡ true
+  unfolding brokenLayout
+  broken-degree e = simp (e, and-false)
+
   pub layout-empty : length s ≡ 0 → Refused Count ≡ lowest (layoutRefusals s)
   layout-empty e = sym (layout-judged ∙ simp (wrong-empty e))
 
@@ -65,8 +70,12 @@ module _ (s : List ℕ) where
     layout-place k l f =
         sym (layout-judged ∙ simp (right-count s some low few, broken-place (not-true-false _ (λ t. f (agree-at s k (count s) l t)))))
 
-    pub layout-done : length s ≡ startAt s (count s) → offsetsAgree s (count s) ≡ true → Done ≡ lowest (layoutRefusals s)
-    layout-done e t = sym (layout-judged ∙ simp (right-count s some low few, right-layout s e t))
+    pub layout-degree : (k : ℕ) → k < count s → maxDegree < degreeAt s k → Refused Contents ≡ lowest (layoutRefusals s)
+    layout-degree k l m =
+        sym (layout-judged ∙ simp (right-count s some low few, broken-degree (not-true-false _ (λ t. let d = fit-at s maxDegree k (count s) l t in omega arith))))
+
+    pub layout-done : length s ≡ startAt s (count s) → offsetsAgree s (count s) ≡ true → degreesFit maxDegree s (count s) ≡ true → Done ≡ lowest (layoutRefusals s)
+    layout-done e t d = sym (layout-judged ∙ simp (right-count s some low few, right-layout s e t d))
 
   pub layout-obeys : lowest (layoutRefusals s) ≡ Done → Obeys s
   layout-obeys e =

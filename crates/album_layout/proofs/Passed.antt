@@ -8,13 +8,13 @@ use native.Mathlib.Omega.{arith}
 use lib.Dec.{leb}
 use lib.ListN.{length, getD}
 use borrow.Author.Tests.{leb-false}
+use Rattle.refusal.specs.Limits.{maxWords}
 use Rattle.refusal.specs.Lowest.{lowest}
 use Rattle.refusal.specs.declared.Outcome.the-variants.{Done}
 use Rattle.refusal.proofs.First.{or-false}
-use Rattle.lists.specs.Bytes.{Bytes}
 use Rattle.lists.specs.Refused.{hasLoose, anyOf, IsList}
 use Rattle.lists.proofs.Search.{none-loose}
-use Rattle.album_layout.specs.Layout.{count, entryAt, entryWords, listAt, listsOf}
+use Rattle.album_layout.specs.Layout.{count, listAt, listsOf}
 use Rattle.album_layout.specs.Calls.{checkRefusals}
 use Rattle.album_layout.specs.Internal.{Obeys, Passed}
 use Rattle.album_layout.proofs.Places.{length-list, length-lists, list-at}
@@ -49,9 +49,8 @@ module _ (p : ℕ) where
         let some : 0 < length (listAt s i) = omega (arith, length-list s i) in
         record { some = some; short = short; words = none-loose p (listAt s i) (positive (listAt s i) some (tight i l)) (tight i l) }
 
-    -- its numbers are bytes, so no list has more words than an entry can name
-    pub passed-each : Bytes s → (most : ℕ) → entryWords ≤ most
-        → (i : ℕ) → i < length (listsOf s) → IsList p most (getD (listsOf s) i [])
-    passed-each bytes most room i l =
+    -- no list has more words than the limit
+    pub passed-each : (most : ℕ) → maxWords ≤ most → (i : ℕ) → i < length (listsOf s) → IsList p most (getD (listsOf s) i [])
+    passed-each most room i l =
         let k : i < count s = omega (arith, length-lists s) in
-        rw (list-at s i k) (passed-listed most i k (omega (arith, length-list s i, bytes (entryAt i))))
+        rw (list-at s i k) (passed-listed most i k (omega (arith, length-list s i, passed-obeys .short i k)))

@@ -1,6 +1,7 @@
 -- Laws of the layout.
 --     start-next, start-low, start-up, start-high     where the bodies start
 --     agree-next, agree-at                            the entries that name those places
+--     fit-next, fit-at                                those that name degrees of at most the limit
 --     words-next                                      words one after the other, the first apart
 --     length-list, length-lists, list-at              the lists, by their number
 --     obeys                                           an album that the tests do not refuse obeys its layout
@@ -14,15 +15,15 @@ use Prim.Native.Nat.{ℕ, zero, suc, _+_, _*_, _≤_, _<_}
 use native.Mathlib.Nat.{zero-add, add-zero}
 use native.Mathlib.Decide.{ℕ-discrete}
 use native.Mathlib.Omega.{arith}
-use lib.Dec.{eqb, ltb}
+use lib.Dec.{eqb, leb, ltb}
 use lib.ListN.{length, getD}
-use borrow.Author.Tests.{eqb-true, eqb-false, ltb-false, not-false, eq-eqb, ne-eqb, le-ltb}
-use Rattle.refusal.specs.Limits.{maxLists}
+use borrow.Author.Tests.{eqb-true, eqb-false, leb-true, ltb-false, not-false, eq-eqb, ne-eqb, le-leb, le-ltb}
+use Rattle.refusal.specs.Limits.{maxDegree, maxLists, maxWords}
 use Rattle.refusal.proofs.First.{or-false}
 use Rattle.lists.specs.Tabulate.{tabulate}
 use Rattle.lists.proofs.Tabulate.{length-tabulate, tabulate-ext}
-use Rattle.lists.specs.Bytes.{Bytes, wordAt, wordsAt}
-use Rattle.album_layout.specs.Layout.{count, entryAt, entryWords, degreeAt, offsetAt, startAt, offsetsAgree, wrongCount, brokenLayout, listAt, listsFrom, listsOf}
+use Rattle.lists.specs.Bytes.{wordAt, wordsAt}
+use Rattle.album_layout.specs.Layout.{count, entryAt, degreeAt, offsetAt, startAt, offsetsAgree, degreesFit, wrongCount, brokenLayout, listAt, listsFrom, listsOf}
 use Rattle.album_layout.specs.Internal.{Obeys}
 
 and-true : (a b : Bool) → (a && b) ≡ true → (a ≡ true) × (b ≡ true)
@@ -48,11 +49,11 @@ module _ (s : List ℕ) where
       go (yes e) up = omega (arith, start-next k, ap (λ j. startAt s j + 2 * (degreeAt s j + 1)) e)
       go (no f) up = omega (arith, start-next k, up (omega arith))
 
-  -- its numbers are bytes
-  pub start-high : Bytes s → (k : ℕ) → startAt s k ≤ entryAt (count s) + 2 * entryWords * k
+  -- the entries before name degrees of at most the limit
+  pub start-high : (k : ℕ) → ((i : ℕ) → i < k → degreeAt s i ≤ maxDegree) → startAt s k ≤ entryAt (count s) + 2 * maxWords * k
   unfolding startAt
-  start-high bytes zero = omega arith
-  start-high bytes (suc k) = omega (arith, start-high bytes k, bytes (entryAt k))
+  start-high zero short = omega arith
+  start-high (suc k) short = omega (arith, start-high k (λ i l. short i (omega arith)), short k (omega arith))
 
   pub agree-next : (k : ℕ) → offsetsAgree s k ≡ true → offsetAt s k ≡ startAt s k → offsetsAgree s (suc k) ≡ true
   unfolding offsetsAgree
@@ -68,6 +69,22 @@ module _ (s : List ℕ) where
       go : Dec (i ≡ k) → offsetAt s k ≡ startAt s k → (i < k → offsetAt s i ≡ startAt s i) → offsetAt s i ≡ startAt s i
       go (yes e) here below = rw e here
       go (no f) here below = below (omega arith)
+
+  module _ (most : ℕ) where
+    pub fit-next : (k : ℕ) → degreesFit most s k ≡ true → degreeAt s k ≤ most → degreesFit most s (suc k) ≡ true
+    unfolding degreesFit
+    fit-next k t l = rw (le-leb (degreeAt s k) most l) t
+
+    pub fit-at : (i k : ℕ) → i < k → degreesFit most s k ≡ true → degreeAt s i ≤ most
+    unfolding degreesFit
+    fit-at i zero h t = absurd (omega arith)
+    fit-at i (suc k) h t =
+        let a = and-true (leb (degreeAt s k) most) (degreesFit most s k) t in
+        go (ℕ-discrete i k) (leb-true (degreeAt s k) most (a .0)) (λ l. fit-at i k l (a .1))
+      where
+        go : Dec (i ≡ k) → degreeAt s k ≤ most → (i < k → degreeAt s i ≤ most) → degreeAt s i ≤ most
+        go (yes e) here below = rw e here
+        go (no f) here below = below (omega arith)
 
   pub words-next : (at n : ℕ) → wordsAt s at (suc n) ≡ wordAt s at ∷ wordsAt s (at + 2) n
   unfolding wordsAt tabulate
@@ -110,7 +127,8 @@ module _ (s : List ℕ) where
   obeys w b =
       let h = or-false (eqb (length s) 0) (eqb (count s) 0 || ltb maxLists (count s)) w in
       let g = or-false (eqb (count s) 0) (ltb maxLists (count s)) (h .1) in
-      let d = and-true (eqb (length s) (startAt s (count s))) (offsetsAgree s (count s)) (not-false _ b) in
+      let d = and-true (eqb (length s) (startAt s (count s))) (offsetsAgree s (count s) && degreesFit maxDegree s (count s)) (not-false _ b) in
+      let a = and-true (offsetsAgree s (count s)) (degreesFit maxDegree s (count s)) (d .1) in
       let y = eqb-false (length s) 0 (h .0) in
       let z = eqb-false (count s) 0 (g .0) in
       record {
@@ -118,7 +136,8 @@ module _ (s : List ℕ) where
         low = omega arith;
         few = ltb-false maxLists (count s) (g .1);
         whole = eqb-true (length s) (startAt s (count s)) (d .0);
-        placed = λ i l. agree-at i (count s) l (d .1);
+        placed = λ i l. agree-at i (count s) l (a .0);
+        short = λ i l. fit-at maxDegree i (count s) l (a .1);
       }
 
   module _ (some : 0 < length s) (low : 0 < count s) (few : count s ≤ maxLists) where
@@ -127,9 +146,9 @@ module _ (s : List ℕ) where
     right-count =
         simp (ne-eqb (length s) 0 (λ e. omega arith), ne-eqb (count s) 0 (λ e. omega arith), le-ltb maxLists (count s) few)
 
-  pub right-layout : length s ≡ startAt s (count s) → offsetsAgree s (count s) ≡ true → brokenLayout s ≡ false
+  pub right-layout : length s ≡ startAt s (count s) → offsetsAgree s (count s) ≡ true → degreesFit maxDegree s (count s) ≡ true → brokenLayout s ≡ false
   unfolding brokenLayout
-  right-layout e t = simp (eq-eqb (length s) (startAt s (count s)) e, t)
+  right-layout e t d = simp (eq-eqb (length s) (startAt s (count s)) e, t, d)
 
   -- list i lies in the album
   pub entry-inside : Obeys s → entryAt (count s) ≤ length s

@@ -74,38 +74,41 @@ module _ (s : List ℕ) (o : Obeys s) (bytes : Bytes s) where
   unfolding naiveDegree
   degree-list k = omega (arith, length-list s k)
 
+  -- the bytes of a word before others
+  abbrev before : (word : ℕ) → List ℕ → List ℕ
+  before word rest = word % 256 ∷ word / 256 ∷ rest
+
   entry-back : (k : ℕ) → k < count s
-      → naiveDegree (listAt s k) ∷ startAt s k % 256 ∷ startAt s k / 256 ∷ drop (entryAt (suc k)) s ≡ drop (entryAt k) s
+      → before (naiveDegree (listAt s k)) (before (startAt s k) (drop (entryAt (suc k)) s)) ≡ drop (entryAt k) s
   entry-back k l =
-      let e = o .placed k l in
-      ap₂ (λ d i. d ∷ i % 256 ∷ i / 256 ∷ drop (entryAt (suc k)) s) (degree-list k) (sym e)
-      ∙ ap (λ i. degreeAt s k ∷ offsetAt s k % 256 ∷ offsetAt s k / 256 ∷ drop i s) next
-      ∙ ap (λ t. degreeAt s k ∷ t) (word-back (entryAt k + 1) (omega (arith, entry-inside s o)))
-      ∙ sym (drop-next (entryAt k) (omega (arith, entry-inside s o)))
+      ap₂ (λ d i. before d (before i (drop (entryAt (suc k)) s))) (degree-list k) (sym (o .placed k l))
+      ∙ ap (λ i. before (degreeAt s k) (before (offsetAt s k) (drop i s))) next
+      ∙ ap (before (degreeAt s k)) (word-back (entryAt k + 2) (omega (arith, entry-inside s o)))
+      ∙ word-back (entryAt k) (omega (arith, entry-inside s o))
     where
-      next : entryAt (suc k) ≡ entryAt k + 1 + 2
+      next : entryAt (suc k) ≡ entryAt k + 2 + 2
       next = omega arith
 
   entries-back : (n k at : ℕ) → at ≡ startAt s k → k + n ≤ count s
-      → entriesFrom at (listsFrom s k n) ++ drop (entryAt (k + n)) s ≡ drop (entryAt k) s
-  unfolding listsFrom entriesFrom
+      → bytesOf (entriesFrom at (listsFrom s k n)) ++ drop (entryAt (k + n)) s ≡ drop (entryAt k) s
+  unfolding listsFrom entriesFrom bytesOf
   entries-back zero k at e l = let z : k + 0 ≡ k = omega arith in ap (λ i. drop (entryAt i) s) z
   entries-back (suc n) k at e l =
-      ap (λ t. naiveDegree (listAt s k) ∷ at % 256 ∷ at / 256 ∷ t)
-      (ap (λ i. entriesFrom (at + 2 * length (listAt s k)) (listsFrom s (suc k) n) ++ drop (entryAt i) s) next
+      ap (λ t. before (naiveDegree (listAt s k)) (before at t))
+      (ap (λ i. bytesOf (entriesFrom (at + 2 * length (listAt s k)) (listsFrom s (suc k) n)) ++ drop (entryAt i) s) next
       ∙ entries-back n (suc k) (at + 2 * length (listAt s k)) (omega (arith, start-next s k, length-list s k)) (omega arith))
-      ∙ ap (λ i. naiveDegree (listAt s k) ∷ i % 256 ∷ i / 256 ∷ drop (entryAt (suc k)) s) e
+      ∙ ap (λ i. before (naiveDegree (listAt s k)) (before i (drop (entryAt (suc k)) s))) e
       ∙ entry-back k (omega arith)
     where
       next : k + suc n ≡ suc k + n
       next = omega arith
 
   -- the entries and the bodies
-  rest-back : entriesFrom (entryAt (count s)) (listsOf s) ++ bodiesOf (listsOf s) ≡ drop 1 s
+  rest-back : bytesOf (entriesFrom (entryAt (count s)) (listsOf s)) ++ bodiesOf (listsOf s) ≡ drop 1 s
   unfolding listsOf startAt
   rest-back =
       let n : 0 + count s ≡ count s = omega arith in
-      ap (λ t. entriesFrom (entryAt (count s)) (listsOf s) ++ t)
+      ap (λ t. bytesOf (entriesFrom (entryAt (count s)) (listsOf s)) ++ t)
       (sym (append-nil (bodiesOf (listsOf s)))
       ∙ ap (λ t. bodiesOf (listsOf s) ++ t) (sym (ap (λ i. drop i s) (ap (startAt s) n ∙ sym (o .whole)) ∙ drop-length s))
       ∙ bodies-back (count s) 0 (omega arith)
@@ -115,7 +118,7 @@ module _ (s : List ℕ) (o : Obeys s) (bytes : Bytes s) where
   back : albumOf (listsOf s) ≡ s
   unfolding albumOf listsOf
   back =
-      ap (λ n. n ∷ entriesFrom (entryAt n) (listsOf s) ++ bodiesOf (listsOf s)) (length-lists s)
+      ap (λ n. n ∷ bytesOf (entriesFrom (entryAt n) (listsOf s)) ++ bodiesOf (listsOf s)) (length-lists s)
       ∙ ap (λ t. count s ∷ t) rest-back
       ∙ sym (drop-next 0 (o .some))
 

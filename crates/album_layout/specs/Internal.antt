@@ -15,7 +15,7 @@ use mathlib.Core.List.{List, [], _∷_}
 use Prim.Native.Nat.{ℕ, _+_, _*_, _≤_, _<_}
 use lib.Dec.{leb, ltb}
 use lib.ListN.{length, take, drop}
-use Rattle.refusal.specs.Limits.{maxLists}
+use Rattle.refusal.specs.Limits.{maxDegree, maxLists}
 use Rattle.refusal.specs.Lowest.{Condition, _given-when_, lowest}
 use Rattle.refusal.specs.declared.Refusal.the-variants.{Count, Contents}
 use Rattle.refusal.specs.declared.Outcome.the-variants.{Done}
@@ -34,6 +34,7 @@ pub record Obeys (s : List ℕ) : Type 0 where
   pub few : count s ≤ maxLists
   pub whole : length s ≡ startAt s (count s)
   pub placed : (i : ℕ) → i < count s → offsetAt s i ≡ startAt s i
+  pub short : (i : ℕ) → i < count s → degreeAt s i ≤ maxDegree
 
 abbrev pub Passed : ℕ → List ℕ → Type 0
 Passed p s = lowest (albumRefusals p s) ≡ Done

@@ -73,8 +73,8 @@ pub fn body_at(album: &[u8], i: usize) -> &[u8]
         return &album[0..0];
     }
     let e = 1 + refusal::ENTRY_BYTES * i;
-    let from = words::word_at(album, e + 1);
-    let to = from + 2 * (words::byte_at(album, e) + 1);
+    let from = words::word_at(album, e + 2);
+    let to = from + 2 * (words::word_at(album, e) + 1);
     if album.len() < to {
         return &album[0..0];
     }
@@ -102,10 +102,14 @@ fn judge_layout(album: &[u8]) -> Outcome
     let mut k = 0;
     while k < n {
         let e = 1 + refusal::ENTRY_BYTES * k;
-        if words::word_at(album, e + 1) != at {
+        let degree = words::word_at(album, e);
+        if refusal::MAX_DEGREE < degree {
             return Outcome::Refused(Refusal::Contents);
         }
-        at += 2 * (words::byte_at(album, e) + 1);
+        if words::word_at(album, e + 2) != at {
+            return Outcome::Refused(Refusal::Contents);
+        }
+        at += 2 * (degree + 1);
         k += 1;
     }
     if album.len() != at {

@@ -6,10 +6,11 @@ use Prim.Native.Nat.{ℕ, _≤_, _<_}
 use native.Mathlib.Omega.{arith}
 use lib.ListN.{length, take}
 use lib.Seq.{take-at}
+use Rattle.refusal.specs.Limits.{maxWords}
 use Rattle.lists.specs.Bytes.{Bytes}
 use Rattle.lists.specs.Padded.{padded}
 use Rattle.lists.proofs.Padded.{length-padded}
-use Rattle.album_layout.specs.Layout.{count, entryAt, entryWords, listAt}
+use Rattle.album_layout.specs.Layout.{count, listAt}
 use Rattle.album_layout.specs.Internal.{Passed}
 use Rattle.album_layout.proofs.Places.{length-list}
 use Rattle.album_layout.proofs.Passed.{passed-obeys, passed-listed}
@@ -35,10 +36,10 @@ held-again h = rw (held-take h) h
 
 -- the slice is out before the call of `read_at` and out′ afterwards, and n is its answer: the last two facts are its contract
 pub read-held : (p most : ℕ) (s : List ℕ) (i : ℕ) (out : List ℕ) {out′ : List ℕ} {n : ℕ} → Passed p s → Bytes s → i < count s
-    → length out ≡ most → entryWords ≤ most → n ≡ wordsRead s i out → out′ ≡ leftAt s i out → Held p most out′ n (listAt s i)
+    → length out ≡ most → maxWords ≤ most → n ≡ wordsRead s i out → out′ ≡ leftAt s i out → Held p most out′ n (listAt s i)
 read-held p most s i out {out′} {n} e bytes l q room a w =
     record {
-      listed = passed-listed p s e most i l (omega (arith, length-list s i, bytes (entryAt i)));
+      listed = passed-listed p s e most i l (omega (arith, length-list s i, passed-obeys p s e .short i l));
       words = a ∙ found .0;
       slice = w ∙ found .1 ∙ ap (λ m. padded m (listAt s i)) q;
     }

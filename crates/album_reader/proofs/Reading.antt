@@ -14,11 +14,12 @@ use Rattle.refusal.specs.declared.Outcome.the-variants.{Done, Refused}
 use Rattle.field.specs.Fields.{modulus, longest}
 use Rattle.field.proofs.Fields.{longest-full}
 use Rattle.lists.specs.Padded.{padded}
+use Rattle.refusal.specs.Limits.{maxWords}
 use Rattle.lists.specs.Bytes.{Bytes, wordCount, wordsOf}
 use Rattle.lists.proofs.Bytes.{length-wordsOf, words-of-bytes}
 use Rattle.words.specs.Transfer.{wordsInto}
 use Rattle.words.proofs.Transfer.{into-padded}
-use Rattle.album_layout.specs.Layout.{count, entryAt, entryWords, degreeAt, listAt}
+use Rattle.album_layout.specs.Layout.{count, degreeAt, listAt}
 use Rattle.album_layout.specs.Calls.{checkRefusals}
 use Rattle.album_layout.specs.Internal.{Obeys, bodyAt}
 use Rattle.album_layout.proofs.Places.{length-list}
@@ -54,14 +55,10 @@ module _ (s : List ℕ) (i : ℕ) (out : List ℕ) (o : Obeys s) (l : i < count 
   body-count : wordCount (bodyAt s i) ≡ length (listAt s i)
   body-count = sym (length-wordsOf (bodyAt s i)) ∙ ap length body-words
 
-  -- an entry names no more words than this
-  list-short : length (listAt s i) ≤ entryWords
-  list-short = omega (arith, length-list s i, bytes (entryAt i))
-
-  pub at-listed : entryWords ≤ length out → (wordsRead s i out ≡ length (listAt s i)) × (leftAt s i out ≡ padded (length out) (listAt s i))
+  pub at-listed : maxWords ≤ length out → (wordsRead s i out ≡ length (listAt s i)) × (leftAt s i out ≡ padded (length out) (listAt s i))
   unfolding wordsRead leftAt
   at-listed room =
-      rw (le-ltb (length out) (wordCount (bodyAt s i)) (omega (arith, body-count, list-short)))
+      rw (le-ltb (length out) (wordCount (bodyAt s i)) (omega (arith, body-count, length-list s i, o .short i l)))
       (body-count, ap (padded (length out)) body-words)
 
 -- what the call answers and leaves in the slice

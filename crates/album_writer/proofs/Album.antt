@@ -13,24 +13,24 @@ use lib.ListN.{length, getD, take, drop, length-drop, length-append, take-append
 use lib.Seq.{length-take-le, getD-take, getD-drop}
 use Rattle.refusal.specs.Limits.{maxLists, entryBytes}
 use Rattle.lists.specs.Degrees.{naiveDegree}
-use Rattle.lists.specs.Bytes.{Bytes, bytesOf}
+use Rattle.lists.specs.Bytes.{bytesOf}
 use Rattle.lists.proofs.Bytes.{length-bytesOf}
 use Rattle.album_layout.specs.Layout.{entryAt}
 use Rattle.album_layout.specs.Written.{entriesFrom, bodiesOf, albumOf, Fits, Writable}
 use Rattle.album_writer.specs.Cut.{wordsFor, cutBy}
-use Rattle.album_writer.specs.Internal.{entriesBy, albumBy}
+use Rattle.album_writer.specs.Internal.{entriesBy, albumBy, Low}
 use Rattle.album_writer.proofs.Cut.{length-cut, none-left}
 
 -- ---- lengths
-pub length-entriesBy : (at : ℕ) (degrees : List ℕ) → length (entriesBy at degrees) ≡ entryBytes * length degrees
-unfolding entriesBy
+pub length-entriesBy : (at : ℕ) (degrees : List ℕ) → length (bytesOf (entriesBy at degrees)) ≡ entryBytes * length degrees
+unfolding entriesBy bytesOf
 length-entriesBy at [] = refl
 length-entriesBy at (d ∷ degrees) = omega (arith, length-entriesBy (at + 2 * (d + 1)) degrees)
 
 pub length-albumBy : (words degrees : List ℕ) → length (albumBy words degrees) ≡ entryAt (length degrees) + 2 * length words
 unfolding albumBy
 length-albumBy words degrees =
-    ap suc (length-append (entriesBy (entryAt (length degrees)) degrees) (bytesOf words))
+    ap suc (length-append (bytesOf (entriesBy (entryAt (length degrees)) degrees)) (bytesOf words))
     ∙ omega (arith, length-entriesBy (entryAt (length degrees)) degrees, length-bytesOf words)
 
 -- ---- entries and bodies of the lists
@@ -41,8 +41,8 @@ entries-cut : (degrees words : List ℕ) (at : ℕ) → wordsFor degrees ≤ len
 unfolding entriesFrom cutBy entriesBy wordsFor naiveDegree
 entries-cut [] words at l = refl
 entries-cut (d ∷ degrees) words at l =
-    ap₂ (λ e n. e ∷ at % 256 ∷ at / 256 ∷ entriesFrom (at + 2 * n) (cutBy degrees (drop (d + 1) words))) less (taken d words (omega arith))
-    ∙ ap (λ r. d ∷ at % 256 ∷ at / 256 ∷ r) (entries-cut degrees (drop (d + 1) words) (at + 2 * (d + 1)) (simp length-drop (omega arith)))
+    ap₂ (λ e n. e ∷ at ∷ entriesFrom (at + 2 * n) (cutBy degrees (drop (d + 1) words))) less (taken d words (omega arith))
+    ∙ ap (λ r. d ∷ at ∷ r) (entries-cut degrees (drop (d + 1) words) (at + 2 * (d + 1)) (simp length-drop (omega arith)))
   where
     less : length (take (d + 1) words) - 1 ≡ d
     less = omega (arith, taken d words (omega arith))
@@ -68,11 +68,11 @@ pub album-is : (degrees words : List ℕ) → length words ≡ wordsFor degrees 
 unfolding albumOf albumBy
 album-is degrees words e =
     sym
-    (ap (λ n. n ∷ entriesFrom (entryAt n) (cutBy degrees words) ++ bodiesOf (cutBy degrees words)) (length-cut degrees words)
-    ∙ ap₂ (λ a b. length degrees ∷ a ++ b) (entries-cut degrees words (entryAt (length degrees)) (omega arith)) (bodies-cut degrees words e))
+    (ap (λ n. n ∷ bytesOf (entriesFrom (entryAt n) (cutBy degrees words)) ++ bodiesOf (cutBy degrees words)) (length-cut degrees words)
+    ∙ ap₂ (λ a b. length degrees ∷ bytesOf a ++ b) (entries-cut degrees words (entryAt (length degrees)) (omega arith)) (bodies-cut degrees words e))
 
 -- ---- each list has its degree plus 1 words
-fits-each : (degrees words : List ℕ) → wordsFor degrees ≤ length words → Bytes degrees → ((k : ℕ) → getD words k 0 < 65536)
+fits-each : (degrees words : List ℕ) → wordsFor degrees ≤ length words → Low degrees → ((k : ℕ) → getD words k 0 < 65536)
     → (k : ℕ) → k < length (cutBy degrees words) → Fits (getD (cutBy degrees words) k [])
 unfolding cutBy wordsFor
 fits-each [] words l hd hw k i = absurd (omega arith)
@@ -92,7 +92,7 @@ fits-each (d ∷ degrees) words l hd hw zero i =
 fits-each (d ∷ degrees) words l hd hw (suc k) i =
     fits-each degrees (drop (d + 1) words) (simp length-drop (omega arith)) (λ k. hd (suc k)) (λ j. rw getD-drop (hw (d + 1 + j))) k (omega arith)
 
-pub cut-writable : (degrees words : List ℕ) → 1 ≤ length degrees → length degrees ≤ maxLists → length words ≡ wordsFor degrees → Bytes degrees
+pub cut-writable : (degrees words : List ℕ) → 1 ≤ length degrees → length degrees ≤ maxLists → length words ≡ wordsFor degrees → Low degrees
     → ((k : ℕ) → getD words k 0 < 65536) → Writable (cutBy degrees words)
 cut-writable degrees words some few size low tight =
     record {

@@ -1,5 +1,5 @@
 -- Lists in one buffer of words, and the same lists apart.
---     few-words      degrees that are bytes: a bound on the words
+--     few-words      degrees of at most the limit: a bound on the words
 --     length-cut     as many lists as degrees
 -- Theorems:
 --     joined-cut     words that are as many as the degrees say are those of the lists cut from them
@@ -16,17 +16,18 @@ use native.Mathlib.Omega.{arith}
 use lib.Dec.{leb}
 use lib.ListN.{length, getD, take, drop, length-drop, length-append, take-append-drop}
 use lib.Seq.{length-take-le, take-at, drop-at}
-use Rattle.lists.specs.Bytes.{Bytes, byteValues}
+use Rattle.refusal.specs.Limits.{maxWords}
 use Rattle.lists.specs.Degrees.{naiveDegree}
 use Rattle.lists.specs.Refused.{hasLoose, anyOf}
 use Rattle.album_writer.specs.Cut.{wordsFor, cutBy, joined}
+use Rattle.album_writer.specs.Internal.{Low}
 
 -- every list has a word
 abbrev pub AllSome : List (List ℕ) → Type 0
 AllSome lists = (k : ℕ) → k < length lists → 0 < length (getD lists k [])
 
 -- ---- cut from a buffer
-pub few-words : (degrees : List ℕ) → Bytes degrees → wordsFor degrees ≤ byteValues * length degrees
+pub few-words : (degrees : List ℕ) → Low degrees → wordsFor degrees ≤ maxWords * length degrees
 unfolding wordsFor
 few-words [] h = omega arith
 few-words (d ∷ degrees) h = omega (arith, few-words degrees (λ k. h (suc k)), h 0)

@@ -1,20 +1,42 @@
 -- The loops of the writer, one turn on, and the parts of the album together.
---     sum-next, sum-end            the sum of the degrees
---     entries-next, entries-end    the entries
---     album-parts                  the count, the entries and the bodies, one after the other
+--     high-here, high-on, high-end     the search for a degree above the limit
+--     sum-next, sum-end                the sum of the degrees
+--     entries-next, entries-end        the entries
+--     album-parts                      the count, the entries and the bodies, one after the other
 -- Assumes nothing.
 use mathlib.Core.Path.{_≡_, sym, _∙_, ap, ap₂}
+use mathlib.Core.Bool.{true, false, _||_}
 use mathlib.Core.List.{List, [], _∷_, _++_, append-assoc, append-nil}
 use Prim.Native.Nat.{ℕ, suc, _+_, _-_, _*_, _/_, _%_, _≤_, _<_}
 use native.Mathlib.Numerals.{add-one}
 use native.Mathlib.Omega.{arith}
+use lib.Dec.{ltb}
 use lib.ListN.{length, getD, set, take, drop, length-set, drop-of-length-le}
+use borrow.Author.Tests.{lt-ltb, le-ltb}
 use lib.Seq.{drop-cons, drop-length, take-suc-set, take-all, take-at, drop-drop}
+use Rattle.refusal.specs.Limits.{entryBytes}
 use Rattle.lists.specs.Bytes.{bytesOf}
 use Rattle.album_layout.specs.Layout.{entryAt}
 use Rattle.album_writer.specs.Cut.{wordsFor}
+use Rattle.album_writer.specs.Calls.{hasHigh}
 use Rattle.album_writer.specs.Internal.{entriesBy, albumBy}
 use Rattle.album_writer.proofs.Album.{length-entriesBy}
+
+-- ---- the search
+module _ (most : ℕ) (degrees : List ℕ) (k : ℕ) where
+  high-next : k < length degrees → hasHigh most (drop k degrees) ≡ ltb most (getD degrees k 0) || hasHigh most (drop (k + 1) degrees)
+  unfolding hasHigh
+  high-next l = ap (hasHigh most) (drop-cons degrees k 0 l) ∙ ap (λ i. ltb most (getD degrees k 0) || hasHigh most (drop i degrees)) (sym (add-one k))
+
+  pub high-here : k < length degrees → most < getD degrees k 0 → hasHigh most (drop k degrees) ≡ true
+  high-here l h = high-next l ∙ simp (lt-ltb most (getD degrees k 0) h)
+
+  pub high-on : k < length degrees → getD degrees k 0 ≤ most → hasHigh most (drop k degrees) ≡ hasHigh most (drop (k + 1) degrees)
+  high-on l h = high-next l ∙ simp (le-ltb most (getD degrees k 0) h)
+
+  pub high-end : length degrees ≤ k → hasHigh most (drop k degrees) ≡ false
+  unfolding hasHigh
+  high-end l = ap (hasHigh most) (drop-of-length-le degrees l)
 
 -- ---- the sum
 pub sum-next : (degrees : List ℕ) (k : ℕ) → k < length degrees → wordsFor (drop k degrees) ≡ getD degrees k 0 + 1 + wordsFor (drop (k + 1) degrees)
@@ -27,52 +49,66 @@ unfolding wordsFor
 sum-end degrees k e = rw (e, drop-length)
 
 -- ---- the entries
-three-set : (out : List ℕ) (i a b c : ℕ) → i + 2 < length out
-    → take (suc (suc (suc i))) (set (set (set out i a) (suc i) b) (suc (suc i)) c) ≡ take i out ++ (a ∷ b ∷ c ∷ [])
-three-set out i a b c l =
-    take-suc-set (set (set out i a) (suc i) b) (suc (suc i)) c (simp length-set (omega arith))
+four-set : (out : List ℕ) (i a b c d : ℕ) → i + 3 < length out
+    → take (suc (suc (suc (suc i)))) (set (set (set (set out i a) (suc i) b) (suc (suc i)) c) (suc (suc (suc i))) d) ≡ take i out ++ (a ∷ b ∷ c ∷ d ∷ [])
+four-set out i a b c d l =
+    take-suc-set (set (set (set out i a) (suc i) b) (suc (suc i)) c) (suc (suc (suc i))) d (simp length-set (omega arith))
+    ∙ ap (λ r. r ++ (d ∷ []))
+    (take-suc-set (set (set out i a) (suc i) b) (suc (suc i)) c (simp length-set (omega arith))
     ∙ ap (λ r. r ++ (c ∷ []))
-    (take-suc-set (set out i a) (suc i) b (simp length-set (omega arith)) ∙ ap (λ r. r ++ (b ∷ [])) (take-suc-set out i a (omega arith)))
+    (take-suc-set (set out i a) (suc i) b (simp length-set (omega arith)) ∙ ap (λ r. r ++ (b ∷ [])) (take-suc-set out i a (omega arith))))
     ∙ simp append-assoc
 
+-- the slice with the four bytes of an entry in it, at the places i, j, m and n
+abbrev entered : (out : List ℕ) (i j m n a b c d : ℕ) → List ℕ
+entered out i j m n a b c d = set (set (set (set out i a) j b) m c) n d
+
 module _ (degrees out : List ℕ) (k place : ℕ) where
-  -- the three bytes of entry k, from place i on
-  pub entries-next : (i w b c : ℕ) → i ≡ 3 * k → k < length degrees → i + 2 < length out
-      → w ≡ getD degrees k 0 → b ≡ place % 256 → c ≡ place / 256
-      → take (3 * (k + 1)) (set (set (set out i (getD degrees k 0)) (i + 1) b) (i + 2) c) ++ entriesBy (place + 2 * (w + 1)) (drop (k + 1) degrees)
-      ≡ take (3 * k) out ++ entriesBy place (drop k degrees)
-  unfolding entriesBy
-  entries-next i w b c ei l h ew eb ec =
-      ap₂ _++_ front (ap (λ d. entriesBy (place + 2 * (d + 1)) (drop (k + 1) degrees)) ew)
-      ∙ append-assoc (take (3 * k) out) (getD degrees k 0 ∷ b ∷ c ∷ []) _
-      ∙ ap (λ r. take (3 * k) out ++ r) rest
+  -- the four bytes of entry k
+  pub entries-next : {i j m n a b c d next : ℕ} → i ≡ entryBytes * k → j ≡ i + 1 → m ≡ i + 2 → n ≡ i + 3 → k < length degrees → i + 3 < length out
+      → a ≡ getD degrees k 0 % 256 → b ≡ getD degrees k 0 / 256 → c ≡ place % 256 → d ≡ place / 256 → next ≡ place + 2 * (getD degrees k 0 + 1)
+      → take (entryBytes * (k + 1)) (entered out i j m n a b c d) ++ bytesOf (entriesBy next (drop (k + 1) degrees))
+      ≡ take (entryBytes * k) out ++ bytesOf (entriesBy place (drop k degrees))
+  unfolding entriesBy bytesOf
+  entries-next {i} {j} {m} {n} {a} {b} {c} {d} {next} ei ej em en l h ea eb ec ed ex =
+      ap (λ r. r ++ left) front
+      ∙ append-assoc (take (entryBytes * k) out) (a ∷ b ∷ c ∷ d ∷ []) left
+      ∙ ap (λ r. take (entryBytes * k) out ++ r) rest
     where
-      one : i + 1 ≡ suc (3 * k)
+      left : List ℕ
+      left = bytesOf (entriesBy next (drop (k + 1) degrees))
+
+      one : j ≡ suc i
       one = omega arith
 
-      two : i + 2 ≡ suc (suc (3 * k))
+      two : m ≡ suc (suc i)
       two = omega arith
 
-      three : 3 * (k + 1) ≡ suc (suc (suc (3 * k)))
+      three : n ≡ suc (suc (suc i))
       three = omega arith
 
-      front : take (3 * (k + 1)) (set (set (set out i (getD degrees k 0)) (i + 1) b) (i + 2) c) ≡ take (3 * k) out ++ (getD degrees k 0 ∷ b ∷ c ∷ [])
+      four : entryBytes * (k + 1) ≡ suc (suc (suc (suc i)))
+      four = omega arith
+
+      front : take (entryBytes * (k + 1)) (entered out i j m n a b c d) ≡ take (entryBytes * k) out ++ (a ∷ b ∷ c ∷ d ∷ [])
       front =
-          ap₂ (λ n j. take n (set (set (set out j (getD degrees k 0)) (i + 1) b) (i + 2) c)) three ei
-          ∙ ap₂ (λ m n. take (suc (suc (suc (3 * k)))) (set (set (set out (3 * k) (getD degrees k 0)) m b) n c)) one two
-          ∙ three-set out (3 * k) (getD degrees k 0) b c (omega arith)
+          ap₂ (λ t u. take t (entered out i u m n a b c d)) four one
+          ∙ ap₂ (λ u v. take (suc (suc (suc (suc i)))) (entered out i (suc i) u v a b c d)) two three
+          ∙ four-set out i a b c d (omega arith)
+          ∙ ap (λ t. take t out ++ (a ∷ b ∷ c ∷ d ∷ [])) ei
 
-      rest : getD degrees k 0 ∷ b ∷ c ∷ entriesBy (place + 2 * (getD degrees k 0 + 1)) (drop (k + 1) degrees) ≡ entriesBy place (drop k degrees)
+      rest : a ∷ b ∷ c ∷ d ∷ left ≡ bytesOf (entriesBy place (drop k degrees))
       rest =
-          ap₂ (λ y z. getD degrees k 0 ∷ y ∷ z ∷ entriesBy (place + 2 * (getD degrees k 0 + 1)) (drop (k + 1) degrees)) eb ec
-          ∙ ap (λ n. getD degrees k 0 ∷ place % 256 ∷ place / 256 ∷ entriesBy (place + 2 * (getD degrees k 0 + 1)) (drop n degrees)) (add-one k)
-          ∙ sym (ap (entriesBy place) (drop-cons degrees k 0 l))
+          ap₂ (λ x y. x ∷ y ∷ c ∷ d ∷ left) ea eb
+          ∙ ap₂ (λ x y. getD degrees k 0 % 256 ∷ getD degrees k 0 / 256 ∷ x ∷ y ∷ left) ec ed
+          ∙ ap₂ (λ x t. bytesOf (getD degrees k 0 ∷ place ∷ entriesBy x (drop t degrees))) ex (add-one k)
+          ∙ sym (ap (λ x. bytesOf (entriesBy place x)) (drop-cons degrees k 0 l))
 
-  pub entries-end : k ≡ length degrees → length out ≤ 3 * k → out ≡ take (3 * k) out ++ entriesBy place (drop k degrees)
-  unfolding entriesBy
+  pub entries-end : k ≡ length degrees → length out ≤ entryBytes * k → out ≡ take (entryBytes * k) out ++ bytesOf (entriesBy place (drop k degrees))
+  unfolding entriesBy bytesOf
   entries-end e l =
-      sym (take-all (3 * k) out l) ∙ sym (append-nil (take (3 * k) out))
-      ∙ ap (λ d. take (3 * k) out ++ entriesBy place d) (sym (ap (λ i. drop i degrees) e ∙ drop-length degrees))
+      sym (take-all (entryBytes * k) out l) ∙ sym (append-nil (take (entryBytes * k) out))
+      ∙ ap (λ d. take (entryBytes * k) out ++ bytesOf (entriesBy place d)) (sym (ap (λ i. drop i degrees) e ∙ drop-length degrees))
 
 -- ---- the parts
 -- nothing stands after the last part
@@ -84,19 +120,19 @@ abbrev pub headed : (degrees out entries : List ℕ) → List ℕ
 headed degrees out entries =
     take 1 (set out 0 (length degrees)) ++ (entries ++ drop (entryAt (length degrees) - 1) (drop 1 (set out 0 (length degrees))))
 
-head-part : (degrees out entries rest : List ℕ) → 0 < length out → entries ≡ entriesBy (entryAt (length degrees)) degrees
+head-part : (degrees out entries rest : List ℕ) → 0 < length out → entries ≡ bytesOf (entriesBy (entryAt (length degrees)) degrees)
     → take (entryAt (length degrees)) (take 1 (set out 0 (length degrees)) ++ (entries ++ rest))
-    ≡ length degrees ∷ entriesBy (entryAt (length degrees)) degrees
+    ≡ length degrees ∷ bytesOf (entriesBy (entryAt (length degrees)) degrees)
 head-part degrees [] entries rest some e = absurd (omega arith)
 head-part degrees (x ∷ out) entries rest some e =
     ap (λ i. take i (length degrees ∷ (entries ++ rest))) next
     ∙ ap (λ l. length degrees ∷ l)
-    (take-at entries rest (3 * length degrees) (ap length e ∙ length-entriesBy (entryAt (length degrees)) degrees) ∙ e)
+    (take-at entries rest (entryBytes * length degrees) (ap length e ∙ length-entriesBy (entryAt (length degrees)) degrees) ∙ e)
   where
-    next : entryAt (length degrees) ≡ suc (3 * length degrees)
+    next : entryAt (length degrees) ≡ suc (entryBytes * length degrees)
     next = omega arith
 
-pub album-parts : (words degrees out entries body : List ℕ) → 0 < length out → entries ≡ entriesBy (entryAt (length degrees)) degrees
+pub album-parts : (words degrees out entries body : List ℕ) → 0 < length out → entries ≡ bytesOf (entriesBy (entryAt (length degrees)) degrees)
     → body ≡ bytesOf words
     → take (entryAt (length degrees)) (headed degrees out entries)
     ++ (body ++ drop (length (headed degrees out entries) - entryAt (length degrees)) (drop (entryAt (length degrees)) (headed degrees out entries)))

@@ -54,6 +54,6 @@ fn help() {
     );
     io::write_all(
         STDERR_FILENO,
-        b"bind takes no arguments and reads at most 65,537 bytes of standard input.\n",
+        b"bind takes no arguments and reads at most 262,145 bytes of standard input.\n",
     );
 }

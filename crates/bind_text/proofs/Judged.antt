@@ -14,7 +14,7 @@ use native.Mathlib.Omega.{arith}
 use lib.Dec.{ltb}
 use lib.ListN.{length, getD, take, drop, length-append, length-map}
 use borrow.Author.Tests.{eq-eqb, lt-ltb, le-ltb}
-use Rattle.refusal.specs.Limits.{maxLists, maxWords, maxBytes}
+use Rattle.refusal.specs.Limits.{maxDegree, maxLists, maxWords, maxBytes}
 use Rattle.refusal.specs.Refusal.{reply, written}
 use Rattle.refusal.specs.Lowest.{_given-when_, lowest}
 use Rattle.refusal.specs.declared.Refusal.{Refusal}
@@ -28,15 +28,15 @@ use Rattle.lists.specs.Degrees.{naiveDegree}
 use Rattle.lists.specs.Refused.{wrongLength, hasLoose, anyOf}
 use Rattle.album_layout.specs.Written.{albumOf}
 use Rattle.album_writer.specs.Cut.{wordsFor, cutBy, joined}
-use Rattle.album_writer.specs.Calls.{wrongLists, writeRows, overFront, writtenReply}
+use Rattle.album_writer.specs.Calls.{wrongLists, hasHigh, writeRows, overFront, writtenReply}
 use Rattle.album_writer.specs.declared.Written.{Written}
 use Rattle.album_writer.specs.declared.Written.the-variants as W
 use Rattle.album_writer.proofs.Cut.{AllSome, cut-joined, joined-size, joined-loose}
-use Rattle.album_writer.proofs.Judged.{some-lists, right-lists, write-judged}
+use Rattle.album_writer.proofs.Judged.{some-lists, right-lists, all-low, short-degrees, write-judged}
 use Rattle.bind_text.specs.Text.{linesOf, listsIn, hasOther}
 use Rattle.bind_text.specs.Calls.{maxInput, textRefusals, bindRows, bindAnswer, bindWritten}
 use Rattle.bind_text.specs.Internal.{capped, Sound, Loaded}
-use Rattle.bind_text.proofs.Lines.{length-lists, each-some}
+use Rattle.bind_text.proofs.Lines.{length-lists, each-right}
 use Rattle.bind_text.proofs.Numbers.{loose-capped, tight-capped}
 
 module _ (text : List ℕ) where
@@ -137,13 +137,18 @@ left {found} {other} v w old e f = go found f ∙ ap (λ o. written o w old) e
 
 module _ (p : ℕ) (small : p ≤ 65535) (text words degrees out : List ℕ) (g : Given text words degrees) where
   some-words : AllSome (listsIn text)
-  some-words = each-some (listsIn text) (text-fine text (g .fine) .1)
+  some-words k l = each-right (listsIn text) (text-fine text (g .fine) .1) k l .0
 
   right-number : wrongLists (length degrees) ≡ false
   right-number =
       ap (λ d. wrongLists (length d)) (g .told)
       ∙ ap wrongLists (length-map (listsIn text) naiveDegree ∙ length-lists text)
       ∙ text-fine text (g .fine) .0
+
+  low-degrees : hasHigh maxDegree degrees ≡ false
+  low-degrees =
+      ap (hasHigh maxDegree) (g .told)
+      ∙ all-low maxDegree (map naiveDegree (listsIn text)) (short-degrees (listsIn text) (λ k l. each-right (listsIn text) (text-fine text (g .fine) .1) k l .1))
 
   right-size : length words ≡ wordsFor degrees
   right-size =
@@ -158,7 +163,7 @@ module _ (p : ℕ) (small : p ≤ 65535) (text words degrees out : List ℕ) (g 
   same-rows : lowest (writeRows p words degrees out) ≡ lowest (bindRows p text out)
   same-rows =
       write-judged p words degrees out
-      ∙ simp (right-number, eq-eqb (length words) (wordsFor degrees) right-size, same-loose) (sym (bind-sound p text out (g .fine)))
+      ∙ simp (right-number, low-degrees, eq-eqb (length words) (wordsFor degrees) right-size, same-loose) (sym (bind-sound p text out (g .fine)))
 
   -- where nothing is refused, no number was cut off
   same-lists : lowest (writeRows p words degrees out) ≡ Done → cutBy degrees words ≡ listsIn text

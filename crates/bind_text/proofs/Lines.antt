@@ -3,7 +3,7 @@
 --     lists-next, lists-none                 the same of the lists of a text
 --     length-lists                           as many lists as lines
 --     wrong-here, wrong-on, wrong-none       the search for a list of a wrong length
---     right-length, each-some                lists of no wrong length have words, and no more than the limit
+--     right-length, each-right               lists of no wrong length have words, and no more than the limit
 --     list-word, list-gap, list-none         the words of a line: a part is a word, or it is empty; none past the end
 -- Assumes nothing.
 use mathlib.Core.Path.{_≡_, _∙_, ap}
@@ -12,12 +12,11 @@ use mathlib.Core.List.{List, [], _∷_, map}
 use Prim.Native.Nat.{ℕ, zero, suc, _+_, _-_, _≤_, _<_}
 use native.Mathlib.Omega.{arith}
 use lib.Dec.{eqb, ltb}
-use lib.ListN.{length, take, drop, length-map}
+use lib.ListN.{length, getD, take, drop, length-map}
 use borrow.Author.Tests.{eq-eqb, ne-eqb, eqb-false, ltb-false}
 use Rattle.refusal.specs.Limits.{maxWords}
 use Rattle.refusal.proofs.First.{or-false}
 use Rattle.lists.specs.Refused.{wrongLength, anyOf}
-use Rattle.album_writer.proofs.Cut.{AllSome}
 use Rattle.bind_text.specs.Text.{⟨line-end⟩, ⟨space⟩, parts, linesOf, filledOf, fieldsOf, valueOf, listOf, listsIn}
 use Rattle.bind_text.specs.Internal.{PartEnd}
 use Rattle.bind_text.proofs.Parts.{length-part, parts-next, parts-none}
@@ -64,10 +63,11 @@ right-length c e =
     let words = eqb-false (length c) 0 (tests .0) in
     (omega arith, ltb-false maxWords (length c) (tests .1))
 
-pub each-some : (lists : List (List ℕ)) → anyOf (wrongLength maxWords) lists ≡ false → AllSome lists
-each-some [] e k l = absurd (omega arith)
-each-some (c ∷ lists) e zero l = right-length c (or-false (wrongLength maxWords c) (anyOf (wrongLength maxWords) lists) e .0) .0
-each-some (c ∷ lists) e (suc k) l = each-some lists (or-false (wrongLength maxWords c) (anyOf (wrongLength maxWords) lists) e .1) k (omega arith)
+pub each-right : (lists : List (List ℕ)) → anyOf (wrongLength maxWords) lists ≡ false
+    → (k : ℕ) → k < length lists → (0 < length (getD lists k [])) × (length (getD lists k []) ≤ maxWords)
+each-right [] e k l = absurd (omega arith)
+each-right (c ∷ lists) e zero l = right-length c (or-false (wrongLength maxWords c) (anyOf (wrongLength maxWords) lists) e .0)
+each-right (c ∷ lists) e (suc k) l = each-right lists (or-false (wrongLength maxWords c) (anyOf (wrongLength maxWords) lists) e .1) k (omega arith)
 
 pub length-lists : (text : List ℕ) → length (listsIn text) ≡ length (linesOf text)
 unfolding listsIn

@@ -37,7 +37,7 @@ pub fn bind_over(field: u8, text: &[u8], out: &mut [u8]) -> Written
         return Written::Refused(why);
     }
     let mut words = [0u16; ALL_WORDS];
-    let mut degrees = [0u8; refusal::MAX_LISTS];
+    let mut degrees = [0u16; refusal::MAX_LISTS];
     let n = read_lines(text, &mut words, &mut degrees);
     let lists = count_lines(text);
     album_writer::write_album_over(field, &words[..n], &degrees[..lists], out)
@@ -204,7 +204,7 @@ fn read_line(line: &[u8], out: &mut [u16])
 }
 
 // The words of all lines, one after the other, and the naive degree of each; their number.
-fn read_lines(text: &[u8], words: &mut [u16], degrees: &mut [u8]) -> usize
+fn read_lines(text: &[u8], words: &mut [u16], degrees: &mut [u16]) -> usize
     requires { ⌜ Sound (now text) ⌝ }
     requires { ⌜ (length (now words) ≡ maxLists * maxWords) × (length (now degrees) ≡ maxLists) ⌝ }
     ensures { λ r. ⌜ Loaded (given text) (now (words .exit)) (now (degrees .exit)) r ⌝ }
@@ -216,7 +216,7 @@ fn read_lines(text: &[u8], words: &mut [u16], degrees: &mut [u8]) -> usize
         let end = part_end(text, at, LINE_END);
         let n = words_in(&text[at..end]);
         read_line(&text[at..end], &mut words[used..used + n]);
-        degrees[k] = (n - 1) as u8;
+        degrees[k] = (n - 1) as u16;
         used += n;
         k += 1;
         at = end + 1;

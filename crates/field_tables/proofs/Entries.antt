@@ -3,6 +3,7 @@
 --     rightInverses p l       the same of inverses, the other way round
 -- Theorems:
 --     factorials-hold, inverses-hold     a table that passes holds the factorials, or their inverses
+--     tables-for                         tables of n entries are tables for lists of n words
 -- Assumes nothing.
 use mathlib.Core.Path.{_≡_, sym, ap, ap₂, _∙_, subst}
 use mathlib.Core.Bool.{Bool, true, _&&_}
@@ -18,7 +19,8 @@ use Rattle.algebra.specs.Ring.{CommRing}
 use Rattle.algebra.specs.RingLaws.{AC}
 use Rattle.algebra.specs.PrimeField.{PrimeField, scalars, residue, inverse}
 use Rattle.algebra.proofs.PrimeField.{residue-1, residue-mul-mod, inverse-cancel′}
-use Rattle.field_tables.specs.Factorials.{factorialIn, inverseFactorialIn, Holds}
+use Rattle.field.specs.Fields.{fieldAt, longest}
+use Rattle.field_tables.specs.Factorials.{factorialIn, inverseFactorialIn, Holds, TablesFor}
 use Rattle.field_tables.proofs.FactorialLaws.{factorial-start, factorial-next, factorial-nonzero}
 
 -- a rule on each entry and the next; k counts on from entry to entry
@@ -103,3 +105,7 @@ module _ (F : PrimeField) {m : ℕ} (e : F .p ≡ m) (n : ℕ) (l : List ℕ) (s
           sym (inverse-cancel′ F (residue F (getD l k 0)) (factorialIn F k) (factorial-nonzero F k (omega arith)))
           ∙ ap (λ x. x ⊗ inverse F (factorialIn F k)) (inverse-at F l (start _ t) falls k (omega arith))
           ∙ R.one-mul (scalars F) _
+
+pub tables-for : (k n : ℕ) {whole part : List ℕ} → length whole ≡ n → n ≤ longest k → Holds (fieldAt k) n (factorialIn (fieldAt k)) whole
+    → Holds (fieldAt k) n (inverseFactorialIn (fieldAt k)) part → TablesFor k whole part
+tables-for k n e l h i = record { tables = rw e (record { factorials = h; inverses = i }); few = omega arith }

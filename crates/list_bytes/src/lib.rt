@@ -3,10 +3,12 @@
 ghost use mathlib.Core.Path.{_≡_};
 ghost use mathlib.Core.Bool.{false};
 ghost use mathlib.Core.List.{[], _∷_};
-ghost use Prim.Native.Nat.{_<_};
+ghost use Prim.Native.Nat.{_≤_, _<_};
 ghost use lib.ListN.{length};
-ghost use Rattle.field.specs.Fields.{longest};
 ghost use Rattle.refusal.specs.Contract.{given};
+ghost use Rattle.refusal.specs.Limits.{maxWords};
+ghost use Rattle.field.specs.Fields.{longest};
+ghost use Rattle.field_tables.specs.Factorials.{fewWords};
 ghost use Rattle.lists.specs.Bytes.{wordCount, bytesOf};
 ghost use Rattle.list_bytes.specs.Calls.{hostProductAnswer, hostProductWritten};
 ghost use Rattle.list_bytes.specs.Calls.{hostDivisionAnswer, hostQuotientWritten, hostRemainderWritten};
@@ -138,19 +140,48 @@ fn product_in(
     }
 }
 
+// The product of two lists that pass, with a result of k words, in small arrays, since each is filled with zeros.
+fn product_few(field: u8, f: &[u8], g: &[u8], k: usize, out: &mut [u8]) -> u8
+    requires { ⌜ (badList (longest field) (now f) ≡ false) × (badList (longest field) (now g) ≡ false) ⌝ }
+    requires { ⌜ (wordCount (now f) ≤ fewWords) × (wordCount (now g) ≤ fewWords) × (k ≤ fewWords) × (k ≡ roomOf (longest field) 0 (now out)) ⌝ }
+    ensures { λ r. ⌜ r ≡ hostProductAnswer field (given f) (given g) (given out) ⌝ }
+    ensures { λ _. ⌜ now (out .exit) ≡ hostProductWritten field (given f) (given g) (given out) ⌝ }
+{
+    let n = f.len() / 2;
+    let m = g.len() / 2;
+    let mut a = [0u16; field_tables::FEW_WORDS];
+    let mut b = [0u16; field_tables::FEW_WORDS];
+    let mut c = [0u16; field_tables::FEW_WORDS];
+    product_in(field, f, g, &mut a[..n], &mut b[..m], &mut c[..k], out)
+}
+
+// The same in arrays that take any list.
+fn product_many(field: u8, f: &[u8], g: &[u8], k: usize, out: &mut [u8]) -> u8
+    requires { ⌜ (badList (longest field) (now f) ≡ false) × (badList (longest field) (now g) ≡ false) ⌝ }
+    requires { ⌜ (wordCount (now f) ≤ maxWords) × (wordCount (now g) ≤ maxWords) × (k ≤ maxWords) × (k ≡ roomOf (longest field) 0 (now out)) ⌝ }
+    ensures { λ r. ⌜ r ≡ hostProductAnswer field (given f) (given g) (given out) ⌝ }
+    ensures { λ _. ⌜ now (out .exit) ≡ hostProductWritten field (given f) (given g) (given out) ⌝ }
+{
+    let n = f.len() / 2;
+    let m = g.len() / 2;
+    let mut a = [0u16; refusal::MAX_WORDS];
+    let mut b = [0u16; refusal::MAX_WORDS];
+    let mut c = [0u16; refusal::MAX_WORDS];
+    product_in(field, f, g, &mut a[..n], &mut b[..m], &mut c[..k], out)
+}
+
 // The product of two lists that pass.
 fn product_lists(field: u8, f: &[u8], g: &[u8], out: &mut [u8]) -> u8
     requires { ⌜ (badList (longest field) (now f) ≡ false) × (badList (longest field) (now g) ≡ false) ⌝ }
     ensures { λ r. ⌜ r ≡ hostProductAnswer field (given f) (given g) (given out) ⌝ }
     ensures { λ _. ⌜ now (out .exit) ≡ hostProductWritten field (given f) (given g) (given out) ⌝ }
 {
-    let n = f.len() / 2;
-    let m = g.len() / 2;
     let k = room(field, out, 0);
-    let mut a = [0u16; refusal::MAX_WORDS];
-    let mut b = [0u16; refusal::MAX_WORDS];
-    let mut c = [0u16; refusal::MAX_WORDS];
-    product_in(field, f, g, &mut a[..n], &mut b[..m], &mut c[..k], out)
+    let longer = words::larger(f.len() / 2, g.len() / 2);
+    if words::larger(longer, k) <= field_tables::FEW_WORDS {
+        return product_few(field, f, g, k, out);
+    }
+    product_many(field, f, g, k, out)
 }
 
 // The division by way of words: g and f in a and b, the quotient in c, the remainder in d.

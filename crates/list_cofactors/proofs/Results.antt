@@ -4,7 +4,7 @@
 --     results                what is written from it is h, a and b
 --     cofactors-answered     what a call answers and writes that refuses nothing
 -- Assumes nothing.
-use mathlib.Core.Path.{_≡_, sym, _∙_, ap}
+use mathlib.Core.Path.{_≡_, sym, _∙_, ap, ap₂}
 use mathlib.Core.List.{List, [], _∷_}
 use Prim.Native.Nat.{ℕ, _+_, _-_, _≤_, _<_}
 use native.Mathlib.Omega.{arith}
@@ -88,13 +88,13 @@ module _ (F : PrimeField) where
       ∙ ap (λ c. m ⊗ c) (coeff-seriesOf F form k ∙ low .at k (omega arith)) ∙ sym (coeff-C-mul (F .series) m s k)
 
   -- what is written from the row is what the definitions name
-  pub results : (n : ℕ) → 1 < n → (f g h a b : List ℕ) {row h′ a′ b′ : List ℕ} {w : NaiveDegree} {c : Power} {rounds : Rounds} → Ready F n f g → Slices n f g h a b
-      → LastRowOf F n f g row (rounds .0) → Wrote F n row a b (w .0) h′ a′ b′ → c .0 ≡ commonPower (f ∷ g ∷ [])
-      → Results F n f g (G.Done w c rounds) h′ a′ b′
-  results n more f g h a b {row} {w = w} r sl e o ec =
+  pub results : (n most : ℕ) → 1 < n → (f g h a b : List ℕ) {row h′ a′ b′ : List ℕ} {w : NaiveDegree} {c : Power} {rounds : Rounds} → Ready F n f g → Slices most f g h a b
+      → LastRowOf F n f g row (rounds .0) → Wrote F n row h a b (w .0) h′ a′ b′ → c .0 ≡ commonPower (f ∷ g ∷ [])
+      → Results F most f g (G.Done w c rounds) h′ a′ b′
+  results n most more f g h a b {row} {w = w} r sl e o ec =
       record {
         answer = gcd-done F f g _ _ _ degree ec (e .count);
-        gcd = o .gcd ∙ ap (padded n) (e .gcd .list);
+        gcd = o .gcd ∙ ap₂ padded (sl .size-h) (e .gcd .list);
         cofactor-a =
             o .cofactor-a ∙ ap (λ k. overLast F n (partX n row) k (partT n row)) (sl .size-a)
             ∙ (unfold cofactorA in cofactor-is n _ (partX n row) (partT n row) _ _ (few-a f g n (r .short-g) more) (e .inverse) (e .low-t));
@@ -106,11 +106,12 @@ module _ (F : PrimeField) where
       degree : w .0 ≡ naiveDegree (gcdOf F f g)
       degree = let words = o .degree in let size = e .gcd .size in omega arith
 
-  pub slices-short : (n : ℕ) → 1 < n → {f g h a b : List ℕ} → Ready F n f g → Slices n f g h a b → (length h ≡ n) × (length a ≤ n) × (length b ≤ n)
-  slices-short n more {f} {g} r sl =
+  pub slices-short : (n most : ℕ) → 1 < n → n ≤ most → {f g h a b : List ℕ} → Ready F n f g → Slices most f g h a b
+      → (n ≤ length h) × (length a ≤ n) × (length b ≤ n)
+  slices-short n most more few {f} {g} r sl =
       let most-a = few-a f g n (r .short-g) more in
       let most-b = few-b f g n (r .short-f) more in
-      (sl .size-h, omega (arith, sl .size-a), omega (arith, sl .size-b))
+      (omega (arith, sl .size-h), omega (arith, sl .size-a), omega (arith, sl .size-b))
 
   -- what a call answers, and what it leaves in the slices
   pub cofactors-answered : (n : ℕ) (f g h a b : List ℕ) {found : Outcome} {r : Gcd} {h′ a′ b′ : List ℕ} → found ≡ Done → Ready F n f g

@@ -1,6 +1,6 @@
 -- The lengths of the result slices, as the code finds them, and the tests of the call's judge.
 -- Theorems:
---     few-a, few-b                                      a and b have no more words than the longest list
+--     few-a, few-b                                      a and b have at most n words where the lists have and n is more than 1
 --     words-short, words-long                           their numbers of words by cases on the lengths of the lists
 --     refused-gcd, misfit-a, misfit-b, none-refused     the judge's tests are the rows of the table
 --     cofactors-ready                                   what a call knows that refuses nothing

@@ -1,12 +1,14 @@
 -- Rows of zeros, and the row of a list: its scaled form, and a 1 among the words of its cofactors.
 -- Theorems:
 --     rows-arrays, rows-part     arrays of zeros are rows of zeros, and so is as much of them as is lent
+--     tables-part                tables serve fewer words too
+--     part-words                 how many words a part of a row has, and that these are enough
 --     row-started                the row of a list
 -- Assumes nothing.
 use mathlib.Core.Path.{_≡_, sym, _∙_, ap, subst}
 use mathlib.Core.Bool.{cond}
 use mathlib.Core.List.{List, _++_}
-use Prim.Native.Nat.{ℕ, _+_, _-_, _*_, _≤_, _<_}
+use Prim.Native.Nat.{ℕ, max, _+_, _-_, _*_, _≤_, _<_}
 use native.Mathlib.Decide.{decLt}
 use native.Mathlib.Omega.{arith}
 use lib.ListN.{getD, length, set, take, drop, length-append, length-drop, length-set, replicate, length-replicate, List·getD-eq-default}
@@ -16,7 +18,7 @@ use Rattle.lists.specs.Lists.{scaled}
 use Rattle.lists.proofs.Parts.{getD-zeros, getD-part}
 use Rattle.field_tables.specs.Factorials.{Tables}
 use Rattle.word_scaling.specs.Scaling.{weighFits, weighted}
-use Rattle.list_gcd.specs.Internal.{Holds}
+use Rattle.list_gcd.specs.Internal.{Ready, Holds}
 use Rattle.list_gcd.proofs.Buffers.{length-part, holds-scaled}
 use Rattle.list_cofactors.specs.Internal.{ZeroRows, partX, Started}
 use Rattle.list_cofactors.proofs.Parts.{length-partX}
@@ -41,6 +43,29 @@ rows-part n {u} {v} {q} l z =
       zeros-u = getD-part u (3 * n) (z .zeros-u);
       zeros-v = getD-part v (3 * n) (z .zeros-v);
     }
+
+pub tables-part : (F : PrimeField) {m : ℕ} (n : ℕ) {whole part : List ℕ} → n ≤ m → Tables F m whole part → Tables F n whole part
+tables-part F n l t =
+    record {
+      factorials = record { long = omega (arith, t .factorials .long); at = λ k i. t .factorials .at k (omega arith) };
+      inverses = record { long = omega (arith, t .inverses .long); at = λ k i. t .inverses .at k (omega arith) };
+    }
+
+pub part-words : (F : PrimeField) {m : ℕ} (n : ℕ) {f g : List ℕ} → 1 < m → Ready F m f g → n ≡ max 2 (max (length f) (length g))
+    → (1 < n) × (n ≤ m) × Ready F n f g
+part-words F n more r e =
+    let short-f = r .short-f in
+    let short-g = r .short-g in (
+      omega arith,
+      omega arith,
+      record {
+        short-f = omega arith;
+        short-g = omega arith;
+        coefficients-f = r .coefficients-f;
+        coefficients-g = r .coefficients-g;
+        some = r .some;
+      },
+    )
 
 module _ (F : PrimeField) (n : ℕ) where
   -- the words of a scaled form, written to the front of a row of zeros, and a 1

@@ -17,7 +17,7 @@
 --     NonzeroRow            a row whose x is not zero
 --     timesList             the list of so many words whose scaled form is m times the words of a buffer
 --     overLast n x          the same with 1 over the last word of x for m
---     Wrote row a b         what is written from the row of the last x to h, a and b
+--     Wrote row h a b       what is written from the row of the last x to h, a and b
 --     Results n f g         what is answered and written, h having n words
 -- Assumes nothing.
 use mathlib.Core.Path.{_≡_}
@@ -37,7 +37,7 @@ use Rattle.algebra.specs.Monic.{topInverse}
 use Rattle.euclid_theory.specs.Gcd.{room, identityDegree, euclidOf, gcdOf, roundsOf, cofactorA, cofactorB}
 use Rattle.lists.specs.Padded.{padded}
 use Rattle.list_gcd.specs.declared.Gcd.{Gcd}
-use Rattle.list_gcd.specs.Internal.{Buffer, Holds, euclidOn, monicWords, Led, Ends, LastOf, gcdDone}
+use Rattle.list_gcd.specs.Internal.{Buffer, Holds, euclidOn, monicList, Led, Ends, LastOf, gcdDone}
 
 pub record Slices (n : ℕ) (f g h a b : List ℕ) : Type 0 where
   pub size-h : length h ≡ n
@@ -150,9 +150,9 @@ module _ (F : PrimeField) where
     pub buffer : Buffer F n (partX n row)
     pub some : 0 < significant (partX n row)
 
-  pub record Wrote (n : ℕ) (row a b : List ℕ) (w : ℕ) (h′ a′ b′ : List ℕ) : Type 0 where
+  pub record Wrote (n : ℕ) (row h a b : List ℕ) (w : ℕ) (h′ a′ b′ : List ℕ) : Type 0 where
     pub degree : w + 1 ≡ significant (partX n row)
-    pub gcd : h′ ≡ monicWords F n (partX n row)
+    pub gcd : h′ ≡ padded (length h) (monicList F n (seriesOf F (partX n row)))
     pub cofactor-a : a′ ≡ overLast n (partX n row) (length a) (partT n row)
     pub cofactor-b : b′ ≡ overLast n (partX n row) (length b) (partS n row)
 

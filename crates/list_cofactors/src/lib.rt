@@ -80,20 +80,28 @@ fn judge_cofactors(field: u8, f: &[u16], g: &[u16], h: &[u16], a: &[u16], b: &[u
     Outcome::Done
 }
 
-// A row has three parts of n words, n being the number of words of the longest list, as in an augmented matrix: x and its cofactors s and t.
+// A row has three parts of n words, as in an augmented matrix: x and its cofactors s and t. The lists f, g, a and b have at most n words.
 // With x₀ and y₀ the pair at the start, s·x₀ + t·y₀ = x, where s and t are cut off at n words.
 
-// A row of zeros becomes that of a list: its scaled form, and 1 at the first word of s or of t.
-fn start_row(field: u8, whole: &[u16], part: &[u16], list: &[u16], row: &mut [u16], one: usize)
-    requires { ⌜ Tables (fieldAt field) (longest field) (now whole) (now part) ⌝ }
-    requires { ⌜ (length (now list) ≤ longest field) × (length (now row) ≡ longest field + (longest field + longest field)) ⌝ }
-    requires { ⌜ (longest field ≤ one) × (one < length (now row)) ⌝ }
+// A row of zeros becomes that of a list: its scaled form, and 1 at the first word of s or of t, `one` words after x.
+fn start_row(
+    field: u8,
+    n: usize,
+    whole: &[u16],
+    part: &[u16],
+    list: &[u16],
+    row: &mut [u16],
+    one: usize,
+)
+    requires { ⌜ n ≤ longest field ⌝ }
+    requires { ⌜ Tables (fieldAt field) n (now whole) (now part) ⌝ }
+    requires { ⌜ (length (now list) ≤ n) × (length (now row) ≡ n + (n + n)) × (one < n + n) ⌝ }
     requires { ⌜ ((k : ℕ) → getD (now row) k 0 ≡ 0) ⌝ }
-    ensures { λ _. ⌜ Started (fieldAt field) (longest field) one (now (row .exit)) (scaled (fieldAt field) (given list)) ⌝ }
+    ensures { λ _. ⌜ Started (fieldAt field) n (n + one) (now (row .exit)) (scaled (fieldAt field) (given list)) ⌝ }
 {
     let words = list.len();
     word_scaling::weigh(field, list, whole, part, &mut row[..words]);
-    row[one] = 1;
+    row[n + one] = 1;
 }
 
 // s less q times the first `read` words of t, for both cofactors of a row.
@@ -197,14 +205,14 @@ fn find_last(
     v: &mut [u16],
     q: &mut [u16],
 ) -> Ended
-    requires { ⌜ n ≡ longest field ⌝ }
+    requires { ⌜ (1 < n) × (n ≤ longest field) ⌝ }
     requires { ⌜ Tables (fieldAt field) n (now whole) (now part) ⌝ }
     requires { ⌜ Ready (fieldAt field) n (now f) (now g) ⌝ }
     requires { ⌜ ZeroRows n (now u) (now v) (now q) ⌝ }
     ensures { λ r. ⌜ LastRowOf (fieldAt field) n (given f) (given g) (cond (r .first) (now (u .exit)) (now (v .exit))) (r .rounds) ⌝ }
 {
-    start_row(field, whole, part, g, u, n);
-    start_row(field, whole, part, f, v, n + n);
+    start_row(field, n, whole, part, g, u, 0);
+    start_row(field, n, whole, part, f, v, n);
     all_rounds(field, n, inverses, u, v, q)
 }
 
@@ -219,7 +227,7 @@ fn write_pair(
     a: &mut [u16],
     b: &mut [u16],
 )
-    requires { ⌜ n ≡ longest field ⌝ }
+    requires { ⌜ n ≤ longest field ⌝ }
     requires { ⌜ Tables (fieldAt field) n (now whole) (now part) ⌝ }
     requires { ⌜ (length (now forms) ≡ n + n) × (length (now a) ≤ n) × (length (now b) ≤ n) ⌝ }
     ensures { λ _. ⌜ now (a .exit) ≡ timesList (fieldAt field) (length (given a)) (residue (fieldAt field) m) (drop n (given forms)) ⌝ }
@@ -243,11 +251,11 @@ fn write_row(
     a: &mut [u16],
     b: &mut [u16],
 ) -> NaiveDegree
-    requires { ⌜ n ≡ longest field ⌝ }
+    requires { ⌜ n ≤ longest field ⌝ }
     requires { ⌜ Tables (fieldAt field) n (now whole) (now part) ⌝ }
     requires { ⌜ NonzeroRow (fieldAt field) n (now row) ⌝ }
-    requires { ⌜ (length (now h) ≡ n) × (length (now a) ≤ n) × (length (now b) ≤ n) ⌝ }
-    ensures { λ r. ⌜ Wrote (fieldAt field) n (given row) (given a) (given b) (r .0) (now (h .exit)) (now (a .exit)) (now (b .exit)) ⌝ }
+    requires { ⌜ (n ≤ length (now h)) × (length (now a) ≤ n) × (length (now b) ≤ n) ⌝ }
+    ensures { λ r. ⌜ Wrote (fieldAt field) n (given row) (given h) (given a) (given b) (r .0) (now (h .exit)) (now (a .exit)) (now (b .exit)) ⌝ }
 {
     let words = lists::significant_words(&row[..n]);
     let inv = field_inverse::inverse_or_zero(field, inverses, row[words - 1]);
@@ -270,11 +278,11 @@ fn write_last(
     a: &mut [u16],
     b: &mut [u16],
 ) -> NaiveDegree
-    requires { ⌜ n ≡ longest field ⌝ }
+    requires { ⌜ n ≤ longest field ⌝ }
     requires { ⌜ Tables (fieldAt field) n (now whole) (now part) ⌝ }
     requires { ⌜ NonzeroRow (fieldAt field) n (cond first (now u) (now v)) ⌝ }
-    requires { ⌜ (length (now h) ≡ n) × (length (now a) ≤ n) × (length (now b) ≤ n) ⌝ }
-    ensures { λ r. ⌜ Wrote (fieldAt field) n (cond first (given u) (given v)) (given a) (given b) (r .0) (now (h .exit)) (now (a .exit)) (now (b .exit)) ⌝ }
+    requires { ⌜ (n ≤ length (now h)) × (length (now a) ≤ n) × (length (now b) ≤ n) ⌝ }
+    ensures { λ r. ⌜ Wrote (fieldAt field) n (cond first (given u) (given v)) (given h) (given a) (given b) (r .0) (now (h .exit)) (now (a .exit)) (now (b .exit)) ⌝ }
 {
     if first {
         return write_row(field, n, whole, part, inverses, u, h, a, b);
@@ -298,12 +306,12 @@ fn cofactors_in(
     a: &mut [u16],
     b: &mut [u16],
 ) -> Gcd
-    requires { ⌜ n ≡ longest field ⌝ }
+    requires { ⌜ (1 < n) × (n ≤ longest field) ⌝ }
     requires { ⌜ Tables (fieldAt field) n (now whole) (now part) ⌝ }
     requires { ⌜ Ready (fieldAt field) n (now f) (now g) ⌝ }
-    requires { ⌜ Slices n (now f) (now g) (now h) (now a) (now b) ⌝ }
+    requires { ⌜ Slices (longest field) (now f) (now g) (now h) (now a) (now b) ⌝ }
     requires { ⌜ ZeroRows n (now u) (now v) (now q) ⌝ }
-    ensures { λ r. ⌜ Results (fieldAt field) n (given f) (given g) r (now (h .exit)) (now (a .exit)) (now (b .exit)) ⌝ }
+    ensures { λ r. ⌜ Results (fieldAt field) (longest field) (given f) (given g) r (now (h .exit)) (now (a .exit)) (now (b .exit)) ⌝ }
 {
     let ended = find_last(field, n, whole, part, inverses, f, g, u, v, q);
     let w = write_last(field, n, whole, part, inverses, ended.first, u, v, h, a, b);
@@ -350,7 +358,8 @@ fn cofactors_with(
     )
 }
 
-// The same in as much of three arrays of zeros as the longest list takes.
+// The same in as much of three arrays of zeros as the lists take: as many words as the longer one has, but not below 2, as two constants have
+// cofactors of 2 words.
 fn cofactors_between(
     field: u8,
     whole: &[u16],
@@ -371,7 +380,7 @@ fn cofactors_between(
     requires { ⌜ ZeroRows maxWords (now u) (now v) (now q) ⌝ }
     ensures { λ r. ⌜ Results (fieldAt field) (longest field) (given f) (given g) r (now (h .exit)) (now (a .exit)) (now (b .exit)) ⌝ }
 {
-    let n = field::longest_of(field);
+    let n = words::larger(2, words::larger(f.len(), g.len()));
     let row = 3 * n;
     cofactors_in(
         field,

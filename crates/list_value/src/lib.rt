@@ -8,7 +8,7 @@ ghost use Rattle.refusal.specs.Lowest.{lowest};
 ghost use Rattle.field.specs.Field.{wordReply};
 ghost use Rattle.lists.specs.Lists.{word};
 ghost use Rattle.lists.specs.Operations as of;
-ghost use Rattle.field_tables.specs.Factorials.{Tables};
+ghost use Rattle.field_tables.specs.Factorials.{fewWords, TablesFor};
 ghost use Rattle.list_value.specs.Calls.{evaluateRows, evaluateAnswer};
 ghost use Rattle.list_value.specs.Internal.{homogeneousOf, powerOf, powersOf, weightsOf, mostOfProduct, mostOfGroup, productsOf, groups, Terms};
 use field::Word;
@@ -166,8 +166,8 @@ fn homogeneous(field: u8, s: &[u16], x: u16, y: u16) -> u16
 
 // The scaled form of f in s, and its value: t is x, and 1 - t is y.
 fn value_in(field: u8, whole: &[u16], part: &[u16], f: &[u16], x: u16, s: &mut [u16]) -> u16
-    requires { ⌜ Tables (fieldAt field) (longest field) (now whole) (now part) ⌝ }
-    requires { ⌜ (length (now s) ≡ length (now f)) × (length (now f) ≤ longest field) ⌝ }
+    requires { ⌜ TablesFor field (now whole) (now part) ⌝ }
+    requires { ⌜ (length (now s) ≡ length (now f)) × (length (now f) ≤ length (now whole)) ⌝ }
     ensures { λ r. ⌜ r ≡ of.evaluate (fieldAt field) (given f) x ⌝ }
 {
     word_scaling::weigh(field, f, whole, part, s);
@@ -175,23 +175,38 @@ fn value_in(field: u8, whole: &[u16], part: &[u16], f: &[u16], x: u16, s: &mut [
     homogeneous(field, s, x, y)
 }
 
-// The value of a list that is not refused, with tables that are lent.
-fn value_with(field: u8, whole: &[u16], part: &[u16], f: &[u16], x: u16) -> u16
-    requires { ⌜ Tables (fieldAt field) (longest field) (now whole) (now part) ⌝ }
-    requires { ⌜ length (now f) ≤ longest field ⌝ }
+// The value of a short list that is not refused, with small tables and a small array: tables are copied, and the array is filled with
+// zeros.
+fn value_few(field: u8, f: &[u16], x: u16) -> u16
+    requires { ⌜ length (now f) ≤ fewWords ⌝ }
     ensures { λ r. ⌜ r ≡ of.evaluate (fieldAt field) (given f) x ⌝ }
 {
+    let whole = field_tables::few_factorials(field);
+    let part = field_tables::few_inverse_factorials(field);
     let n = f.len();
-    let mut s = [0u16; refusal::MAX_WORDS];
-    value_in(field, whole, part, f, x, &mut s[..n])
+    let mut s = [0u16; field_tables::FEW_WORDS];
+    value_in(field, &whole, &part, f, x, &mut s[..n])
 }
 
-// The same with our own tables.
-fn value_at(field: u8, f: &[u16], x: u16) -> u16
+// The value of any list that is not refused.
+fn value_many(field: u8, f: &[u16], x: u16) -> u16
     requires { ⌜ length (now f) ≤ longest field ⌝ }
     ensures { λ r. ⌜ r ≡ of.evaluate (fieldAt field) (given f) x ⌝ }
 {
     let whole = field_tables::factorials(field);
     let part = field_tables::inverse_factorials(field);
-    value_with(field, &whole, &part, f, x)
+    let n = f.len();
+    let mut s = [0u16; refusal::MAX_WORDS];
+    value_in(field, &whole, &part, f, x, &mut s[..n])
+}
+
+// The same with tables and an array of the size that the list needs.
+fn value_at(field: u8, f: &[u16], x: u16) -> u16
+    requires { ⌜ length (now f) ≤ longest field ⌝ }
+    ensures { λ r. ⌜ r ≡ of.evaluate (fieldAt field) (given f) x ⌝ }
+{
+    if f.len() <= field_tables::FEW_WORDS {
+        return value_few(field, f, x);
+    }
+    value_many(field, f, x)
 }

@@ -8,17 +8,17 @@
 use Prim.Native.Nat.{ℕ, _+_, _*_}
 
 abbrev pub maxDegree : ℕ
-maxDegree = 255
+maxDegree = 1023
 
 abbrev pub maxWords : ℕ
-maxWords = 256
+maxWords = 1024
 
 abbrev pub maxLists : ℕ
 maxLists = 16
 
 abbrev pub entryBytes : ℕ
-entryBytes = 3
+entryBytes = 4
 
--- the count, and for each list an entry and a body of words of 2 bytes: 8,241
+-- the count, and for each list an entry and a body of words of 2 bytes: 32,833
 abbrev pub maxBytes : ℕ
 maxBytes = 1 + maxLists * (entryBytes + 2 * maxWords)

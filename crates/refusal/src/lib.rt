@@ -3,14 +3,14 @@ ghost use mathlib.Core.Path.{_≡_};
 ghost use Rattle.refusal.specs.Refusal.{number, outcomeNumber};
 
 // The longest list.
-pub const MAX_DEGREE: usize = 255;
+pub const MAX_DEGREE: usize = 1023;
 
 pub const MAX_WORDS: usize = MAX_DEGREE + 1;
 
 // The largest album: the count, and for each list an entry and a body of words of 2 bytes.
 pub const MAX_LISTS: usize = 16;
 
-pub const ENTRY_BYTES: usize = 3;
+pub const ENTRY_BYTES: usize = 4;
 
 pub const MAX_BYTES: usize = 1 + MAX_LISTS * (ENTRY_BYTES + 2 * MAX_WORDS);
 

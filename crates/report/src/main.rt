@@ -43,6 +43,6 @@ fn help() {
     );
     io::write_all(
         STDERR_FILENO,
-        b"report takes no arguments and reads at most 8,242 bytes of standard input.\n",
+        b"report takes no arguments and reads at most 32,834 bytes of standard input.\n",
     );
 }

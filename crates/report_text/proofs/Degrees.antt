@@ -15,7 +15,6 @@ use Rattle.algebra.specs.Degree.{Degree}
 use Rattle.algebra.specs.OneMinusT.{⟨1-t⟩^}
 use Rattle.algebra.specs.PrimeField.{PrimeField}
 use Rattle.refusal.specs.Limits.{maxWords}
-use Rattle.lists.specs.Bytes.{Bytes}
 use Rattle.lists.specs.Degrees.{naiveDegree, significant}
 use Rattle.lists.specs.Lists.{Coefficients, meaning}
 use Rattle.lists.proofs.Extents.{after-significant}
@@ -57,11 +56,11 @@ module _ (F : PrimeField) where
   head-some : (h : List ℕ) → Head F h → ¬ (significant h ≡ 0)
   head-some h hd z = absurd (omega (arith, hd .ends, after-significant h (naiveDegree h) (omega arith)))
 
-  pub album-degree : maxWords ≤ F .p → (s : List ℕ) → Bytes s → Passed (F .p) s → allZero (listsOf s) ≡ false
+  pub album-degree : maxWords ≤ F .p → (s : List ℕ) → Passed (F .p) s → allZero (listsOf s) ≡ false
       → Degree (F .series) (gcdDegree F (albumGcd F (listsOf s) .list) (commonPower (listsOf s)))
       (⟨1-t⟩^ (F .series) (commonPower (listsOf s)) *ˢ meaning F (albumGcd F (listsOf s) .list))
-  album-degree wide s bytes e z =
+  album-degree wide s e z =
       let one = nonzero (listsOf s) z in
-      let listed = passed-each (F .p) s e bytes maxWords (omega arith) in
+      let listed = passed-each (F .p) s e maxWords (omega arith) in
       let head = album-head F (listsOf s) (each F maxWords wide (listsOf s) listed one) (one .index) (one .some) in
       gcd-degree (albumGcd F (listsOf s) .list) (commonPower (listsOf s)) (head .coefficients) (head-some (albumGcd F (listsOf s) .list) head)

@@ -6,9 +6,8 @@ use Prim.Native.Nat.{ℕ, _+_, _*_, _≤_}
 use native.Mathlib.Omega.{arith}
 use lib.ListN.{length, getD, take}
 use borrow.Author.Tests.{eq-eqb, ne-eqb}
-use Rattle.lists.specs.Bytes.{Bytes}
 use Rattle.algebra.specs.PrimeField.{PrimeField}
-use Rattle.refusal.specs.Limits.{maxLists}
+use Rattle.refusal.specs.Limits.{maxLists, maxWords}
 use Rattle.refusal.specs.Refusal.{reply, written}
 use Rattle.refusal.specs.Lowest.{lower, lowest}
 use Rattle.refusal.specs.declared.Refusal.{Refusal}
@@ -17,7 +16,7 @@ use Rattle.refusal.specs.declared.Outcome.{Outcome}
 use Rattle.refusal.specs.declared.Outcome.the-variants.{Done, Refused}
 use Rattle.lists.specs.Padded.{padded}
 use Rattle.lists.proofs.Padded.{padded-inside}
-use Rattle.album_layout.specs.Layout.{count, entryWords, listsOf}
+use Rattle.album_layout.specs.Layout.{count, listsOf}
 use Rattle.album_layout.specs.Calls.{albumRefusals}
 use Rattle.album_layout.specs.Internal.{Passed}
 use Rattle.album_layout.proofs.Places.{length-lists}
@@ -32,7 +31,7 @@ use Rattle.report_text.proofs.Puts.{put-is, put-then}
 use Rattle.report_text.proofs.Fits.{named-fits, lines-fit}
 use Rattle.report_text.proofs.Sound.{sound-lines}
 
-module _ (p : ℕ) (s : List ℕ) (e : Passed p s) (bytes : Bytes s) where
+module _ (p : ℕ) (s : List ℕ) (e : Passed p s) where
   abbrev first : List ℕ
   first = line (⟨lists⟩ ∷ decimal (count s) ∷ [])
 
@@ -43,7 +42,7 @@ module _ (p : ℕ) (s : List ℕ) (e : Passed p s) (bytes : Bytes s) where
   lists-fit =
       let few = passed-obeys p s e .few in
       let n = length-lists s in
-      let fits = lines-fit (listsOf s) 0 (omega arith) (λ j l. let h = passed-each p s e bytes entryWords (omega arith) j l .short in omega arith) in
+      let fits = lines-fit (listsOf s) 0 (omega arith) (λ j l. let h = passed-each p s e maxWords (omega arith) j l .short in omega arith) in
       omega arith
 
   module _ {a : List ℕ} (q : length a ≡ maxText) where

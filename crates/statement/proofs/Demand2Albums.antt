@@ -23,7 +23,7 @@ use Rattle.lists.specs.Bytes.{Bytes, bytesOf}
 use Rattle.lists.specs.Refused.{hasLoose, anyOf}
 use Rattle.lists.proofs.Search.{tight}
 use Rattle.lists.specs.Padded.{padded}
-use Rattle.album_layout.specs.Layout.{count, degreeAt, startAt, entryWords, wrongCount, brokenLayout, listAt, listsOf}
+use Rattle.album_layout.specs.Layout.{count, degreeAt, startAt, wrongCount, brokenLayout, listAt, listsOf}
 use Rattle.album_layout.specs.Calls.{albumRefusals, checkRefusals, bodyOf}
 use Rattle.album_layout.specs.Internal.{Passed}
 use Rattle.album_layout.proofs.Places.{length-lists}
@@ -81,7 +81,7 @@ module _ (s : List ℕ) (bytes : Bytes s) (fine : Fine s) where
         few = omega (arith, o .few);
         each =
             λ k l.
-            let h = passed-each p s passed bytes entryWords (omega arith) k l in
+            let h = passed-each p s passed maxWords (omega arith) k l in
             record { some = h .some; short = h .short; words = λ j. omega (arith, h .words j, modulus-high 0) };
       }
 
@@ -89,7 +89,7 @@ module _ (s : List ℕ) (bytes : Bytes s) (fine : Fine s) where
   low k j = go (decLt k (length (listsOf s)))
     where
       go : Dec (k < length (listsOf s)) → getD (getD (listsOf s) k []) j 0 < p
-      go (yes l) = passed-each p s (fine-passes s fine) bytes entryWords (omega arith) k l .words j
+      go (yes l) = passed-each p s (fine-passes s fine) maxWords (omega arith) k l .words j
       go (no l) = rw (List·getD-eq-default (listsOf s) [] {n = k} (omega arith)) (modulus-some 0)
 
   pub holds : Holds F65521 s (listsOf s)

@@ -17,16 +17,16 @@ use Rattle.refusal.proofs.First.{or-false}
 use Rattle.refusal.proofs.Answers.{done-reply}
 use Rattle.field.specs.Fields.{p, F65521, fieldAt}
 use Rattle.field.proofs.Fields.{modulus-high, modulus-some}
-use Rattle.lists.specs.Bytes.{Bytes}
 use Rattle.lists.specs.Degrees.{naiveDegree}
 use Rattle.lists.specs.Refused.{hasLoose, anyOf}
 use Rattle.lists.proofs.Search.{none-loose}
 use Rattle.album_layout.specs.Written.{albumOf}
 use Rattle.album_writer.specs.Cut.{wordsFor, cutBy, joined}
+use Rattle.album_writer.specs.Internal.{Low}
 use Rattle.album_writer.specs.Calls.{overFront, writeRows, writeAnswer, writeWritten}
 use Rattle.album_writer.proofs.Cut.{AllSome, joined-cut, degrees-cut, cut-joined, joined-size, joined-loose}
 use Rattle.album_writer.proofs.Album.{cut-writable}
-use Rattle.album_writer.proofs.Judged.{Taken, taken, taken-done}
+use Rattle.album_writer.proofs.Judged.{Taken, short-degrees, taken, taken-done}
 use Rattle.statement.specs.Demand2Calls.{Holds, AlbumWritten, WriteSo}
 use Rattle.statement.proofs.Demand2Albums.{no-loose}
 
@@ -38,7 +38,7 @@ each-low n (c ∷ lists) some e (suc k) j = each-low n lists some (or-false (has
 
 module _ (words degrees old : List ℕ) where
   -- ---- what is written
-  module _ (bytes : Bytes degrees) (t : Taken p words degrees old) where
+  module _ (t : Taken p words degrees old) where
     cut-tight : anyOf (hasLoose p) (cutBy degrees words) ≡ false
     cut-tight =
         joined-loose p (cutBy degrees words) ∙ ap (hasLoose p) (joined-cut degrees words (t .size)) ∙ t .tight
@@ -50,7 +50,7 @@ module _ (words degrees old : List ℕ) where
     unfolding fieldAt
     cut-holds =
         record {
-          writable = cut-writable degrees words (t .some) (t .few) (t .size) bytes low;
+          writable = cut-writable degrees words (t .some) (t .few) (t .size) (t .low) low;
           tight = each-low p (cutBy degrees words) (modulus-some 0) cut-tight;
           album = refl;
         }
@@ -73,6 +73,7 @@ module _ (words degrees old : List ℕ) where
         record {
           some = omega (arith, number, h .writable .some);
           few = omega (arith, number, h .writable .few);
+          low = subst Low (sym ed) (short-degrees lists (λ k l. h .writable .each k l .short));
           size = ap length ew ∙ joined-size lists some ∙ sym (ap wordsFor ed);
           tight = ap (hasLoose p) ew ∙ sym (joined-loose p lists) ∙ no-loose p lists (h .tight);
           room = room;
@@ -89,8 +90,8 @@ module _ (words degrees old : List ℕ) where
           w ∙ ap₂ (λ o l. written o (overFront l old) old) d is,
         )
 
-    album-written : (n : ℕ) → Bytes degrees → r ≡ reply Done (n ∷ []) → AlbumWritten F65521 words degrees old out n
-    album-written n bytes a =
+    album-written : (n : ℕ) → r ≡ reply Done (n ∷ []) → AlbumWritten F65521 words degrees old out n
+    album-written n a =
         let d = done-reply (lowest (writeRows p words degrees old)) (n ∷ []) (length (albumOf (cutBy degrees words)) ∷ []) (sym a ∙ e) in
         let t = taken p words degrees old (d .0) in
         let size : length (albumOf (cutBy degrees words)) ≡ n = sym (ap (λ l. getD l 0 0) (d .1)) in
@@ -98,12 +99,12 @@ module _ (words degrees old : List ℕ) where
         record {
           album =
               subst (λ l. Holds F65521 l (cutBy degrees words)) (sym (ap (take n) new ∙ take-at (albumOf (cutBy degrees words)) _ n size))
-              (cut-holds bytes t);
+              (cut-holds t);
           all-words = joined-cut degrees words (t .size);
           all-degrees = degrees-cut degrees words (omega (arith, t .size));
           size = sym size;
           after = ap (drop n) new ∙ drop-at (albumOf (cutBy degrees words)) _ n size ∙ ap (λ m. drop m old) size;
         }
 
-    pub write-so : Bytes degrees → WriteSo F65521 words degrees old out r
-    write-so bytes = record { writes = λ n a. album-written n bytes a; again = written-again }
+    pub write-so : WriteSo F65521 words degrees old out r
+    write-so = record { writes = album-written; again = written-again }

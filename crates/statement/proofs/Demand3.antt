@@ -13,7 +13,6 @@ use Rattle.field.proofs.Fields.{longest-in}
 use Rattle.refusal.specs.Limits.{maxWords}
 use Rattle.refusal.specs.Lowest.{lowest}
 use Rattle.refusal.specs.declared.Outcome.the-variants.{Done}
-use Rattle.lists.specs.Bytes.{Bytes}
 use Rattle.lists.specs.Degrees.{significant}
 use Rattle.lists.specs.Lists.{Coefficients}
 use Rattle.euclid_theory.proofs.Division.{meaning-at-1}
@@ -42,12 +41,12 @@ module _ (F : PrimeField) where
     index : ℕ
     some : 0 < significant (getD lists index [])
 
-  album-ready : maxWords ≤ F .p → (s h : List ℕ) → Bytes s → lowest (albumGcdRows (F .p) maxWords s h) ≡ Done → Ready (listsOf s)
-  album-ready wide s h bytes e =
+  album-ready : maxWords ≤ F .p → (s h : List ℕ) → lowest (albumGcdRows (F .p) maxWords s h) ≡ Done → Ready (listsOf s)
+  album-ready wide s h e =
       let j = judged-fine (F .p) maxWords s h e in
       let one = nonzero (listsOf s) (j .1) in
       record {
-        each = coefficients-each F maxWords wide (listsOf s) (passed-each (F .p) s (j .0) bytes maxWords (omega arith)) one;
+        each = coefficients-each F maxWords wide (listsOf s) (passed-each (F .p) s (j .0) maxWords (omega arith)) one;
         index = one .index;
         some = one .some;
       }
@@ -56,8 +55,8 @@ module _ (F : PrimeField) where
   demand3 wide =
       record {
         of-album =
-            λ s h bytes e.
-            let a = album-ready wide s h bytes e in
+            λ s h e.
+            let a = album-ready wide s h e in
             album-is-greatest F (listsOf s) (a .each) (a .index) (a .some);
         of-two =
             λ f g h e.
@@ -68,8 +67,8 @@ module _ (F : PrimeField) where
             let r = gcd-ready F maxWords wide f g h e .0 in
             gcd-is-the F f g (r .coefficients-f) (r .coefficients-g) (r .some);
         of-album-h =
-            λ s h bytes e.
-            let a = album-ready wide s h bytes e in
+            λ s h e.
+            let a = album-ready wide s h e in
             album-is-the F (listsOf s) (a .each) (a .index) (a .some);
         of-cofactors =
             λ f g h a b e.

@@ -74,10 +74,10 @@ module _ (words degrees s : List ℕ) (h : Holds F65521 s (cutBy degrees words))
         whole = e;
       }
 
-pub written-then-read : (words degrees out : List ℕ) (n : ℕ) → Bytes degrees → writeAnswer 0 words degrees out ≡ reply Done (n ∷ [])
+pub written-then-read : (words degrees out : List ℕ) (n : ℕ) → writeAnswer 0 words degrees out ≡ reply Done (n ∷ [])
     → ReadBack words degrees (take n (writeWritten 0 words degrees out)) n
-written-then-read words degrees out n bytes e =
-    let w = write-so words degrees out refl refl bytes .writes n e in
+written-then-read words degrees out n e =
+    let w = write-so words degrees out refl refl .writes n e in
     read-back words degrees _ (w .album) (w .all-degrees) n (sym (ap length (w .album .album)) ∙ sym (w .size))
 
 -- ---- read, then written

@@ -17,7 +17,6 @@ use Rattle.algebra.specs.PrimeField.{PrimeField, residue}
 use Rattle.refusal.specs.Limits.{maxWords}
 use Rattle.refusal.specs.Lowest.{lowest}
 use Rattle.refusal.specs.declared.Outcome.the-variants.{Done}
-use Rattle.lists.specs.Bytes.{Bytes}
 use Rattle.lists.specs.Degrees.{naiveDegree}
 use Rattle.lists.specs.Lists.{meaning}
 use Rattle.euclid_theory.specs.Division.{quotientOf, remainderOf}
@@ -38,8 +37,8 @@ module _ (F : PrimeField) where
 
   infixl 70 _*ˢ_
   pub record Demand3 : Type 0 where
-    -- the GCD of an album of bytes s: (1-t)^c·h divides each list, and every polynomial that divides them all divides it
-    pub of-album : (s h : List ℕ) → Bytes s → lowest (albumGcdRows (F .p) maxWords s h) ≡ Done
+    -- the GCD of an album s: (1-t)^c·h divides each list, and every polynomial that divides them all divides it
+    pub of-album : (s h : List ℕ) → lowest (albumGcdRows (F .p) maxWords s h) ≡ Done
         → IsGreatestOf F (listsOf s) (⟨1-t⟩^ (F .series) (commonPower (listsOf s)) *ˢ meaning F (albumGcd F (listsOf s) .list))
     -- the GCD of two lists: (1-t)^c·h divides both, and every polynomial that divides both divides it
     pub of-two : (f g h : List ℕ) → lowest (gcdRows (F .p) maxWords f g h) ≡ Done
@@ -47,7 +46,7 @@ module _ (F : PrimeField) where
     -- its h and rounds are those that document 01's rounds as a relation define, and no others are (gcd-only)
     pub of-h : (f g h : List ℕ) → lowest (gcdRows (F .p) maxWords f g h) ≡ Done → TheGcd F f g (gcdOf F f g) (roundsOf F f g)
     -- an album's h and sum of rounds are those that the turns of its lists define, and no others are (album-only)
-    pub of-album-h : (s h : List ℕ) → Bytes s → lowest (albumGcdRows (F .p) maxWords s h) ≡ Done
+    pub of-album-h : (s h : List ℕ) → lowest (albumGcdRows (F .p) maxWords s h) ≡ Done
         → TheAlbumGcd F (listsOf s) (albumGcd F (listsOf s) .list) (albumGcd F (listsOf s) .rounds)
     -- the cofactors: a·f + b·g = (1-t)^(m-w)·h, and the conditions that fix both
     pub of-cofactors : (f g h a b : List ℕ) → lowest (cofactorRows (F .p) maxWords f g h a b) ≡ Done

@@ -250,7 +250,7 @@ pub extern "C" fn test_read_list(
 #[no_mangle]
 pub extern "C" fn test_write_album(
     words: &[u16],
-    degrees: &[u8],
+    degrees: &[u16],
     out: &mut [u8],
     answer: &mut [usize],
 ) -> u8

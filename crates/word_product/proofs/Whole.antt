@@ -19,9 +19,9 @@ use Rattle.word_product.proofs.OneProduct.{whole-factors, whole-strip, 
 use Rattle.word_product.proofs.ThreeProducts.{half-factors, half-strip, halves-enough, halves-small, halves-whole}
 
 module _ (a b : List ℕ) (p : (k : ℕ) → getD a k 0 < 65536) (q : (k : ℕ) → getD b k 0 < 65536) where
-  -- in buffers for factors of up to `room` words; 2^15 of them keep every sum well below 2^63
-  module _ (room : ℕ) (low : room ≤ 32768) (x y s : List ℕ) (la : length a ≤ room) (lb : length b ≤ room) (lx : length x ≡ room + 8)
-      (ly : length y ≡ room + 16) (ls : length s ≡ 2 * room + 8) where
+  -- in buffers of which the second factor's has `size` words; 2^15 of them keep every sum well below 2^63
+  module _ (size : ℕ) (low : size ≤ 32768) (x y s : List ℕ) (la : length a + 16 ≤ size) (lb : length b + 16 ≤ size) (lx : length x + 8 ≡ size)
+      (ly : length y ≡ size) (ls : length s + 24 ≡ 2 * size) where
     one-block : Shifted 0 a x → Shifted 7 b y → Blocks 1 ((length a + 7) / 8) (2 * (length b / 2)) x y s
     one-block f g =
         record {
@@ -42,7 +42,7 @@ module _ (a b : List ℕ) (p : (k : ℕ) → getD a k 0 < 65536) (q : (k : ℕ) 
         strip zero l = whole-strip a b p q (8 * ((length a + 7) / 8)) (2 * (length b / 2)) x y f g (omega arith) (omega arith)
         strip (suc t) l = absurd (omega arith)
 
-    three-blocks : (i : ℕ) → 3 * (8 * i + 15) ≤ room + 16 → length b ≤ 16 * i + 1 → FirstHalves (8 * i) a (block (8 * i) 0 x) (block (8 * i) 1 x) (block (8 * i) 2 x)
+    three-blocks : (i : ℕ) → 3 * (8 * i + 15) ≤ size → length b ≤ 16 * i + 1 → FirstHalves (8 * i) a (block (8 * i) 0 x) (block (8 * i) 1 x) (block (8 * i) 2 x)
         → SecondHalves (8 * i) b (block (8 * i + 15) 0 y) (block (8 * i + 15) 1 y) (block (8 * i + 15) 2 y) → Blocks 3 i (8 * i) x y s
     three-blocks i l m f g =
         record {
@@ -56,7 +56,7 @@ module _ (a b : List ℕ) (p : (k : ℕ) → getD a k 0 < 65536) (q : (k : ℕ) 
         }
 
   -- one product where g is 0, three else
-  module _ (room : ℕ) (low : room ≤ 32768) (g count rows v : ℕ) (x y s : List ℕ) (u : Halving room (length a) (length b) g) (l : Laid g a b x y)
+  module _ (size : ℕ) (low : size ≤ 32768) (g count rows v : ℕ) (x y s : List ℕ) (u : Halving size (length a) (length b) g) (l : Laid g a b x y)
       (ec : count ≡ cond (eqb g 0) 1 3) (er : rows ≡ cond (eqb g 0) ((length a + 7) / 8) g) (ev : v ≡ cond (eqb g 0) (2 * (length b / 2)) (8 * g)) where
     one : g ≡ 0 → (count ≡ 1) × (rows ≡ (length a + 7) / 8) × (v ≡ 2 * (length b / 2))
     one e = (ec ∙ rw (eq-eqb g 0 e), er ∙ rw (eq-eqb g 0 e), ev ∙ rw (eq-eqb g 0 e))
@@ -64,15 +64,15 @@ module _ (a b : List ℕ) (p : (k : ℕ) → getD a k 0 < 65536) (q : (k : ℕ) 
     three : (g ≡ 0 → ⊥) → (count ≡ 3) × (rows ≡ g) × (v ≡ 8 * g)
     three e = (ec ∙ rw (ne-eqb g 0 e), er ∙ rw (ne-eqb g 0 e), ev ∙ rw (ne-eqb g 0 e))
 
-    pub blocks-fit : length a ≤ room → length b ≤ room → length x ≡ room + 8 → length y ≡ room + 16 → length s ≡ 2 * room + 8 → Blocks count rows v x y s
+    pub blocks-fit : length a + 16 ≤ size → length b + 16 ≤ size → length x + 8 ≡ size → length y ≡ size → length s + 24 ≡ 2 * size → Blocks count rows v x y s
     blocks-fit la lb lx ly ls = go (ℕ-discrete g 0)
       where
         go : Dec (g ≡ 0) → Blocks count rows v x y s
-        go (yes e) = rw (one e .0, one e .1, one e .2) (one-block room low x y s la lb lx ly ls (l .whole e .0) (l .whole e .1))
+        go (yes e) = rw (one e .0, one e .1, one e .2) (one-block size low x y s la lb lx ly ls (l .whole e .0) (l .whole e .1))
         go (no e) =
             let cut = u .fits (omega arith) in
             rw (three e .0, three e .1, three e .2)
-            (three-blocks room low x y s la lb lx ly ls g (cut .0) (cut .3) (l .first (omega arith)) (l .second (omega arith)))
+            (three-blocks size low x y s la lb lx ly ls g (cut .0) (cut .3) (l .first (omega arith)) (l .second (omega arith)))
 
     module _ (d : Multiplied rows v x y count s) where
       as-one : g ≡ 0 → Multiplied ((length a + 7) / 8) (2 * (length b / 2)) x y 1 s

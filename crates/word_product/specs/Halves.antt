@@ -1,7 +1,8 @@
 -- Karatsuba's product: three products of halves instead of four. Both factors are cut after h words, into a0, a1 and b0, b1; then
 -- a0 b1 + a1 b0 is (a0 + a1) (b0 + b1) less a0 b0 and a1 b1.
---     Halving room n m g     h = 8 g fits two factors of n and m words, and three blocks of h + 15 fit room + 16 words; where g is
+--     Halving size n m g     h = 8 g fits two factors of n and m words, and three blocks of h + 15 fit a buffer of so many words; where g is
 --                            0 they are not cut
+--     fewWords, moreWords    two factors of at most so many words together take small buffers, or middle ones
 --     FirstHalves            x0, x1: the halves of the first factor; x2: their sum
 --     SecondHalves           y0, y1: the halves of the second factor, each behind 7 zeros; y2: their sum
 --     Laid g a b x y         the factors in their buffers: whole, or as three blocks
@@ -21,8 +22,14 @@ use Prim.Native.Nat.{ℕ, _+_, _-_, _*_, _≤_, _<_}
 use lib.ListN.{getD}
 use Rattle.word_product.specs.Rows.{Shifted, block, behind}
 
-pub record Halving (room n m g : ℕ) : Type 0 where
-  pub fits : 0 < g → (3 * (8 * g + 15) ≤ room + 16) × (n ≤ 16 * g) × (8 * g ≤ m) × (m ≤ 16 * g + 1)
+abbrev pub fewWords : ℕ
+fewWords = 40
+
+abbrev pub moreWords : ℕ
+moreWords = 264
+
+pub record Halving (size n m g : ℕ) : Type 0 where
+  pub fits : 0 < g → (3 * (8 * g + 15) ≤ size) × (n ≤ 16 * g) × (8 * g ≤ m) × (m ≤ 16 * g + 1)
 
 pub record FirstHalves (h : ℕ) (a x0 x1 x2 : List ℕ) : Type 0 where
   pub low : (k : ℕ) → k < h → getD x0 k 0 ≡ getD a k 0

@@ -12,15 +12,16 @@ ghost use Rattle.lists.specs.Words.{ZeroFrom};
 ghost use Rattle.word_product_rows.specs.Placed.{Placed};
 ghost use Rattle.word_product.specs.Convolution.{convolvedInto, convolution};
 ghost use Rattle.word_product.specs.Rows.{Factors, Strip, rowSum, block, Blocks, Multiplied, Whole, remainders};
-ghost use Rattle.word_product.specs.Halves.{Halving, SecondHalves, Laid, sumAt, crossAt, joinAt, Joined, Enough, Small};
+ghost use Rattle.word_product.specs.Halves.{fewWords, moreWords, Halving, SecondHalves, Laid, sumAt, crossAt, joinAt, Joined, Enough, Small};
 
 // The words of the buffers. The first factor is padded to groups of eight words; the second stands between zeros, at least 7 on each side;
-// the sums are as long as a product of such factors.
-const FIRST: usize = refusal::MAX_WORDS + 8;
+// the sums are as long as a product of such factors. Each is filled with zeros, so there are three sizes: for factors of few words together,
+// for more, and for any.
+const FEW: usize = 40;
 
-const SECOND: usize = refusal::MAX_WORDS + 16;
+const MORE: usize = 264;
 
-const SUMS: usize = 2 * refusal::MAX_WORDS + 8;
+const ANY: usize = refusal::MAX_WORDS;
 
 // The sum of the rows of a block of x and one of y, in a block of s, from i, j and k on. s is 0 from k on. A block of x has 8 g words, one
 // of y at most v + 1 between zeros, at least 7 on each side, one of s all words of the product.
@@ -46,7 +47,7 @@ fn multiply_block(
 }
 
 // Each block of s, which is 0: the sum of the rows of the blocks of x and y. The loops of the rows are called from this one place, so that
-// LLVM inlines them down to where the buffers are and knows that they do not overlap.
+// LLVM writes them once.
 fn multiply(x: &[u64], y: &[u64], count: usize, g: usize, v: usize, s: &mut [u64])
     requires { ⌜ Blocks count g v (now x) (now y) (now s) × ZeroFrom 0 (now s) ⌝ }
     ensures { λ _. ⌜ Multiplied g v (given x) (given y) count (now (s .exit)) ⌝ }
@@ -119,14 +120,14 @@ fn reduce_words(field: u8, s: &[u64], out: &mut [u16])
 }
 
 // How many groups of eight rows half of the first factor has, where the factors are cut: three blocks fit each buffer, which they do where
-// they fit the second factor's, and the words that the groups reach are fewer, with 80 more for the sums and differences, than those of the
+// they fit the second factor's, of so many words, and the words that the groups reach are fewer, with 80 more for the sums and differences, than those of the
 // whole factors' rows. Else 0.
-fn halving(n: usize, m: usize) -> usize
-    requires { ⌜ (n ≤ maxWords) × (m ≤ maxWords) ⌝ }
-    ensures { λ g. ⌜ Halving maxWords n m g ⌝ }
+fn halving(n: usize, m: usize, size: usize) -> usize
+    requires { ⌜ (n + 16 ≤ size) × (m + 16 ≤ size) × (size ≤ maxWords + 16) ⌝ }
+    ensures { λ g. ⌜ Halving size n m g ⌝ }
 {
     let g = (n + 15) / 16;
-    if SECOND < 3 * (8 * g + 15) {
+    if size < 3 * (8 * g + 15) {
         return 0;
     }
     if m < 8 * g {
@@ -180,8 +181,8 @@ fn halve_second(b: &[u16], h: usize, s: &mut [u64])
 
 // The factors in their buffers, which are 0.
 fn lay(a: &[u16], b: &[u16], g: usize, x: &mut [u64], y: &mut [u64])
-    requires { ⌜ (length (now a) ≤ maxWords) × (length (now b) ≤ maxWords) × Halving maxWords (length (now a)) (length (now b)) g ⌝ }
-    requires { ⌜ (length (now x) ≡ maxWords + 8) × (length (now y) ≡ maxWords + 16) × ZeroFrom 0 (now x) × ZeroFrom 0 (now y) ⌝ }
+    requires { ⌜ (length (now a) + 16 ≤ length (now y)) × (length (now b) + 16 ≤ length (now y)) × Halving (length (now y)) (length (now a)) (length (now b)) g ⌝ }
+    requires { ⌜ (length (now x) + 8 ≡ length (now y)) × (length (now y) ≤ maxWords + 16) × ZeroFrom 0 (now x) × ZeroFrom 0 (now y) ⌝ }
     ensures { λ _. ⌜ Laid g (given a) (given b) (now (x .exit)) (now (y .exit)) ⌝ }
 {
     widen(a, 0, a.len(), 0, x);
@@ -204,12 +205,12 @@ fn join(s: &mut [u64], g: usize)
 
 // The product in whole numbers.
 fn multiply_lists(a: &[u16], b: &[u16], x: &mut [u64], y: &mut [u64], s: &mut [u64])
-    requires { ⌜ (length (now a) ≤ maxWords) × (length (now b) ≤ maxWords) ⌝ }
-    requires { ⌜ (length (now x) ≡ maxWords + 8) × (length (now y) ≡ maxWords + 16) × (length (now s) ≡ 2 * maxWords + 8) ⌝ }
+    requires { ⌜ (length (now a) + 16 ≤ length (now y)) × (length (now b) + 16 ≤ length (now y)) × (length (now y) ≤ maxWords + 16) ⌝ }
+    requires { ⌜ (length (now x) + 8 ≡ length (now y)) × (length (now s) + 24 ≡ 2 * length (now y)) ⌝ }
     requires { ⌜ ZeroFrom 0 (now x) × ZeroFrom 0 (now y) × ZeroFrom 0 (now s) ⌝ }
     ensures { λ _. ⌜ Whole (given a) (given b) (now (s .exit)) ⌝ }
 {
-    let g = halving(a.len(), b.len());
+    let g = halving(a.len(), b.len(), y.len());
     lay(a, b, g, x, y);
     let plan = plan_of(g, a.len(), b.len());
     multiply(x, y, plan.count, plan.groups, plan.width, s);
@@ -226,8 +227,9 @@ fn convolve_in(
     s: &mut [u64],
     out: &mut [u16],
 )
-    requires { ⌜ (length (now a) ≤ maxWords) × (length (now b) ≤ maxWords) × (length (now out) + 1 ≡ length (now a) + length (now b)) ⌝ }
-    requires { ⌜ (length (now x) ≡ maxWords + 8) × (length (now y) ≡ maxWords + 16) × (length (now s) ≡ 2 * maxWords + 8) ⌝ }
+    requires { ⌜ (length (now a) + 16 ≤ length (now y)) × (length (now b) + 16 ≤ length (now y)) × (length (now y) ≤ maxWords + 16) ⌝ }
+    requires { ⌜ (length (now x) + 8 ≡ length (now y)) × (length (now s) + 24 ≡ 2 * length (now y)) ⌝ }
+    requires { ⌜ length (now out) + 1 ≡ length (now a) + length (now b) ⌝ }
     requires { ⌜ ZeroFrom 0 (now x) × ZeroFrom 0 (now y) × ZeroFrom 0 (now s) ⌝ }
     ensures { λ _. ⌜ now (out .exit) ≡ convolution (fieldAt field) (given a) (given b) ⌝ }
 {
@@ -235,13 +237,36 @@ fn convolve_in(
     reduce_words(field, s, out);
 }
 
-fn convolve_into(field: u8, a: &[u16], b: &[u16], out: &mut [u16])
+// The product of two factors of few words together.
+fn convolve_few(field: u8, a: &[u16], b: &[u16], out: &mut [u16])
+    requires { ⌜ (length (now a) + length (now b) ≤ fewWords) × (length (now out) + 1 ≡ length (now a) + length (now b)) ⌝ }
+    ensures { λ _. ⌜ now (out .exit) ≡ convolution (fieldAt field) (given a) (given b) ⌝ }
+{
+    let mut x = [0u64; FEW + 8];
+    let mut y = [0u64; FEW + 16];
+    let mut s = [0u64; 2 * FEW + 8];
+    convolve_in(field, a, b, &mut x, &mut y, &mut s, out);
+}
+
+// Of two factors of more words.
+fn convolve_more(field: u8, a: &[u16], b: &[u16], out: &mut [u16])
+    requires { ⌜ (length (now a) + length (now b) ≤ moreWords) × (length (now out) + 1 ≡ length (now a) + length (now b)) ⌝ }
+    ensures { λ _. ⌜ now (out .exit) ≡ convolution (fieldAt field) (given a) (given b) ⌝ }
+{
+    let mut x = [0u64; MORE + 8];
+    let mut y = [0u64; MORE + 16];
+    let mut s = [0u64; 2 * MORE + 8];
+    convolve_in(field, a, b, &mut x, &mut y, &mut s, out);
+}
+
+// Of any two factors.
+fn convolve_any(field: u8, a: &[u16], b: &[u16], out: &mut [u16])
     requires { ⌜ (length (now a) ≤ maxWords) × (length (now b) ≤ maxWords) × (length (now out) + 1 ≡ length (now a) + length (now b)) ⌝ }
     ensures { λ _. ⌜ now (out .exit) ≡ convolution (fieldAt field) (given a) (given b) ⌝ }
 {
-    let mut x = [0u64; FIRST];
-    let mut y = [0u64; SECOND];
-    let mut s = [0u64; SUMS];
+    let mut x = [0u64; ANY + 8];
+    let mut y = [0u64; ANY + 16];
+    let mut s = [0u64; 2 * ANY + 8];
     convolve_in(field, a, b, &mut x, &mut y, &mut s, out);
 }
 
@@ -255,8 +280,17 @@ pub fn convolve(field: u8, a: &[u16], b: &[u16], out: &mut [u16])
     if refusal::MAX_WORDS < b.len() {
         return;
     }
-    if out.len() + 1 != a.len() + b.len() {
+    let together = a.len() + b.len();
+    if out.len() + 1 != together {
         return;
     }
-    convolve_into(field, a, b, out);
+    if together <= FEW {
+        convolve_few(field, a, b, out);
+        return;
+    }
+    if together <= MORE {
+        convolve_more(field, a, b, out);
+        return;
+    }
+    convolve_any(field, a, b, out);
 }

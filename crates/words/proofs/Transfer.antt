@@ -3,6 +3,7 @@
 --     into-exact      as many words as the bytes have: their words
 --     into-padded     at least as many: their words, padded
 --     bytes-fit       a slice of two bytes for each word holds the bytes of the words
+--     copied-fit      a slice of as many words holds the words; one of another length is kept (copied-not)
 -- Assumes nothing.
 use mathlib.Core.Path.{_≡_, refl, sym, _∙_, ap, subst}
 use mathlib.Core.List.{List, [], _∷_}
@@ -18,7 +19,7 @@ use Rattle.lists.proofs.Tabulate.{tabulated, length-tabulate, getD-tabulate}
 use Rattle.lists.proofs.Filled.{Filled, fill-step}
 use Rattle.lists.specs.Bytes.{wordAt, wordCount, wordsOf, bytesOf}
 use Rattle.lists.proofs.Bytes.{length-wordsOf, getD-wordsOf}
-use Rattle.words.specs.Transfer.{wordsInto, bytesInto}
+use Rattle.words.specs.Transfer.{wordsInto, bytesInto, copiedInto}
 
 -- ---- reading
 module _ (s : List ℕ) where
@@ -105,3 +106,12 @@ module _ (words old : List ℕ) where
   pub bytes-not : ¬ (length old ≡ 2 * length words) → old ≡ bytesInto words old
   unfolding bytesInto
   bytes-not f = sym (rw (ne-eqb (length old) (2 * length words) f))
+
+-- ---- copying
+pub copied-fit : (words old : List ℕ) → length words ≡ length old → copiedInto words old ≡ words
+unfolding copiedInto
+copied-fit words old e = rw (eq-eqb (length words) (length old) e)
+
+pub copied-not : (words old : List ℕ) → ¬ (length words ≡ length old) → copiedInto words old ≡ old
+unfolding copiedInto
+copied-not words old f = rw (ne-eqb (length words) (length old) f)

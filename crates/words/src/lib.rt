@@ -5,7 +5,7 @@ ghost use Prim.Native.Nat.{ℕ, max, min, _+_, _*_, _/_, _%_, _≤_, _<_};
 ghost use lib.ListN.{length, getD};
 ghost use Rattle.refusal.specs.Contract.{given};
 ghost use Rattle.lists.specs.Bytes.{byteValues, wordAt, wordsOf};
-ghost use Rattle.words.specs.Transfer.{wordsInto, bytesInto};
+ghost use Rattle.words.specs.Transfer.{wordsInto, bytesInto, copiedInto};
 
 // Byte i, as a number.
 pub fn byte_at(bytes: &[u8], i: usize) -> usize
@@ -100,6 +100,20 @@ pub fn write_words(words: &[u16], bytes: &mut [u8])
     while k < words.len() {
         bytes[2 * k] = low(words[k]);
         bytes[2 * k + 1] = high(words[k]);
+        k += 1;
+    }
+}
+
+// The words of a slice, in another of as many; nothing in one of another length.
+pub fn copy(from: &[u16], to: &mut [u16])
+    ensures { λ _. ⌜ now (to .exit) ≡ copiedInto (given from) (given to) ⌝ }
+{
+    if from.len() != to.len() {
+        return;
+    }
+    let mut k = 0;
+    while k < from.len() {
+        to[k] = from[k];
         k += 1;
     }
 }

@@ -5,7 +5,7 @@ use crate::field::P;
 use crate::model::{self, List, MAX_WORDS};
 
 /// The most bytes of a text. The program reads one more, to see that a text is longer.
-pub const MAX_TEXT: usize = 65_536;
+pub const MAX_TEXT: usize = 262_144;
 
 /// The lists that a text says, or the number of its refusal.
 pub fn lists(text: &[u8]) -> Result<Vec<List>, u8> {

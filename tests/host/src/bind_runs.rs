@@ -19,8 +19,8 @@ pub fn compare(tally: &mut Tally) {
         tally.check(&shown(text), bind::lists(text).err().unwrap_or(0) == *number);
     }
     let largest = fs::read("samples/largest.txt").expect("a sample");
-    let long = [largest.clone(), vec![b' '; 70_000]].concat();
-    let in_pieces: [(&[u8], usize); 4] = [(b"0 1\n0 0 1\n", 1), (&largest, 100), (&largest, 4_097), (&long, 4_096)];
+    let long = [largest.clone(), vec![b' '; 200_000]].concat();
+    let in_pieces: [(&[u8], usize); 4] = [(b"0 1\n0 0 1\n", 1), (&largest, 400), (&largest, 4_097), (&long, 4_096)];
     for (text, piece) in in_pieces {
         compare_text(tally, text, piece);
     }

@@ -54,7 +54,7 @@ pub const CALLS: [(Name, &[u8]); 23] = [
     (Name::ReadList, &[0, 1, 2, 3, 5, 10]),
     (Name::Contents, &[0, 1, 2, 5, 10]),
     (Name::GcdOfAlbum, &[0, 1, 2, 5, 9, 10]),
-    (Name::WriteAlbum, &[0, 1, 4, 5, 10]),
+    (Name::WriteAlbum, &[0, 1, 2, 4, 5, 10]),
 ];
 
 /// What is handed over, before a call and after it. `part` is where the bytes of a body or of a written album go, `answer` the
@@ -62,7 +62,7 @@ pub const CALLS: [(Name, &[u8]); 23] = [
 #[derive(Clone, Debug, Default, PartialEq)]
 pub struct Memory {
     pub lists: Vec<Vec<u16>>,
-    pub degrees: Vec<u8>,
+    pub degrees: Vec<u16>,
     pub album: Vec<u8>,
     pub results: Vec<Vec<u16>>,
     pub part: Vec<u8>,
@@ -147,7 +147,7 @@ unsafe extern "C" {
     fn test_write_album(
         words: List,
         words_len: usize,
-        degrees: *const u8,
+        degrees: *const u16,
         degrees_len: usize,
         out: *mut u8,
         out_len: usize,
@@ -166,8 +166,8 @@ pub fn run(call: &PublicCall) -> Answer {
     let mut part = Lent::new(&before.part);
     let mut answer = Lent::new(&before.answer);
     let returned = call_engine(call, &mut lists, &mut degrees, &mut album, &mut results, &mut part, &mut answer);
-    let words_stray = lists.iter().chain(&results).any(Lent::is_stray);
-    let bytes_stray = [&degrees, &album, &part].into_iter().any(Lent::is_stray);
+    let words_stray = lists.iter().chain(&results).chain([&degrees]).any(Lent::is_stray);
+    let bytes_stray = [&album, &part].into_iter().any(Lent::is_stray);
     let stray = words_stray || bytes_stray || answer.is_stray();
     let memory = Memory {
         lists: lists.iter_mut().map(|list| list.part().to_vec()).collect(),
@@ -192,7 +192,7 @@ pub fn degree_in_t(list: &[u16]) -> Option<usize> {
 fn call_engine(
     call: &PublicCall,
     lists: &mut [Lent<u16>],
-    degrees: &mut Lent<u8>,
+    degrees: &mut Lent<u16>,
     album: &mut Lent<u8>,
     results: &mut [Lent<u16>],
     part: &mut Lent<u8>,

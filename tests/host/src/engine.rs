@@ -3,8 +3,8 @@
 use crate::album::bytes;
 use crate::lent::Lent;
 use crate::model::MAX_WORDS;
-use std::fs::File;
-use std::io::Write;
+use std::fs::{self, File};
+use std::io::{Seek, Write};
 use std::process::{ChildStdout, Command, Stdio};
 use std::{env, thread, time::Duration};
 
@@ -106,6 +106,16 @@ pub fn run_with(name: &str, arguments: &[&str]) -> [Vec<u8>; 2] {
 /// What a program writes to standard error on this input, where standard output is this file.
 pub fn run_to(name: &str, input: File, output: File) -> Vec<u8> {
     Command::new(program(name)).stdin(input).stdout(output).output().expect("the program runs").stderr
+}
+
+/// How many bytes a program reads of a file of so many. The place in it that the program leaves is shared with it.
+pub fn bytes_read(name: &str, bytes: usize) -> usize {
+    let path = "target/comparer/input";
+    fs::write(path, vec![b'1'; bytes]).expect("a file");
+    let mut file = File::open(path).expect("the same file");
+    let input = file.try_clone().expect("a second handle");
+    Command::new(program(name)).stdin(input).output().expect("the program runs");
+    file.stream_position().expect("a place in the file") as usize
 }
 
 /// What `report` writes on this input.

@@ -8,12 +8,14 @@ mod calls;
 mod compare;
 mod engine;
 mod field;
+mod lengths;
 mod lent;
 mod model;
 mod ordinary;
 mod poly;
 mod public;
 mod random;
+mod reading;
 mod report;
 mod texts;
 mod vectors;
@@ -25,7 +27,7 @@ use engine::{Call, Operation};
 use model::{Gcd, List, MAX_WORDS};
 use public::Done;
 use random::Random;
-use std::{collections::BTreeMap, fs, process::exit};
+use std::{collections::BTreeMap, fs, path::Path, process::exit};
 use vectors::Vector;
 
 const CALLS: usize = 10_000;
@@ -81,6 +83,8 @@ fn main() {
     compare_calls(&mut tally);
     compare_public_calls(&mut tally);
     ordinary::compare(&mut tally);
+    lengths::compare(&mut tally);
+    reading::compare(&mut tally);
     writing::compare(&mut tally);
     compare_albums(&mut tally);
     compare_raised_albums(&mut tally);
@@ -96,6 +100,7 @@ fn main() {
         compare::try_broken_copies(&mut Random(4)),
         public::try_broken_copies(&mut Random(5)),
         ordinary::try_broken_copies(&mut Random(11)),
+        reading::try_wrong_readers(&mut Random(14)),
         writing::try_broken_copies(&mut Random(8)),
         bind_runs::try_broken_copies(),
     ];
@@ -153,7 +158,7 @@ fn compare_calls(tally: &mut Tally) {
     tally.print_numbers("Product for a C host", &[0, 4, 5, 6, 10], 100);
     tally.print_numbers("Division for a C host", &[0, 4, 5, 7, 8, 10], 100);
     tally.print_numbers("Gcd for a C host", &[0, 4, 5, 9, 10], 100);
-    println!("  of the lists {none} have no word, {full} have 256 and {too_long} more");
+    println!("  of the lists {none} have no word, {full} have 1,024 and {too_long} more");
     println!("  of the GCDs {with_h} have w above 0 and {with_c} have c above 0; the most rounds are {most_rounds}");
 }
 
@@ -193,7 +198,7 @@ fn compare_public_calls(tally: &mut Tally) {
 
 fn compare_report(tally: &mut Tally, input: &[u8], piece: usize) {
     let fault = match engine::report_in_pieces(input, piece) {
-        Ok(text) => report_fault(input, &text),
+        Ok(text) => report_fault(&report::text(input), &text),
         Err(said) => Some(said),
     };
     if let Some(fault) = fault {
@@ -211,15 +216,15 @@ fn compare_albums(tally: &mut Tally) {
     // every first byte alone, and before a little more
     for count in 0..=255 {
         compare_report(tally, &[count], usize::MAX);
-        compare_report(tally, &[count, 0, 4, 0, 1, 0], usize::MAX);
+        compare_report(tally, &[count, 0, 0, 5, 0, 1, 0], usize::MAX);
     }
-    let full = album::written(&vec![(1..=256).collect::<List>(); 16]);
+    let full = album::written(&vec![(1..=1_024).collect::<List>(); 16]);
     assert_eq!(full.len(), album::MAX_BYTES);
     let longer = |bytes| [full.clone(), vec![0; bytes]].concat();
     let mut wrong_count = longer(1);
     wrong_count[0] = 17;
     let short = full[..full.len() - 1].to_vec();
-    let small_and_much = [example(), vec![0; 20_000]].concat();
+    let small_and_much = [example(), vec![0; 70_000]].concat();
     for input in [vec![], example(), full.clone(), short, longer(1), longer(2), longer(30_000), wrong_count, small_and_much] {
         compare_report(tally, &input, usize::MAX);
     }
@@ -228,15 +233,16 @@ fn compare_albums(tally: &mut Tally) {
         compare_report(tally, input, *piece);
     }
     let samples = samples();
-    samples.iter().for_each(|sample| compare_report(tally, sample, usize::MAX));
+    samples.values().for_each(|sample| compare_report(tally, sample, usize::MAX));
+    compare_sample_numbers(tally, &samples);
     tally.print_numbers("report", &[0, 1, 2, 5, 9], 30);
     println!("  of the albums {} were written in small pieces, and {} are those of samples/", in_pieces.len(), samples.len());
     tally.check("the example of document 01", report::text(&example()) == "lists 2\n0 1 1 0\n1 2 2 0\ngcd 1 0\n0 1\n");
     // the second example of docs/FORMAT.md, and the third, which is order 4's
-    let second = [2, 2, 7, 0, 3, 0x0D, 0, 0, 0, 0xF9, 0x7F, 0, 0, 0, 0, 0xA1, 0xAA, 0, 0, 0, 0];
+    let second = [2, 2, 0, 9, 0, 3, 0, 0x0F, 0, 0, 0, 0xF9, 0x7F, 0, 0, 0, 0, 0xA1, 0xAA, 0, 0, 0, 0];
     compare_report(tally, &second, usize::MAX);
     tally.check("docs/FORMAT.md", report::text(&second) == "lists 2\n0 2 1 1\n1 3 1 2\ngcd 2 1\n0 1\n");
-    let third = [2, 1, 7, 0, 2, 0x0B, 0, 1, 0, 1, 0, 1, 0, 1, 0, 1, 0];
+    let third = [2, 1, 0, 9, 0, 2, 0, 0x0D, 0, 1, 0, 1, 0, 1, 0, 1, 0, 1, 0];
     compare_report(tally, &third, usize::MAX);
     tally.check("order 4", report::text(&third) == "lists 2\n0 1 1 0\n1 2 2 0\ngcd 0 0\n1 1\n");
 }
@@ -264,18 +270,28 @@ fn compare_raised_albums(tally: &mut Tally) {
     }
 }
 
-/// The albums of the repository's folder samples/.
-fn samples() -> Vec<Vec<u8>> {
+/// The albums of the repository's folder samples/, by their names.
+fn samples() -> BTreeMap<String, Vec<u8>> {
     let files = fs::read_dir("samples").expect("the folder samples/").map(|entry| entry.expect("a file").path());
-    files
-        .filter(|path| path.extension().is_some_and(|end| end == "album"))
-        .map(|path| fs::read(path).expect("an album"))
-        .collect()
+    let albums = files.filter(|path| path.extension().is_some_and(|end| end == "album"));
+    let name = |path: &Path| path.file_stem().expect("a name").to_string_lossy().into_owned();
+    albums.map(|path| (name(&path), fs::read(path).expect("an album"))).collect()
 }
 
-/// The album that document 01 prints.
+/// samples/README.md has a row for each album, and says which are refused, and with what number.
+fn compare_sample_numbers(tally: &mut Tally, samples: &BTreeMap<String, Vec<u8>>) {
+    let table = fs::read_to_string("samples/README.md").expect("a table");
+    for (name, album) in samples {
+        let number = album::read(album).and_then(|lists| album::gcd(&lists)).err();
+        let row = table.lines().find(|line| line.starts_with(&format!("| `{name}` |")));
+        let said = row.map(|row| row.split_once("`refused ").map(|(_, end)| end.trim_end_matches(['`', ' ', '|']).to_string()));
+        tally.check(&format!("samples/README.md on {name}"), said == Some(number.map(|n| n.to_string())));
+    }
+}
+
+/// The album that document 01 prints, with entries of four bytes.
 fn example() -> Vec<u8> {
-    vec![2, 1, 7, 0, 2, 0x0B, 0, 0, 0, 1, 0, 0, 0, 0, 0, 1, 0]
+    vec![2, 1, 0, 9, 0, 2, 0, 0x0D, 0, 0, 0, 1, 0, 0, 0, 0, 0, 1, 0]
 }
 
 /// Compares the engine with the model, and with results that a paper gives.
@@ -338,6 +354,11 @@ fn compare_edges(tally: &mut Tally) {
     let ones = |words| vec![1; words];
     let mut misfit = Call::fitting(GcdOfTwo, &[0, 0], &[0]);
     misfit.results[0].pop();
+    let with_h = |bytes: usize| {
+        let mut call = Call::fitting(GcdOfTwo, &[1], &[1]);
+        call.results[0] = vec![7; bytes];
+        call
+    };
     let mut odd_and_loose = Call::fitting(Product, &[65521], &[1]);
     odd_and_loose.lists[0].push(0);
     let calls = [
@@ -346,11 +367,18 @@ fn compare_edges(tally: &mut Tally) {
         (Call::fitting(Division, &[1], &[1, 0]), 7),
         (Call::fitting(Product, &[65520], &[1]), 0),
         (Call::fitting(Product, &[65521], &[1]), 5),
-        (Call::fitting(GcdOfTwo, &ones(256), &[1]), 0),
-        (Call::fitting(GcdOfTwo, &ones(257), &[1]), 4),
+        (Call::fitting(GcdOfTwo, &ones(257), &[1]), 0),
+        (Call::fitting(GcdOfTwo, &ones(1_024), &[1]), 0),
+        (Call::fitting(GcdOfTwo, &ones(1_025), &[1]), 4),
         (Call::fitting(Product, &ones(129), &ones(128)), 0),
-        (Call::fitting(Product, &ones(129), &ones(129)), 6),
+        (Call::fitting(Product, &ones(129), &ones(129)), 0),
+        (Call::fitting(Product, &ones(513), &ones(512)), 0),
+        (Call::fitting(Product, &ones(513), &ones(513)), 6),
         (misfit, 9),
+        (with_h(512), 10),
+        (with_h(2_046), 10),
+        (with_h(2_048), 0),
+        (with_h(2_050), 10),
         (odd_and_loose, 4),
     ];
     for (call, number) in &calls {
@@ -369,7 +397,7 @@ fn compare_edges(tally: &mut Tally) {
 /// The same of every public call. None: the call completes, and what it gives is the model's alone.
 fn public_edges() -> Vec<(PublicCall, Option<Result<Done, u8>>)> {
     let ones = |words| vec![1; words];
-    let first_only = [vec![1], vec![0; 255]].concat();
+    let first_only = [vec![1], vec![0; 1_023]].concat();
     let of = on_lists;
     let mut refused = vec![
         (of(Name::FieldSum, &[], &[65521, 0]), 5),
@@ -377,12 +405,12 @@ fn public_edges() -> Vec<(PublicCall, Option<Result<Done, u8>>)> {
         (of(Name::Inverse, &[], &[0]), 9),
         (of(Name::Inverse, &[], &[65521]), 5),
         (of(Name::Sum, &[&[65521], &[0]], &[]), 5),
-        (of(Name::Sum, &[&ones(256), &ones(257)], &[]), 4),
-        (of(Name::Product, &[&ones(129), &ones(129)], &[]), 6),
+        (of(Name::Sum, &[&ones(1_024), &ones(1_025)], &[]), 4),
+        (of(Name::Product, &[&ones(513), &ones(513)], &[]), 6),
         (of(Name::Raise, &[&[0, 1]], &[0]), 7),
-        (of(Name::Raise, &[&[0, 1]], &[256]), 6),
+        (of(Name::Raise, &[&[0, 1]], &[1_024]), 6),
         (of(Name::Raise, &[&[0, 1]], &[usize::MAX]), 6),
-        (of(Name::Searched, &[&[0; 257]], &[]), 4),
+        (of(Name::Searched, &[&[0; 1_025]], &[]), 4),
         (of(Name::Searched, &[&[]], &[]), 4),
         (of(Name::Searched, &[&[65521, 1]], &[]), 5),
         (of(Name::Trim, &[&[0, 0]], &[]), 9),
@@ -400,6 +428,16 @@ fn public_edges() -> Vec<(PublicCall, Option<Result<Done, u8>>)> {
     let mut call = of(Name::Cofactors, &[&[0, 0], &[0]], &[]);
     call.memory.results[2].pop();
     refused.push((call, 9));
+    // h, or a list of an album, in a slice of 256 words and beside 1,024
+    for length in [256, 1_023, 1_025] {
+        let two = |name| of(name, &[&[0, 1], &[0, 0, 1]], &[]);
+        let read = public::fitting(Name::ReadList, &[], &example(), &[0]);
+        let album = public::fitting(Name::GcdOfAlbum, &[], &example(), &[]);
+        for mut call in [two(Name::Gcd), two(Name::Cofactors), read, album] {
+            call.memory.results[0] = vec![7; length];
+            refused.push((call, 10));
+        }
+    }
     let mut edges: Vec<_> = refused.into_iter().map(|(call, number)| (call, Some(Err(number)))).collect();
     edges.extend([
         (of(Name::Inverse, &[], &[2]), Some(value_of(32761))),
@@ -407,8 +445,14 @@ fn public_edges() -> Vec<(PublicCall, Option<Result<Done, u8>>)> {
         (of(Name::FieldSum, &[], &[65520, 0]), Some(value_of(65520))),
         (of(Name::FieldDifference, &[], &[0, 1]), Some(value_of(65520))),
         (of(Name::Sum, &[&[65520], &[0]], &[]), Some(lists_of(&[&[65520]]))),
-        (of(Name::Sum, &[&ones(256), &ones(256)], &[]), Some(lists_of(&[&[2; 256]]))),
+        (of(Name::Sum, &[&ones(256), &ones(257)], &[]), Some(lists_of(&[&[2; 257]]))),
+        (of(Name::Sum, &[&ones(1_024), &ones(1_024)], &[]), Some(lists_of(&[&[2; 1_024]]))),
         (of(Name::Product, &[&ones(129), &ones(128)], &[]), Some(lists_of(&[&ones(256)]))),
+        (of(Name::Product, &[&ones(129), &ones(129)], &[]), Some(lists_of(&[&ones(257)]))),
+        (of(Name::Product, &[&ones(513), &ones(512)], &[]), Some(lists_of(&[&ones(1_024)]))),
+        (of(Name::Raise, &[&[1, 1]], &[256]), Some(lists_of(&[&ones(257)]))),
+        (of(Name::Raise, &[&[1, 1]], &[1_023]), Some(lists_of(&[&ones(1_024)]))),
+        (of(Name::Raise, &[&[0, 1]], &[1_023]), None),
         (of(Name::Difference, &[&[3, 4], &[3]], &[]), Some(lists_of(&[&[0, 1]]))),
         (of(Name::Derivative, &[&[7]], &[]), Some(lists_of(&[&[0]]))),
         (of(Name::FindExtent, &[&[0, 5, 0]], &[]), Some(value_of(1))),
@@ -417,10 +461,12 @@ fn public_edges() -> Vec<(PublicCall, Option<Result<Done, u8>>)> {
         (of(Name::Searched, &[&[0, 0, 0]], &[]), Some(value_of(3))),
         (of(Name::Searched, &[&[7]], &[]), Some(value_of(1))),
         (of(Name::Searched, &[&[0]], &[]), Some(value_of(1))),
-        (of(Name::Searched, &[&ones(256)], &[]), Some(value_of(1))),
-        (of(Name::Searched, &[&first_only], &[]), Some(value_of(256))),
-        (of(Name::Searched, &[&[0; 256]], &[]), Some(value_of(256))),
-        (of(Name::Derivative, &[&ones(256)], &[]), None),
+        (of(Name::Searched, &[&ones(1_024)], &[]), Some(value_of(1))),
+        (of(Name::Searched, &[&first_only], &[]), Some(value_of(1_024))),
+        (of(Name::Searched, &[&[0; 257]], &[]), Some(value_of(257))),
+        (of(Name::Searched, &[&[0; 1_024]], &[]), Some(value_of(1_024))),
+        (of(Name::Derivative, &[&ones(1_024)], &[]), Some(lists_of(&[&[0; 1_023]]))),
+        (of(Name::Evaluate, &[&ones(1_024)], &[65520]), Some(value_of(1))),
         // "longer" goes by the degrees of the scaled forms
         (of(Name::Gcd, &[&[1, 0, 0], &[0, 1]], &[]), Some(gcd_of(Gcd { h: vec![1], c: 0, rounds: 1 }, &[]))),
         (
@@ -441,7 +487,7 @@ fn noise(words: usize, seed: u32) -> List {
 /// and how many words are read.
 fn compare_searches(tally: &mut Tally) {
     let mut lists = 0;
-    for words in [1, 2, 3, 8, 255, MAX_WORDS] {
+    for words in [1, 2, 3, 8, 255, 256, 257, MAX_WORDS] {
         for zeros in 0..=words {
             let mut list = noise(words - zeros, 1);
             list.last_mut().into_iter().for_each(|word| *word = (*word).max(1));
@@ -453,13 +499,13 @@ fn compare_searches(tally: &mut Tally) {
             lists += 1;
         }
     }
-    println!("the search for the extent: {lists} lists, of six lengths with every extent");
+    println!("the search for the extent: {lists} lists, of eight lengths with every extent");
 }
 
 /// Pairs and albums of every kind: zero lists, constants, top zeros, shared factors, the longest lists and the largest album.
 fn compare_tables(tally: &mut Tally) {
-    let (f, g) = (noise(256, 1), noise(256, 2));
-    let pairs: [[&[u32]; 2]; 17] = [
+    let (f, g) = (noise(MAX_WORDS, 1), noise(MAX_WORDS, 2));
+    let pairs: [[&[u32]; 2]; 20] = [
         [&[5], &[7]],
         [&[0], &[7]],
         [&[7], &[0]],
@@ -480,6 +526,9 @@ fn compare_tables(tally: &mut Tally) {
         [&f, &[1]],
         [&[0, 1], &g],
         [&f[..40], &g[..25]],
+        [&f[..256], &g[..256]],
+        [&f[..257], &g[..256]],
+        [&f[..513], &g[..512]],
     ];
     for pair in pairs {
         for name in [Name::Sum, Name::Difference, Name::Product, Name::Divide, Name::DivideOrdinary, Name::Gcd, Name::Cofactors] {
@@ -498,18 +547,19 @@ fn compare_tables(tally: &mut Tally) {
     let albums = [
         vec![],
         vec![0],
-        vec![17, 0, 0, 0],
-        example[..16].to_vec(),
-        [&changed(5, 12)[..], &[0]].concat(),
+        vec![17, 0, 0, 0, 0],
+        example[..18].to_vec(),
+        [&changed(7, 14)[..], &[0]].concat(),
         [&example[..], &[0]].concat(),
-        [&example[..15], &[241, 255]].concat(),
-        [&example[..9], &[0; 8]].concat(),
+        [&example[..17], &[241, 255]].concat(),
+        [&example[..11], &[0; 8]].concat(),
         example.clone(),
         album::written(&[vec![3, 5, 0]]),
         album::written(&one_zero_apart),
         album::written(&[vec![1, 0], vec![1, 0, 0]]),
         sixteen(3, 1),
         sixteen(256, 2),
+        sixteen(MAX_WORDS, 2),
     ];
     for album in &albums {
         for i in 0..18 {
@@ -601,10 +651,19 @@ fn compare_examples(tally: &mut Tally) {
 /// Where tests/host/run puts what examples/run prints.
 const EXAMPLES: &str = "target/comparer/examples.txt";
 
-/// What the programs say when they are given arguments, and when their output cannot be written.
+/// What the programs say when they are given arguments, and when their output cannot be written, and how much they read.
 fn compare_messages(tally: &mut Tally) {
-    let programs = [("report", "report <FILE ", "samples/example.album"), ("bind", "bind <TEXT >FILE ", "samples/example.txt")];
-    for (name, usage, sample) in programs {
+    let programs = [
+        ("report", "report <FILE ", "samples/example.album", 32_834),
+        ("bind", "bind <TEXT >FILE ", "samples/example.txt", 262_145),
+    ];
+    for (name, usage, sample, most) in programs {
+        for bytes in [0, 1, most - 1, most, most + 1, 2 * most] {
+            let read = engine::bytes_read(name, bytes);
+            if read != bytes.min(most) {
+                tally.fault(&format!("{name} on {bytes} bytes"), &format!("it reads {read}"));
+            }
+        }
         for arguments in [&["--help"][..], &[sample], &["a", "b"]] {
             let [out, said] = engine::run_with(name, arguments);
             let said = String::from_utf8_lossy(&said);
@@ -618,5 +677,5 @@ fn compare_messages(tally: &mut Tally) {
             tally.fault(&format!("{name} >/dev/full"), &format!("it says {:?}", String::from_utf8_lossy(&said)));
         }
     }
-    println!("report and bind: what they say to arguments, and where their output cannot be written");
+    println!("report and bind: what they say to arguments, and where their output cannot be written; how much they read");
 }

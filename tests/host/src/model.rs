@@ -6,7 +6,7 @@ use crate::poly::{self, Poly};
 
 pub type List = Vec<u32>;
 
-pub const MAX_WORDS: usize = 256;
+pub const MAX_WORDS: usize = 1_024;
 
 /// The lowest number whose condition holds, over all inputs.
 pub fn refuse(rows: &[(u8, bool)]) -> Result<(), u8> {
@@ -56,14 +56,23 @@ pub fn searched(f: &[u32]) -> Result<usize, u8> {
     Ok(if is_zero(f) { f.len() } else { without_factors(poly::of_list(f)).1 + 1 })
 }
 
-/// A polynomial that is not 0 without its factors 1-t, and their number.
+/// A polynomial that is not 0 without its factors 1-t, and their number. 1/(1-t) is 1 + t + t^2 + .., so the quotient's coefficients
+/// are the sums of the first ones of p, and the sum of all is p(1), which is 0 where 1-t divides p.
 fn without_factors(mut p: Poly) -> (Poly, usize) {
     let mut factors = 0;
-    while poly::value(&p, 1) == 0 {
-        p = poly::divide(&p, &poly::one_minus_t(1)).0;
-        factors += 1;
+    loop {
+        let mut sum = 0;
+        let mut sums: Poly = vec![];
+        for &a in &p {
+            sum = field::add(sum, a);
+            sums.push(sum);
+        }
+        if sum != 0 {
+            return (p, factors);
+        }
+        sums.pop();
+        (p, factors) = (sums, factors + 1);
     }
-    (p, factors)
 }
 
 pub fn product(f: &[u32], g: &[u32], out: usize) -> Result<List, u8> {
@@ -163,7 +172,7 @@ pub fn divide_ordinary(g: &[u32], f: &[u32], q: usize, r: usize) -> Result<(List
     Ok((poly::to_list(&quotient, g.len() - 1), poly::to_list(&remainder, g.len() - 1)))
 }
 
-/// The degree after all raising is undone; 0 too for a zero list and for one of more than 256 words.
+/// The degree after all raising is undone; 0 too for a zero list and for one of more than 1,024 words.
 pub fn degree_in_t(list: &[u32]) -> usize {
     if bad_length(list) { 0 } else { poly::of_list(list).len().saturating_sub(1) }
 }

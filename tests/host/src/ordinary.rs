@@ -61,9 +61,9 @@ const KINDS: [(&str, Kind); 15] = [
     ("a dividend of the same degree", |d| d.g_in_t.len() == d.f_in_t.len()),
     ("no remainder by a divisor that is no constant", |d| d.f_in_t.len() > 1 && !is_zero(&d.q) && is_zero(&d.r)),
     ("a quotient and a remainder", |d| !is_zero(&d.q) && !is_zero(&d.r)),
-    ("a dividend of 256 words", |d| d.g.len() == MAX_WORDS),
-    ("a divisor of 256 words", |d| d.f.len() == MAX_WORDS),
-    ("both of 256 words", |d| d.g.len() == MAX_WORDS && d.f.len() == MAX_WORDS),
+    ("a dividend of 1,024 words", |d| d.g.len() == MAX_WORDS),
+    ("a divisor of 1,024 words", |d| d.f.len() == MAX_WORDS),
+    ("both of 1,024 words", |d| d.g.len() == MAX_WORDS && d.f.len() == MAX_WORDS),
 ];
 
 /// Numbers that apply together.
@@ -135,7 +135,11 @@ fn compare_calls(tally: &mut Tally) {
     }
     for length in 1..=MAX_WORDS {
         let other = 1 + random.below(MAX_WORDS);
-        for lengths in [[length, other], [other, length], [MAX_WORDS, MAX_WORDS]] {
+        let mut pairs = vec![[length, other], [other, length]];
+        if length % 8 == 0 {
+            pairs.push([MAX_WORDS; 2]);
+        }
+        for lengths in pairs {
             counts.compare(tally, &public::fitting(Name::DivideOrdinary, &random.raised_pair(lengths), &[], &[]));
         }
     }
@@ -235,7 +239,7 @@ fn compare_degrees(tally: &mut Tally) {
     let mut random = Random(10);
     let (mut raised, mut full, mut too_long) = (0, 0, 0);
     for i in 0..DEGREES {
-        let mut list = random.raised_list(1 + i % 300);
+        let mut list = random.raised_list(1 + i % 1_200);
         if random.percent(5) {
             list.fill(0);
         }
@@ -244,7 +248,9 @@ fn compare_degrees(tally: &mut Tally) {
         raised += usize::from(list.len() <= MAX_WORDS && degree + 1 < list.len());
         full += usize::from(degree + 1 == list.len());
     }
-    println!("the degree in t: {DEGREES} lists compared, {raised} of them raised, {full} not, {too_long} of more than 256 words");
+    println!(
+        "the degree in t: {DEGREES} lists compared, {raised} of them raised, {full} not, {too_long} of more than 1,024 words"
+    );
     if [raised, full, too_long].iter().any(|&count| count < 100) {
         println!("some of these occur fewer than 100 times");
         exit(1);

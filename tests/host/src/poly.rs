@@ -26,13 +26,26 @@ pub fn minus(p: &[u32], q: &[u32]) -> Poly {
 }
 
 pub fn times(p: &[u32], q: &[u32]) -> Poly {
-    let mut sums = vec![0u64; p.len() + q.len()];
+    let mut sums = vec![0; p.len() + q.len()];
     for (i, &a) in p.iter().enumerate() {
-        for (j, &b) in q.iter().enumerate() {
-            sums[i + j] += u64::from(a * b);
-        }
+        add_multiple(&mut sums[i..], a, q);
     }
-    trim(sums.iter().map(|s| (s % u64::from(P)) as u32).collect())
+    reduced(&sums)
+}
+
+/// Adds a multiple of q. A product of two words is below 2^32, so sums of 64 bits hold billions of them before they are reduced.
+fn add_multiple(sums: &mut [u64], factor: u32, q: &[u32]) {
+    for (sum, &a) in sums.iter_mut().zip(q) {
+        *sum += u64::from(factor * a);
+    }
+}
+
+fn modulo_p(sum: u64) -> u32 {
+    (sum % u64::from(P)) as u32
+}
+
+fn reduced(sums: &[u64]) -> Poly {
+    trim(sums.iter().map(|&sum| modulo_p(sum)).collect())
 }
 
 pub fn scale(p: &[u32], factor: u32) -> Poly {
@@ -47,16 +60,14 @@ pub fn monic(p: &[u32]) -> Poly {
 /// Quotient and remainder of ordinary division; q is not zero.
 pub fn divide(p: &[u32], q: &[u32]) -> (Poly, Poly) {
     let factor = inverse(*q.last().expect("a divisor is not zero"));
-    let mut rest = p.to_vec();
+    let mut rest: Vec<u64> = p.iter().map(|&a| u64::from(a)).collect();
     let mut quotient = vec![0; (p.len() + 1).saturating_sub(q.len())];
     for shift in (0..quotient.len()).rev() {
-        let top = mul(rest[shift + q.len() - 1], factor);
+        let top = mul(modulo_p(rest[shift + q.len() - 1]), factor);
         quotient[shift] = top;
-        for (i, &b) in q.iter().enumerate() {
-            rest[shift + i] = sub(rest[shift + i], mul(top, b));
-        }
+        add_multiple(&mut rest[shift..], sub(0, top), q);
     }
-    (trim(quotient), trim(rest))
+    (trim(quotient), reduced(&rest))
 }
 
 pub fn divides(p: &[u32], q: &[u32]) -> bool {
@@ -77,8 +88,9 @@ pub fn series_quotient(p: &[u32], q: &[u32], k: usize) -> Poly {
     let factor = inverse(q[0]);
     let mut result: Poly = vec![];
     for n in 0..k {
-        let known = (0..n).fold(0, |s, i| add(s, mul(result[i], coefficient(q, n - i))));
-        result.push(mul(sub(coefficient(p, n), known), factor));
+        let first = (n + 1).saturating_sub(q.len());
+        let known = (first..n).map(|i| u64::from(result[i] * q[n - i])).sum();
+        result.push(mul(sub(coefficient(p, n), modulo_p(known)), factor));
     }
     trim(result)
 }
@@ -93,24 +105,32 @@ pub fn derivative(p: &[u32]) -> Poly {
 
 /// (1-t)^k
 pub fn one_minus_t(k: usize) -> Poly {
-    (0..=k).map(|i| signed(i, binomial(k, i))).collect()
+    powers_of_one_minus_t()[k].clone()
 }
 
-fn signed(i: usize, a: u32) -> u32 {
-    if i % 2 == 0 { a } else { sub(0, a) }
-}
+/// The highest power of 1-t that is needed: the cofactors of two lists of 1,024 words have one of 2,045.
+const HIGHEST_POWER: usize = 2_048;
 
-/// C(n,k) in the field, from Pascal's triangle. n stays below p, so none of them is 0 there.
-pub fn binomial(n: usize, k: usize) -> u32 {
+/// C(n,k) in the field for all k, from Pascal's triangle. n stays below p, so none of them is 0 there.
+fn binomials(n: usize) -> &'static [u32] {
     static TRIANGLE: LazyLock<Vec<Vec<u32>>> = LazyLock::new(|| {
         let mut rows = vec![vec![1]];
-        for n in 1..=512 {
+        for n in 1..=HIGHEST_POWER {
             let above: &Vec<u32> = &rows[n - 1];
             rows.push((0..=n).map(|k| add(coefficient(above, k), if k == 0 { 0 } else { above[k - 1] })).collect());
         }
         rows
     });
-    TRIANGLE[n][k]
+    &TRIANGLE[n]
+}
+
+/// Every (1-t)^k: the coefficient of t^i is C(k,i), with its sign.
+fn powers_of_one_minus_t() -> &'static [Poly] {
+    static POWERS: LazyLock<Vec<Poly>> = LazyLock::new(|| {
+        let signed = |(i, &a): (usize, &u32)| if i % 2 == 0 { a } else { sub(0, a) };
+        (0..=HIGHEST_POWER).map(|k| binomials(k).iter().enumerate().map(signed).collect()).collect()
+    });
+    &POWERS
 }
 
 /// P(t) of a list, by its definition, with each (1-t)^(n-k) multiplied out.
@@ -118,27 +138,23 @@ pub fn of_list(list: &[u32]) -> Poly {
     let n = list.len() - 1;
     let mut sums = vec![0; n + 1];
     for (k, s) in scaled_words(list).into_iter().enumerate().filter(|(_, s)| *s != 0) {
-        for i in 0..=n - k {
-            sums[k + i] = add(sums[k + i], mul(s, signed(i, binomial(n - k, i))));
-        }
+        add_multiple(&mut sums[k..], s, &powers_of_one_minus_t()[n - k]);
     }
-    trim(sums)
+    reduced(&sums)
 }
 
 /// The list of naive degree n that means p: with t = u/(1+u), (1+u)^n P(t) is the sum of p_j u^j (1+u)^(n-j), the scaled form.
 pub fn to_list(p: &[u32], n: usize) -> Vec<u32> {
     let mut sums = vec![0; n + 1];
     for (j, &a) in p.iter().enumerate() {
-        for i in 0..=n - j {
-            sums[j + i] = add(sums[j + i], mul(a, binomial(n - j, i)));
-        }
+        add_multiple(&mut sums[j..], a, binomials(n - j));
     }
-    unscaled(&sums, n)
+    unscaled(&reduced(&sums), n)
 }
 
 fn scaled_words(list: &[u32]) -> Vec<u32> {
     let n = list.len() - 1;
-    list.iter().enumerate().map(|(k, &c)| mul(c, binomial(n, k))).collect()
+    list.iter().zip(binomials(n)).map(|(&c, &b)| mul(c, b)).collect()
 }
 
 /// The scaled form S, a polynomial in u.
@@ -149,5 +165,5 @@ pub fn scaled_form(list: &[u32]) -> Poly {
 /// The list of naive degree n whose scaled form is s.
 pub fn unscaled(s: &[u32], n: usize) -> Vec<u32> {
     assert!(s.len() <= n + 1, "a scaled form's degree is at most the naive degree");
-    (0..=n).map(|k| mul(coefficient(s, k), inverse(binomial(n, k)))).collect()
+    binomials(n).iter().enumerate().map(|(k, &b)| mul(coefficient(s, k), inverse(b))).collect()
 }

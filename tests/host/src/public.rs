@@ -90,7 +90,7 @@ pub fn fitting(name: Name, lists: &[List], album: &[u8], numbers: &[usize]) -> P
 pub fn writing(lists: &[List]) -> PublicCall {
     let memory = Memory {
         lists: vec![words(&lists.concat())],
-        degrees: lists.iter().map(|list| (list.len() - 1) as u8).collect(),
+        degrees: lists.iter().map(|list| (list.len() - 1) as u16).collect(),
         part: vec![0; album::MAX_BYTES],
         answer: vec![usize::MAX; values(Name::WriteAlbum)],
         ..Memory::default()
@@ -230,7 +230,7 @@ pub fn ordinary_fault(memory: &Memory) -> Option<String> {
 
 /// The number of bytes of the album that a call writes.
 pub fn album_size(memory: &Memory) -> usize {
-    1 + 3 * memory.degrees.len() + 2 * memory.lists[0].len()
+    1 + album::ENTRY_BYTES * memory.degrees.len() + 2 * memory.lists[0].len()
 }
 
 /// A written album, read by the model's reader, has the lists that it was written from.

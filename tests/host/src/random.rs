@@ -1,6 +1,6 @@
 //! Inputs drawn with a fixed seed: lists, calls for a C host, public calls, and albums, valid and damaged.
 
-use crate::album::{self, bytes};
+use crate::album::{self, ENTRY_BYTES, bytes};
 use crate::calls::{Memory, Name, PublicCall};
 use crate::engine::{Call, Operation};
 use crate::field::P;
@@ -27,11 +27,11 @@ impl Random {
         self.below(100) < n
     }
 
-    fn word(&mut self) -> u32 {
+    pub fn word(&mut self) -> u32 {
         self.below(P as usize) as u32
     }
 
-    fn nonzero(&mut self) -> u32 {
+    pub fn nonzero(&mut self) -> u32 {
         1 + self.below(P as usize - 1) as u32
     }
 
@@ -39,17 +39,19 @@ impl Random {
         P + self.below(15) as u32
     }
 
-    /// A number of words from 1 to 256, mostly small.
+    /// A number of words from 1 to 1,024, mostly small, and about 256 more often: above it the engine's product takes other buffers.
     fn length(&mut self) -> usize {
-        match self.below(20) {
-            0..=11 => 1 + self.below(8),
-            12..=16 => 1 + self.below(40),
-            17 | 18 => 1 + self.below(MAX_WORDS),
+        match self.below(40) {
+            0..=23 => 1 + self.below(8),
+            24..=33 => 1 + self.below(40),
+            34 => 1 + self.below(300),
+            35 => 254 + self.below(5),
+            36..=38 => 1 + self.below(MAX_WORDS),
             _ => MAX_WORDS - self.below(2),
         }
     }
 
-    /// A list of 1 to 256 words, mostly few.
+    /// A list of 1 to 1,024 words, mostly few.
     fn any_list(&mut self) -> List {
         let length = self.length();
         self.list(length)
@@ -61,7 +63,7 @@ impl Random {
         self.list(length)
     }
 
-    fn list(&mut self, length: usize) -> List {
+    pub fn list(&mut self, length: usize) -> List {
         let mut list: List = (0..length).map(|_| self.word()).collect();
         match self.below(12) {
             0 => list.fill(0),
@@ -76,9 +78,18 @@ impl Random {
         list
     }
 
-    /// Lists with a common factor, some with powers of 1-t; at most 251 words each.
+    /// The most words of a factor, mostly few; a product of three such has at most 1,018.
+    fn size(&mut self) -> usize {
+        match self.below(100) {
+            0..=84 => 5,
+            85..=97 => 80,
+            _ => 340,
+        }
+    }
+
+    /// Lists with a common factor, some with powers of 1-t.
     fn planted(&mut self, count: usize) -> Vec<List> {
-        let size = if self.percent(85) { 5 } else { 80 };
+        let size = self.size();
         let factor = self.list_up_to(size);
         let mut list = || {
             let power = self.below(2) * self.below(size);
@@ -88,11 +99,12 @@ impl Random {
         (0..count).map(|_| list()).collect()
     }
 
-    /// Two lists whose Euclid's quotients have chosen degrees, and so few or many rounds; at most 256 words each.
+    /// Two lists whose Euclid's quotients have chosen degrees, and so few or many rounds; at most 1,004 words each.
     fn chained(&mut self) -> [List; 2] {
         let (mut x, mut y) = (self.list_up_to(4), vec![]);
         x.push(self.nonzero());
-        for _ in 0..self.below(20) {
+        let rounds = if self.percent(95) { 20 } else { 100 };
+        for _ in 0..self.below(rounds) {
             let mut quotient: List = (0..1 + self.below(10)).map(|_| self.word()).collect();
             quotient.push(self.nonzero());
             (x, y) = (poly::plus(&poly::times(&quotient, &x), &y), x);
@@ -138,7 +150,7 @@ impl Random {
     /// The lists of an album that share a factor, often a constant; most lists are raised, and a few are zero. Where all that are
     /// not zero are raised, so is h.
     pub fn raised_lists(&mut self) -> Vec<List> {
-        let size = if self.percent(85) { 6 } else { 80 };
+        let size = self.size();
         let count = 1 + self.below(4);
         let degree = if self.percent(25) { 0 } else { self.below(size) };
         let factor = self.of_degree(degree);
@@ -197,9 +209,10 @@ impl Random {
         let mut pair = self.pair();
         match operation {
             Operation::Product if self.percent(10) => {
-                // naive degrees that reach 255 together, or just pass it
-                let length = 1 + self.below(MAX_WORDS);
-                pair = [length, (MAX_WORDS + 1 + self.below(2) - length).min(MAX_WORDS)].map(|length| self.list(length));
+                // a result of 255 to 258 words, or naive degrees that reach 1,023 together or just pass it
+                let words = if self.percent(50) { 255 + self.below(4) } else { MAX_WORDS + self.below(2) };
+                let length = 1 + self.below(words.min(MAX_WORDS));
+                pair = [length, (words + 1 - length).min(MAX_WORDS)].map(|length| self.list(length));
             }
             Operation::Division => {
                 if pair[0].len() < pair[1].len() && self.percent(85) {
@@ -235,7 +248,7 @@ impl Random {
         match self.below(10) {
             0 => list.clear(),
             1 => self.damage_length(list),
-            // longer than 256 words
+            // longer than 1,024 words
             2 => {
                 let words = MAX_WORDS + 1 + self.below(40);
                 *list = bytes(&self.list(words));
@@ -255,7 +268,7 @@ impl Random {
             2 => part.len() + 2,
             3 => part.len().saturating_sub(2),
             4 => 0,
-            _ => self.below(600),
+            _ => self.below(2_400),
         };
         part.resize(length, T::default());
     }
@@ -361,7 +374,7 @@ impl Random {
 
     fn damage_writing(&mut self, memory: &mut Memory) {
         let words = &mut memory.lists[0];
-        match self.below(10) {
+        match self.below(12) {
             0 | 1 => self.damage_count(memory),
             // other words than the degrees name
             2 => words.push(self.word() as u16),
@@ -370,18 +383,34 @@ impl Random {
             }
             4 if !memory.degrees.is_empty() => {
                 let which = self.below(memory.degrees.len());
-                memory.degrees[which] = self.below(256) as u8;
+                memory.degrees[which] = self.below(MAX_WORDS) as u16;
             }
             5 | 6 if !words.is_empty() => {
                 let at = [0, words.len() - 1, self.below(words.len())][self.below(3)];
                 words[at] = self.loose() as u16;
             }
-            7 | 8 => {
+            7 | 8 => self.damage_degree(memory),
+            9 | 10 => {
                 let short = [album::MAX_BYTES - 1, public::album_size(memory), self.below(album::MAX_BYTES)][self.below(3)];
                 memory.part.resize(short.min(album::MAX_BYTES - 1), 0);
             }
             _ => self.damage_length(&mut memory.answer),
         }
+    }
+
+    /// A degree above 1,023 before the others or after them, with the words that it names or without them.
+    fn damage_degree(&mut self, memory: &mut Memory) {
+        let degree = [MAX_WORDS, MAX_WORDS, MAX_WORDS + self.below(300), 65_535 - self.below(64_512)][self.below(4)];
+        let (mut degrees, mut words) = (vec![degree as u16], vec![]);
+        if self.percent(60) {
+            words.resize(degree + 1, 7);
+        }
+        if self.percent(50) {
+            std::mem::swap(&mut memory.degrees, &mut degrees);
+            std::mem::swap(&mut memory.lists[0], &mut words);
+        }
+        memory.degrees.extend(degrees);
+        memory.lists[0].extend(words);
     }
 
     /// No list, or more than 16, with the words that the degrees name or without them.
@@ -398,7 +427,7 @@ impl Random {
         let count = [17, 18 + self.below(20), 257 + self.below(16)][self.below(3)];
         while memory.degrees.len() < count {
             let degree = self.below(3);
-            memory.degrees.push(degree as u8);
+            memory.degrees.push(degree as u16);
             if with_words {
                 memory.lists[0].extend(vec![7; degree + 1]);
             }
@@ -446,7 +475,12 @@ impl Random {
     }
 
     pub fn album(&mut self) -> Vec<u8> {
-        let lists = self.lists();
+        let mut lists = self.lists();
+        if self.percent(5) {
+            // all is right but that a list is too long
+            let (which, words) = (self.below(lists.len()), MAX_WORDS + 1 + self.below(2) * self.below(40));
+            lists[which] = self.list(words);
+        }
         let mut album = album::written(&lists);
         let damages = if self.percent(55) { 0 } else { 1 + self.below(2) };
         for _ in 0..damages {
@@ -456,23 +490,24 @@ impl Random {
     }
 
     fn damage_album(&mut self, album: &mut Vec<u8>, count: usize) {
-        let bodies = 1 + 3 * count;
-        let entry = 1 + 3 * self.below(count);
+        let bodies = 1 + ENTRY_BYTES * count;
+        let entry = 1 + ENTRY_BYTES * self.below(count);
         let byte = self.below(256) as u8;
-        match self.below(16) {
+        match self.below(18) {
             _ if album.len() < bodies + 2 => album.push(byte),
             0 => album[0] = [0, 17, 18 + byte % 238][self.below(3)],
             1 => album[0] = 1 + byte % 16,
             // a wrong degree, and a wrong offset: low byte, high byte, off by one
             2 => album[entry] = byte,
-            3 => album[entry + 1] = byte,
+            3 => album[entry + 1] = [byte, byte % 4][self.below(2)],
             4 => album[entry + 2] = byte,
-            5 => album[entry + 1] = album[entry + 1].wrapping_add(1),
-            6 => album.truncate(album.len() - 1 - self.below(2)),
-            7 => album.truncate(self.below(album.len())),
-            8 => album.extend(vec![byte; 1 + self.below(3)]),
+            5 => album[entry + 3] = byte,
+            6 => album[entry + 2] = album[entry + 2].wrapping_add(1),
+            7 => album.truncate(album.len() - 1 - self.below(2)),
+            8 => album.truncate(self.below(album.len())),
+            9 => album.extend(vec![byte; 1 + self.below(3)]),
             // a gap between two bodies, or before the first
-            9 => album.insert(bodies, byte),
+            10 => album.insert(bodies, byte),
             _ => {
                 let at = bodies + 2 * self.below((album.len() - bodies) / 2);
                 album[at..at + 2].copy_from_slice(&bytes(&[self.loose()]));

@@ -85,16 +85,18 @@ const SMALL: [(&str, u8); 62] = [
     ("99999999999999999999\n\n1\n", 4),
 ];
 
-/// Lines of 256 words and of more.
+/// Lines of 1,024 words and of more.
 fn many_words() -> Vec<(Vec<u8>, u8)> {
     let of = |words: usize, word: &str| vec![word; words].join(" ").into_bytes();
     vec![
+        (of(256, "1"), 0),
+        (of(257, "1"), 0),
         (of(MAX_WORDS, "1"), 0),
         (of(MAX_WORDS, "65520"), 0),
         (of(MAX_WORDS + 1, "1"), 4),
         (of(2 * MAX_WORDS, "1"), 4),
         (of(2 * MAX_WORDS + 1, "1"), 4),
-        (of(65_537 / 2, "1"), 4),
+        (of(MAX_TEXT / 2, "1"), 4),
         (of(MAX_WORDS, "65521"), 5),
         (of(MAX_WORDS + 1, "65521"), 4),
         ([of(MAX_WORDS + 1, "1"), b"x".to_vec()].concat(), 2),
@@ -122,7 +124,7 @@ fn many_lines() -> Vec<(Vec<u8>, u8)> {
     ]
 }
 
-/// Texts of 65,536 bytes and of more, of which the program reads 65,537.
+/// Texts of 262,144 bytes and of more, of which the program reads 262,145.
 fn long_texts() -> Vec<(Vec<u8>, u8)> {
     let padded = |text: &str, with: u8, bytes: usize| {
         let mut text = text.as_bytes().to_vec();
@@ -138,7 +140,7 @@ fn long_texts() -> Vec<(Vec<u8>, u8)> {
     vec![
         (padded("7 8", b' ', MAX_TEXT), 0),
         (padded("7 8", b' ', MAX_TEXT + 1), 2),
-        (padded("7 8", b' ', 70_000), 2),
+        (padded("7 8", b' ', 300_000), 2),
         (zeros_before(MAX_TEXT), 0),
         (zeros_before(MAX_TEXT + 1), 2),
         (padded("7", b'7', MAX_TEXT), 5),
@@ -146,7 +148,7 @@ fn long_texts() -> Vec<(Vec<u8>, u8)> {
         (padded("7\n", b' ', MAX_TEXT), 4),
         (padded("7\n", b' ', MAX_TEXT + 1), 2),
         (padded("x", b' ', MAX_TEXT), 2),
-        (padded("7", b'\n', 70_000), 1),
+        (padded("7", b'\n', 300_000), 1),
         (padded(&sixteen, b' ', MAX_TEXT), 0),
         (padded(&sixteen, b' ', MAX_TEXT + 1), 2),
         // lines that begin in the bytes that are read, and behind them

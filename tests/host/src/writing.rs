@@ -1,9 +1,10 @@
 //! The call that writes an album, compared in both directions: what the engine writes the model reads (`public::fault`), and what
 //! the model writes the engine reads and writes again.
 
-use crate::album::{self, MAX_BYTES, MAX_LISTS};
+use crate::album::{self, ENTRY_BYTES, MAX_BYTES, MAX_LISTS};
 use crate::calls::{self, Answer, Name, PublicCall};
 use crate::model::{List, MAX_WORDS};
+use crate::public::list;
 use crate::random::Random;
 use crate::{Tally, compare_printed, compare_public, example, noise, public};
 use std::process::exit;
@@ -53,18 +54,17 @@ fn compare_calls(tally: &mut Tally) {
     }
 }
 
-const PAIRS: [[u8; 2]; 6] = [[1, 4], [1, 5], [1, 10], [4, 5], [4, 10], [5, 10]];
+const PAIRS: [[u8; 2]; 10] = [[1, 2], [1, 4], [1, 5], [1, 10], [2, 4], [2, 5], [2, 10], [4, 5], [4, 10], [5, 10]];
 
 /// The numbers that apply to a call that writes an album.
 fn applying(call: &PublicCall) -> Vec<u8> {
     let memory = &call.memory;
-    let words: List = memory.lists[0].iter().map(|&word| u32::from(word)).collect();
-    let rows = album::write_rows(&words, &memory.degrees, memory.part.len());
+    let rows = album::write_rows(&list(&memory.lists[0]), &memory.degrees, memory.part.len());
     rows.iter().filter(|row| row.1).map(|row| row.0).collect()
 }
 
 /// A call with these words and degrees, and a target of so many bytes, none of them 0.
-fn call_on(words: &[u16], degrees: &[u8], target: usize) -> PublicCall {
+fn call_on(words: &[u16], degrees: &[u16], target: usize) -> PublicCall {
     let mut call = public::writing(&[]);
     call.memory.lists[0] = words.to_vec();
     call.memory.degrees = degrees.to_vec();
@@ -81,6 +81,13 @@ fn compare_edges(tally: &mut Tally) {
     let full: Vec<List> = (1..=16).map(|seed| noise(MAX_WORDS, seed)).collect();
     assert_eq!(album::written(&full).len(), MAX_BYTES);
     compare_printed(tally, "the largest album", &public::writing(&full), written(album::written(&full)));
+    // degrees of one byte and of two, on both sides of 255 and at the bound
+    let long: Vec<List> = [256, 257, 1, 1_023, 1_024].iter().map(|&words| noise(words, 3)).collect();
+    let long_album = [
+        vec![5, 0xFF, 0, 0x15, 0, 0, 1, 0x15, 2, 0, 0, 0x17, 4, 0xFE, 3, 0x19, 4, 0xFF, 3, 0x17, 0x0C],
+        album::bytes(&long.concat()),
+    ];
+    compare_printed(tally, "lists of up to 1,024 words", &public::writing(&long), written(long_album.concat()));
     let refused = [
         (call_on(&words, &degrees, MAX_BYTES - 1), 10),
         (call_on(&words, &degrees, example().len()), 10),
@@ -91,20 +98,32 @@ fn compare_edges(tally: &mut Tally) {
         (call_on(&words, &degrees[1..], MAX_BYTES), 4),
         (call_on(&[], &[0], MAX_BYTES), 4),
         (call_on(&[1, 65_521], &[0], 0), 4),
+        (call_on(&[1; 1_024], &[1_022], MAX_BYTES), 4),
+        // as a byte this degree is 0
+        (call_on(&[1], &[256], MAX_BYTES), 4),
+        (call_on(&[1; 1_025], &[1_024], MAX_BYTES), 2),
+        (call_on(&[1; 1_026], &[0, 1_024], MAX_BYTES), 2),
+        (call_on(&[1; 1_026], &[1_024, 0], MAX_BYTES), 2),
+        (call_on(&[1; 1_024], &[1_024], MAX_BYTES), 2),
+        (call_on(&[1], &[1_024], MAX_BYTES), 2),
+        (call_on(&[], &[65_535], MAX_BYTES), 2),
+        (call_on(&[1; 65_536], &[65_535], 200_000), 2),
+        (call_on(&[65_521, 1, 2], &[2, 1_024], 0), 2),
         (call_on(&[], &[], MAX_BYTES), 1),
         (call_on(&[65_521], &[], 0), 1),
         (call_on(&[1; MAX_LISTS + 1], &[0; MAX_LISTS + 1], MAX_BYTES), 1),
         (call_on(&[1; 257], &[0; 257], MAX_BYTES), 1),
         (call_on(&[65_521], &[0; 300], 0), 1),
+        (call_on(&[65_521], &[1_024; 17], 0), 1),
     ];
     for (call, number) in &refused {
         compare_printed(tally, &format!("{number} is due to {}", public::shown(call)), call, Err(*number));
     }
-    println!("  edges of writing an album: {}", 3 + refused.len());
+    println!("  edges of writing an album: {}", 4 + refused.len());
 }
 
 /// The model writes the album of these lists, the engine checks and reads each list of it and writes an album of what it read.
-fn round_trip(lists: &[List]) -> Result<(), String> {
+pub fn round_trip(lists: &[List]) -> Result<(), String> {
     let album = album::written(lists);
     let (mut words, mut degrees) = (vec![], vec![]);
     for i in 0..lists.len() {
@@ -115,7 +134,7 @@ fn round_trip(lists: &[List]) -> Result<(), String> {
             return Err(format!("list {i}: checked {}, read {}, degree {degree}", checked.returned, read.returned));
         }
         words.extend(&read.memory.results[0][..=degree]);
-        degrees.push(degree as u8);
+        degrees.push(degree as u16);
     }
     let answer = calls::run(&call_on(&words, &degrees, MAX_BYTES));
     let again = answer.returned == 0 && answer.memory.answer == [album.len()] && answer.memory.part.starts_with(&album);
@@ -125,17 +144,22 @@ fn round_trip(lists: &[List]) -> Result<(), String> {
 /// A way to break a copy of an answer, where it can be broken so: true if it was.
 type Break = fn(&PublicCall, &mut Answer) -> bool;
 
-const BREAKS: [(&str, Break); 8] = [
+const BREAKS: [(&str, Break); 12] = [
     ("the next list's offset that of the list before", |_, answer| {
         let can = answer.returned == 0 && answer.memory.degrees.len() > 1;
         if can {
-            answer.memory.part.copy_within(2..4, 5);
+            answer.memory.part.copy_within(3..5, 7);
         }
         can
     }),
-    ("an offset's high byte first", |_, answer| answer.returned == 0 && swap(&mut answer.memory.part, 2)),
+    ("an offset's high byte first", |_, answer| answer.returned == 0 && swap(&mut answer.memory.part, 3)),
+    ("a degree's high byte first", |_, answer| answer.returned == 0 && swap(&mut answer.memory.part, 1)),
+    ("a degree's high byte left out", |_, answer| {
+        let high = answer.memory.degrees.iter().position(|&degree| degree > 255).filter(|_| answer.returned == 0);
+        high.map(|k| answer.memory.part[2 + ENTRY_BYTES * k] = 0).is_some()
+    }),
     ("a word's high byte first", |_, answer| {
-        let first_word = 1 + 3 * answer.memory.degrees.len();
+        let first_word = 1 + ENTRY_BYTES * answer.memory.degrees.len();
         answer.returned == 0 && swap(&mut answer.memory.part, first_word)
     }),
     ("a byte after the album cleared", |_, answer| {
@@ -144,16 +168,15 @@ const BREAKS: [(&str, Break); 8] = [
         byte.map(|byte| *byte = 0).is_some()
     }),
     ("a target one byte short taken", |call, answer| {
-        let can = call.memory.part.len() == MAX_BYTES - 1 && answer.returned == 10;
+        let can = call.memory.part.len() == MAX_BYTES - 1 && applying(call) == [10];
         can && write_anyway(call, answer)
     }),
-    ("5 before 4", |call, answer| {
-        let can = answer.returned == 4 && applying(call).contains(&5);
-        if can {
-            answer.returned = 5;
-        }
-        can
+    ("a degree of 1,024 taken", |call, answer| {
+        let can = call.memory.degrees.iter().max() == Some(&1_024) && applying(call) == [2];
+        can && write_anyway(call, answer)
     }),
+    ("4 before 2", |call, answer| instead(call, answer, 2, 4)),
+    ("5 before 4", |call, answer| instead(call, answer, 4, 5)),
     ("a byte written on refusal", |_, answer| {
         let byte = answer.memory.part.first_mut().filter(|_| answer.returned != 0);
         byte.map(|byte| *byte ^= 1).is_some()
@@ -166,8 +189,13 @@ const BREAKS: [(&str, Break); 8] = [
 ];
 
 /// Breaks that the model's reader shows without the model's writer.
-const BREAKS_OF_READING: [&str; 3] =
-    ["the next list's offset that of the list before", "an offset's high byte first", "a word's high byte first"];
+const BREAKS_OF_READING: [&str; 5] = [
+    "the next list's offset that of the list before",
+    "an offset's high byte first",
+    "a degree's high byte first",
+    "a degree's high byte left out",
+    "a word's high byte first",
+];
 
 /// Swaps a byte and the next where they differ.
 fn swap(bytes: &mut [u8], at: usize) -> bool {
@@ -175,13 +203,20 @@ fn swap(bytes: &mut [u8], at: usize) -> bool {
     bytes[at] != bytes[at + 1]
 }
 
-/// Writes the album to a target that is too short to be taken, where it has room.
+/// Gives the second number instead of the first where both apply.
+fn instead(call: &PublicCall, answer: &mut Answer, first: u8, second: u8) -> bool {
+    let can = applying(call).starts_with(&[first]) && applying(call).contains(&second);
+    if can {
+        answer.returned = usize::from(second);
+    }
+    can
+}
+
+/// Writes the album of a refused call, where the target has room.
 fn write_anyway(call: &PublicCall, answer: &mut Answer) -> bool {
-    let mut longer = call.clone();
-    longer.memory.part.resize(MAX_BYTES, 0);
-    let Ok(done) = public::outcome(&longer) else { return false };
-    let Some(front) = answer.memory.part.get_mut(..done.part.len()) else { return false };
-    front.copy_from_slice(&done.part);
+    let album = album::written(&album::cut(&list(&call.memory.lists[0]), &call.memory.degrees));
+    let Some(front) = answer.memory.part.get_mut(..album.len()) else { return false };
+    front.copy_from_slice(&album);
     answer.returned = 0;
     true
 }
@@ -189,7 +224,7 @@ fn write_anyway(call: &PublicCall, answer: &mut Answer) -> bool {
 /// Tries broken copies of real answers; an error names the first way to break that is not noticed.
 pub fn try_broken_copies(random: &mut Random) -> Result<String, String> {
     let mut tried = [0; BREAKS.len()];
-    for _ in 0..2_500 {
+    for _ in 0..4_000 {
         let call = random.public_call(Name::WriteAlbum);
         let answer = calls::run(&call);
         for ((what, break_copy), count) in BREAKS.iter().zip(&mut tried) {

@@ -1,7 +1,6 @@
 -- `album_calls::write_album` meets its contract: what its core ensures at field 0, which implies the demands.
 -- Assumes nothing.
 use borrow.Author.Needs.{needs}
-use native.Mathlib.Omega.{arith}
 use Rattle.statement.proofs.Demand1.{replies, no-slice, and-slice}
 use Rattle.statement.proofs.Demand2Writer.{write-so}
 use Rattle.album_calls.proofs.write_album.Statement.{statement}
@@ -16,8 +15,7 @@ same-length c = search needs
 returns : tie.Need-returns
 returns c =
     let core = c .before .before .write-album-over .ensures in
-    let bytes = c .before .before .before .before .before .shared-slice-known2 .given in
-    (core .0, (core .1, (replies _ (core .0) (and-slice _ (core .1) no-slice), write-so _ _ _ (core .0) (core .1) (λ k. omega (arith, bytes k)))))
+    (core .0, (core .1, (replies _ (core .0) (and-slice _ (core .1) no-slice), write-so _ _ _ (core .0) (core .1))))
 
 pub write-album-spec : {M : Type 1} → statement M
 write-album-spec = tie.close (tie.spec write-album-over-requires same-length returns)

@@ -15,14 +15,14 @@ mul-e c = search needs
 add-e : tie.Need-add-e
 add-e c = search needs
 
-byte-at-requires-2 : tie.Need-byte-at-requires-2
-byte-at-requires-2 c κs = search needs
+word-at-requires : tie.Need-word-at-requires
+word-at-requires c κs = search needs
 
 add-word-at : tie.Need-add-word-at
 add-word-at c = search needs
 
-word-at-requires : tie.Need-word-at-requires
-word-at-requires c κs = search needs
+word-at-requires-2 : tie.Need-word-at-requires-2
+word-at-requires-2 c κs = search needs
 
 cast-t10 : tie.Need-cast-t10
 cast-t10 c = search needs
@@ -31,7 +31,7 @@ cast-t11 : tie.Need-cast-t11
 cast-t11 c = search needs
 
 returns : tie.Need-returns
-returns c = record-listed _ _ (omega arith) (c .before .byte-at2 .ensures .0) (c .word-at .ensures .0)
+returns c = record-listed _ _ (omega arith) (c .before .word-at .ensures .0) (c .word-at2 .ensures .0)
 
 returns-2 : tie.Need-returns-2
 returns-2 c = record-past _ _ (omega arith)
@@ -43,9 +43,9 @@ record-at-spec =
     byte-at-requires
     mul-e
     add-e
-    byte-at-requires-2
-    add-word-at
     word-at-requires
+    add-word-at
+    word-at-requires-2
     cast-t10
     cast-t11
     returns

@@ -4,6 +4,7 @@ use mathlib.Core.Path.{sym, _∙_}
 use native.Mathlib.Omega.{arith}
 use Rattle.field.specs.Fields.{fieldAt}
 use Rattle.field.proofs.Fields.{longest-in, longest-full}
+use Rattle.words.proofs.Transfer.{copied-fit}
 use Rattle.album_layout.specs.Layout.{listsOf}
 use Rattle.album_layout.proofs.Passed.{passed-each}
 use Rattle.album_gcd.proofs.Judging.{judged-zero, judged-misfit, judged-done}
@@ -70,13 +71,12 @@ returns-3 : tie.Need-returns-3
 unfolding fieldAt
 returns-3 c = let start = c .before .before .before .before .before .before .before .before .before .before .before .before .before .before .before .before .before .before .before .before .before .before .before .before .before in
     let s = start .args .album .now in
-    let bytes = c .before .before .before .before .before .before .before .before .before .before .before .before .before .before .before .before .before .before .before .before .before .before .before .before .shared-slice-known .given in
     let most = c .before .before .before .before .before .before .before .before .before .before .before .before .before .before .before .before .before .before .before .longest-of .ensures in
     let found = c .before .before .before .before .before .before .before .before .before .before .before .before .before .before .before .join-lists .ensures in
     let some = found .some (λ e. c .before .before .before .before .before .before .before .if1 .left (e ∙ sym most)) in
-    rw (c .before .before .before .copy .ensures)
+    rw (c .before .before .before .copy .ensures ∙ copied-fit _ _ (omega arith))
     (answered (fieldAt _) _ (longest-in _) s (start .args .h .now)
-    (passed-each _ s (start .pre .0) (λ k. omega (arith, bytes k)) _ (omega (arith, longest-full (start .args .field)))) (nonzero (listsOf s) (some .0))
+    (passed-each _ s (start .pre .0) _ (omega (arith, longest-full (start .args .field)))) (nonzero (listsOf s) (some .0))
     (judged-done _ _ s _ (start .pre .0) (some .0) (c .before .before .before .before .before .before .if2 .left ∙ most)) found (some .1))
 
 pub gcd-in-spec : {M : Type 1} → statement M

@@ -8,6 +8,7 @@ use Rattle.field.specs.Fields.{modulus, fieldAt, longest}
 use Rattle.field.proofs.Fields.{longest-in, longest-room}
 use Rattle.lists.specs.Degrees.{significant}
 use Rattle.lists.specs.Refused.{IsList}
+use Rattle.words.proofs.Transfer.{copied-fit}
 use Rattle.list_gcd.specs.Calls.{gcdReply}
 use Rattle.album_reader.specs.Internal.{Held}
 use Rattle.album_reader.proofs.Held.{held-length}
@@ -27,11 +28,13 @@ power-in-requires : tie.Need-power-in-requires
 power-in-requires c κs = search needs
 
 copy-requires : tie.Need-copy-requires
-copy-requires c κs = let start = c .before .before .before .before .before .before .before .before in held-length (start .pre .1 .0) ∙ sym (start .pre .1 .1 .0)
+copy-requires c κs = search needs
 
 -- the copy is the result so far
 same : (c : tie.After-copy) → take (c .before .before .before .before .before .before .before .before .before .args .used) (c .copy .last .1 .0) ≡ take (c .before .before .before .before .before .before .before .before .before .args .used) (c .before .before .before .before .before .before .before .before .before .args .result .now)
-same c = ap (take (c .before .before .before .before .before .before .before .before .before .args .used)) (c .copy .ensures)
+same c =
+    let start = c .before .before .before .before .before .before .before .before .before in
+    ap (take (start .args .used)) (c .copy .ensures ∙ copied-fit (start .args .result .now) (start .args .last .now) (held-length (start .pre .1 .0) ∙ sym (start .pre .1 .1 .0)))
 
 -- no call refuses the list, and it is not zero
 listed : (c : tie.After-copy) → IsList (modulus (c .before .before .before .before .before .before .before .before .before .args .field)) (longest (c .before .before .before .before .before .before .before .before .before .args .field)) (c .before .before .before .before .before .before .before .before .before .args .list .now)

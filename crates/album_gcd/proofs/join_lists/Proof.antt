@@ -90,9 +90,8 @@ returns : tie.Need-returns Inv-loop μ-loop
 unfolding fieldAt
 returns c = let s = c .before .before .before .before .before .before .before .before .args .album .now in
     let counted = c .before .before .before .byte-at .ensures in
-    let bytes = c .before .before .before .before .before .before .before .shared-slice-known .given in
     folding-end (fieldAt _) _ (listsOf s) (c .before .loop .inv .3) (omega (arith, length-lists s))
-    (passed-each _ s (c .before .before .before .before .before .before .before .before .pre .0) (λ i. omega (arith, bytes i)) _ (omega (arith, longest-full (c .before .before .before .before .before .before .before .before .args .field))))
+    (passed-each _ s (c .before .before .before .before .before .before .before .before .pre .0) _ (omega (arith, longest-full (c .before .before .before .before .before .before .before .before .args .field))))
 
 pub join-lists-spec : {M : Type 1} → statement M
 join-lists-spec =

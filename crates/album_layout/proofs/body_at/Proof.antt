@@ -34,8 +34,8 @@ add-word-at c = search needs
 word-at-requires : tie.Need-word-at-requires
 word-at-requires c κs = search needs
 
-byte-at-requires-2 : tie.Need-byte-at-requires-2
-byte-at-requires-2 c κs = search needs
+word-at-requires-2 : tie.Need-word-at-requires-2
+word-at-requires-2 c κs = search needs
 
 add-to : tie.Need-add-to
 add-to c = search needs
@@ -70,7 +70,7 @@ part-result-end-3 c = search needs
 
 returns-3 : tie.Need-returns-3
 returns-3 c = let start = c .before .before .before .before .before .before .before in
-    let part = body-part (start .args .album .now) (start .args .i) (omega arith) _ _ (c .before .before .before .word-at .ensures .0) (c .before .before .byte-at2 .ensures .0) (omega arith) in
+    let part = body-part (start .args .album .now) (start .args .i) (omega arith) _ _ (c .before .before .before .word-at .ensures .0) (c .before .before .word-at2 .ensures .0) (omega arith) in
     (part .0, (refl, omega (arith, part .1)))
 
 pub body-at-spec : {M : Type 1} → statement M
@@ -86,7 +86,7 @@ body-at-spec =
     add-e
     add-word-at
     word-at-requires
-    byte-at-requires-2
+    word-at-requires-2
     add-to
     mul-to
     add-to-2

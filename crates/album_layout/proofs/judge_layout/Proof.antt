@@ -1,5 +1,6 @@
 -- `album_layout::judge_layout` meets its contract. The loop's invariant: n is the number of lists, at most the limit, and the table of contents
--- lies in the album; the first k entries name the places where the bodies start, and the next body starts at `at`. The measure is the
+-- lies in the album; the first k entries name the places where the bodies start and degrees of at most the limit, and the next body starts
+-- at `at`. The measure is the
 -- number of entries left.
 -- Assumes nothing.
 use mathlib.Core.Path.{_≡_, subst}
@@ -10,15 +11,15 @@ use native.Mathlib.Numerals.{add-one}
 use native.Mathlib.Omega.{arith}
 use lib.ListN.{length}
 use borrow.Author.Needs.{needs}
-use Rattle.refusal.specs.Limits.{maxLists}
-use Rattle.album_layout.specs.Layout.{count, entryAt, entryWords, startAt, offsetsAgree}
-use Rattle.album_layout.proofs.Places.{start-next, start-low, agree-next}
-use Rattle.album_layout.proofs.Judged.{layout-empty, layout-none, layout-many, layout-size, layout-place, layout-done}
+use Rattle.refusal.specs.Limits.{maxDegree, maxLists, maxWords}
+use Rattle.album_layout.specs.Layout.{count, entryAt, startAt, offsetsAgree, degreesFit}
+use Rattle.album_layout.proofs.Places.{start-next, start-low, agree-next, fit-next}
+use Rattle.album_layout.proofs.Judged.{layout-empty, layout-none, layout-many, layout-size, layout-place, layout-degree, layout-done}
 use Rattle.album_layout.proofs.judge_layout.Statement.{statement}
 use Rattle.album_layout.proofs.judge_layout.Tie as tie
 
 abbrev Inv-loop : tie.InvT-loop
-Inv-loop album n at₀ k₀ at k = (k ≤ n) × (n ≡ count album) × (n ≤ maxLists) × (entryAt n ≤ length album) × (at ≡ startAt album k) × (at ≤ entryAt maxLists + 2 * entryWords * k) × (offsetsAgree album k ≡ true)
+Inv-loop album n at₀ k₀ at k = (k ≤ n) × (n ≡ count album) × (n ≤ maxLists) × (entryAt n ≤ length album) × (at ≡ startAt album k) × (at ≤ entryAt maxLists + 2 * maxWords * k) × (offsetsAgree album k ≡ true) × (degreesFit maxDegree album k ≡ true)
 
 abbrev μ-loop : tie.MeasureT-loop
 μ-loop album n at₀ k₀ at k = n - k
@@ -47,7 +48,7 @@ returns-4 c =
     layout-size s (omega arith) (omega arith) (omega arith) (λ e. omega (arith, start-low s (count s)))
 
 loop-holds : tie.Need-loop-holds Inv-loop μ-loop
-unfolding startAt offsetsAgree
+unfolding startAt offsetsAgree degreesFit
 loop-holds c = search needs
 
 mul-e : tie.Need-mul-e Inv-loop μ-loop
@@ -56,9 +57,6 @@ mul-e c = search needs
 add-e : tie.Need-add-e Inv-loop μ-loop
 add-e c = search needs
 
-add-word-at : tie.Need-add-word-at Inv-loop μ-loop
-add-word-at c = search needs
-
 word-at-requires : tie.Need-word-at-requires Inv-loop μ-loop
 word-at-requires c κs = search needs
 
@@ -66,10 +64,19 @@ returns-5 : tie.Need-returns-5 Inv-loop μ-loop
 returns-5 c =
     let s = c .before .before .before .before .before .before .before .before .before .before .args .album .now in
     let k = c .before .before .before .loop .k in
-    layout-place s (omega arith) (omega arith) (omega arith) k (omega arith) (λ e. omega arith)
+    layout-degree s (omega arith) (omega arith) (omega arith) k (omega arith) (omega arith)
 
-byte-at-requires-2 : tie.Need-byte-at-requires-2 Inv-loop μ-loop
-byte-at-requires-2 c κs = search needs
+add-word-at : tie.Need-add-word-at Inv-loop μ-loop
+add-word-at c = search needs
+
+word-at-requires-2 : tie.Need-word-at-requires-2 Inv-loop μ-loop
+word-at-requires-2 c κs = search needs
+
+returns-6 : tie.Need-returns-6 Inv-loop μ-loop
+returns-6 c =
+    let s = c .before .before .before .before .before .before .before .before .before .before .before .before .args .album .now in
+    let k = c .before .before .before .before .before .loop .k in
+    layout-place s (omega arith) (omega arith) (omega arith) k (omega arith) (λ e. omega arith)
 
 add-at-2 : tie.Need-add-at-2 Inv-loop μ-loop
 add-at-2 c = search needs
@@ -88,15 +95,16 @@ loop-less c = search needs
 
 loop-again : tie.Need-loop-again Inv-loop μ-loop
 loop-again c =
-    let s = c .before .before .before .before .before .before .before .before .before .before .before .args .album .now in
-    let k = c .before .before .before .before .loop .k in (
+    let s = c .before .before .before .before .before .before .before .before .before .before .before .before .args .album .now in
+    let k = c .before .before .before .before .before .loop .k in (
       omega arith,
       omega arith,
       omega arith,
       omega arith,
       rw (add-one k) (omega (arith, start-next s k)),
       omega arith,
-      rw add-one (agree-next s k (c .before .before .before .before .loop .inv .6) (omega arith)),
+      rw add-one (agree-next s k (c .before .before .before .before .before .loop .inv .6) (omega arith)),
+      rw add-one (fit-next s maxDegree k (c .before .before .before .before .before .loop .inv .7) (omega arith)),
     )
 
 abbrev album-of : tie.After-loop Inv-loop μ-loop → List ℕ
@@ -104,22 +112,24 @@ album-of c = c .before .before .before .before .before .before .before .before .
 
 -- after the loop every entry is passed
 closed : (c : tie.After-loop Inv-loop μ-loop)
-    → (offsetsAgree (album-of c) (count (album-of c)) ≡ true) × (c .before .loop .at ≡ startAt (album-of c) (count (album-of c)))
+    → (offsetsAgree (album-of c) (count (album-of c)) ≡ true) × (degreesFit maxDegree (album-of c) (count (album-of c)) ≡ true)
+    × (c .before .loop .at ≡ startAt (album-of c) (count (album-of c)))
 closed c =
     let e : c .before .loop .k ≡ count (album-of c) = omega arith in (
       subst (λ (k : ℕ). offsetsAgree (album-of c) k ≡ true) e (c .before .loop .inv .6),
+      subst (λ (k : ℕ). degreesFit maxDegree (album-of c) k ≡ true) e (c .before .loop .inv .7),
       subst (λ (k : ℕ). c .before .loop .at ≡ startAt (album-of c) k) e (c .before .loop .inv .4),
     )
-
-returns-6 : tie.Need-returns-6 Inv-loop μ-loop
-returns-6 c =
-    let s = c .before .before .before .before .before .before .before .before .before .args .album .now in
-    layout-size s (omega arith) (omega arith) (omega arith) (λ e. omega (arith, closed (c .before) .1))
 
 returns-7 : tie.Need-returns-7 Inv-loop μ-loop
 returns-7 c =
     let s = c .before .before .before .before .before .before .before .before .before .args .album .now in
-    layout-done s (omega arith) (omega arith) (omega arith) (omega (arith, closed (c .before) .1)) (closed (c .before) .0)
+    layout-size s (omega arith) (omega arith) (omega arith) (λ e. omega (arith, closed (c .before) .2))
+
+returns-8 : tie.Need-returns-8 Inv-loop μ-loop
+returns-8 c =
+    let s = c .before .before .before .before .before .before .before .before .before .args .album .now in
+    layout-done s (omega arith) (omega arith) (omega arith) (omega (arith, closed (c .before) .2)) (closed (c .before) .0) (closed (c .before) .1)
 
 pub judge-layout-spec : {M : Type 1} → statement M
 judge-layout-spec =
@@ -137,15 +147,16 @@ judge-layout-spec =
     loop-holds
     mul-e
     add-e
-    add-word-at
     word-at-requires
     returns-5
-    byte-at-requires-2
+    add-word-at
+    word-at-requires-2
+    returns-6
     add-at-2
     mul-at-2
     add-at-3
     add-k
     loop-less
     loop-again
-    returns-6
-    returns-7)
+    returns-7
+    returns-8)

@@ -5,12 +5,11 @@ use mathlib.Core.List.{[], _∷_, _++_}
 use Prim.Native.Nat.{_*_, _≤_}
 use native.Mathlib.Omega.{arith}
 use lib.ListN.{length, drop, length-take}
-use Rattle.refusal.specs.Limits.{maxLists}
+use Rattle.refusal.specs.Limits.{maxLists, maxWords}
 use Rattle.refusal.specs.Refusal.{reply}
 use Rattle.refusal.specs.declared.Outcome.the-variants.{Done}
 use Rattle.refusal.proofs.Answers.{result, kept}
 use Rattle.field.specs.Fields.{modulus}
-use Rattle.album_layout.specs.Layout.{entryWords}
 use Rattle.album_layout.specs.Written.{albumOf}
 use Rattle.album_writer.specs.Cut.{cutBy}
 use Rattle.album_writer.specs.Calls.{overFront}
@@ -33,11 +32,10 @@ fine : (c : tie.After-enum-told)
     Taken (modulus (args .field)) (args .words .now) (args .degrees .now) (args .out .now)
 fine c = taken _ _ _ _ (sym (c .before .before .judge-write .ensures) ∙ c .enum-told .given .1)
 
-few : (c : tie.After-enum-told) → length (c .before .before .before .before .before .before .before .args .words .now) ≤ maxLists * entryWords
+few : (c : tie.After-enum-told) → length (c .before .before .before .before .before .before .before .args .words .now) ≤ maxLists * maxWords
 few c =
     let t = fine c in
-    let bytes = c .before .before .before .before .before .shared-slice-known2 .given in
-    omega (arith, t .few, t .size, few-words (c .before .before .before .before .before .before .before .args .degrees .now) (λ k. omega (arith, bytes k)))
+    omega (arith, t .few, t .size, few-words (c .before .before .before .before .before .before .before .args .degrees .now) (t .low))
 
 mul-size : tie.Need-mul-size
 mul-size c = let t = fine c in omega (arith, t .few)
@@ -65,7 +63,7 @@ write-parts-requires : tie.Need-write-parts-requires
 write-parts-requires c κs =
     let f = few (c .before) in
     let t = fine (c .before) in
-    record { few = t .few; short = f; size = simp length-take (omega arith) }
+    record { few = t .few; low = t .low; short = f; size = simp length-take (omega arith) }
 
 enum-known-why : tie.Need-enum-known-why
 enum-known-why c = search needs

@@ -6,8 +6,8 @@ use mathlib.Core.List.{_++_}
 use Prim.Native.Nat.{_+_, _*_, _-_, _≤_}
 use native.Mathlib.Omega.{arith}
 use lib.ListN.{length, take, drop, length-set}
-use Rattle.refusal.specs.Limits.{entryBytes}
-use Rattle.album_layout.specs.Layout.{entryWords}
+use Rattle.refusal.specs.Limits.{maxWords, entryBytes}
+use Rattle.lists.specs.Bytes.{bytesOf}
 use Rattle.album_writer.specs.Internal.{entriesBy}
 use Rattle.album_writer.proofs.Loops.{entries-next, entries-end}
 use borrow.Author.Needs.{needs}
@@ -16,8 +16,8 @@ use Rattle.album_writer.proofs.write_entries.Tie as tie
 
 abbrev Inv-loop : tie.InvT-loop
 Inv-loop degrees first out₀ place₀ k₀ out place k =
-    (k ≤ length degrees) × (length out ≡ entryBytes * length degrees) × (place ≤ first + 2 * entryWords * k)
-    × (take (entryBytes * k) out ++ entriesBy place (drop k degrees) ≡ entriesBy first degrees)
+    (k ≤ length degrees) × (length out ≡ entryBytes * length degrees) × (place ≤ first + 2 * maxWords * k)
+    × (take (entryBytes * k) out ++ bytesOf (entriesBy place (drop k degrees)) ≡ bytesOf (entriesBy first degrees))
 
 abbrev μ-loop : tie.MeasureT-loop
 μ-loop degrees first out₀ place₀ k₀ out place k = length degrees - k
@@ -28,17 +28,20 @@ loop-holds c = (search needs, search needs, omega arith, refl)
 mul-e : tie.Need-mul-e Inv-loop μ-loop
 mul-e c = search needs
 
-shared-slice-read-out : tie.Need-shared-slice-read-out Inv-loop μ-loop
-shared-slice-read-out c = search needs
+mul-degree : tie.Need-mul-degree Inv-loop μ-loop
+mul-degree c = search needs
+
+shared-slice-read-degree : tie.Need-shared-slice-read-degree Inv-loop μ-loop
+shared-slice-read-degree c = search needs
+
+low-requires : tie.Need-low-requires Inv-loop μ-loop
+low-requires c κs = search needs
 
 slice-write-out : tie.Need-slice-write-out Inv-loop μ-loop
 slice-write-out c = search needs
 
-cast-low : tie.Need-cast-low Inv-loop μ-loop
-cast-low c = search needs
-
-low-requires : tie.Need-low-requires Inv-loop μ-loop
-low-requires c κs = search needs
+high-requires : tie.Need-high-requires Inv-loop μ-loop
+high-requires c κs = search needs
 
 add-out : tie.Need-add-out Inv-loop μ-loop
 add-out c = search needs
@@ -46,11 +49,11 @@ add-out c = search needs
 slice-write-out-2 : tie.Need-slice-write-out-2 Inv-loop μ-loop
 slice-write-out-2 c = simp length-set (omega arith)
 
-cast-high : tie.Need-cast-high Inv-loop μ-loop
-cast-high c = search needs
+cast-low : tie.Need-cast-low Inv-loop μ-loop
+cast-low c = search needs
 
-high-requires : tie.Need-high-requires Inv-loop μ-loop
-high-requires c κs = search needs
+low-requires-2 : tie.Need-low-requires-2 Inv-loop μ-loop
+low-requires-2 c κs = search needs
 
 add-out-2 : tie.Need-add-out-2 Inv-loop μ-loop
 add-out-2 c = search needs
@@ -58,8 +61,20 @@ add-out-2 c = search needs
 slice-write-out-3 : tie.Need-slice-write-out-3 Inv-loop μ-loop
 slice-write-out-3 c = simp length-set (omega arith)
 
-byte-at-requires : tie.Need-byte-at-requires Inv-loop μ-loop
-byte-at-requires c κs = search needs
+cast-high : tie.Need-cast-high Inv-loop μ-loop
+cast-high c = search needs
+
+high-requires-2 : tie.Need-high-requires-2 Inv-loop μ-loop
+high-requires-2 c κs = search needs
+
+add-out-3 : tie.Need-add-out-3 Inv-loop μ-loop
+add-out-3 c = search needs
+
+slice-write-out-4 : tie.Need-slice-write-out-4 Inv-loop μ-loop
+slice-write-out-4 c = simp length-set (omega arith)
+
+cast-place : tie.Need-cast-place Inv-loop μ-loop
+cast-place c = search needs
 
 add-place : tie.Need-add-place Inv-loop μ-loop
 add-place c = search needs
@@ -78,15 +93,19 @@ loop-less c = search needs
 
 loop-again : tie.Need-loop-again Inv-loop μ-loop
 loop-again c =
-    let loop = c .before .before .before .before .before .loop in
-    let args = c .before .before .before .before .before .before .before .before .args in (
+    let loop = c .before .before .before .before .before .before .loop in
+    let start = c .before .before .before .before .before .before .before .before .before in
+    let few = start .pre .1 .0 (loop .k) in (
       omega arith,
       simp length-set (omega arith),
-      omega (arith, c .byte-at .ensures),
-      entries-next (args .degrees .now) (loop .out) (loop .k) (loop .place) _ _ _ _ (omega arith) (omega arith) (omega arith)
-          (c .byte-at .ensures .0)
-          (c .before .before .low .ensures)
-          (c .before .high .ensures)
+      omega arith,
+      entries-next (start .args .degrees .now) (loop .out) (loop .k) (loop .place) (omega arith) (omega arith) (omega arith) (omega arith) (omega arith)
+          (omega arith)
+          (c .before .before .before .low .ensures)
+          (c .before .before .high .ensures)
+          (c .before .low2 .ensures)
+          (c .high2 .ensures)
+          (omega arith)
           ∙ loop .inv .3,
     )
 
@@ -106,17 +125,22 @@ write-entries-spec =
     μ-loop
     loop-holds
     mul-e
-    shared-slice-read-out
-    slice-write-out
-    cast-low
+    mul-degree
+    shared-slice-read-degree
     low-requires
+    slice-write-out
+    high-requires
     add-out
     slice-write-out-2
-    cast-high
-    high-requires
+    cast-low
+    low-requires-2
     add-out-2
     slice-write-out-3
-    byte-at-requires
+    cast-high
+    high-requires-2
+    add-out-3
+    slice-write-out-4
+    cast-place
     add-place
     mul-place
     add-place-2

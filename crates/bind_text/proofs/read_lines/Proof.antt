@@ -77,6 +77,9 @@ sub-degrees c = let limits = in-turn (c .before .before .before .before .before)
 cast-degrees : tie.Need-cast-degrees Inv-loop μ-loop
 cast-degrees c = let limits = in-turn (c .before .before .before .before .before) in omega arith
 
+mul-degrees : tie.Need-mul-degrees Inv-loop μ-loop
+mul-degrees c = let limits = in-turn (c .before .before .before .before .before) in omega arith
+
 slice-write-degrees : tie.Need-slice-write-degrees Inv-loop μ-loop
 slice-write-degrees c = let limits = in-turn (c .before .before .before .before .before) in omega arith
 
@@ -134,6 +137,7 @@ read-lines-spec =
     read-line-requires
     sub-degrees
     cast-degrees
+    mul-degrees
     slice-write-degrees
     add-used
     add-k

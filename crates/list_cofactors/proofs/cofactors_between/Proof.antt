@@ -1,21 +1,32 @@
--- `list_cofactors::cofactors_between` meets its contract: parts of zeros are zeros, and n is the number of words of the longest list.
+-- `list_cofactors::cofactors_between` meets its contract: parts of zeros are zeros, and they have enough words.
 -- Assumes nothing.
-use Prim.Native.Nat.{_≤_}
+use mathlib.Core.Path.{_∙_, ap}
+use Prim.Native.Nat.{max, _≤_, _<_}
 use native.Mathlib.Omega.{arith}
 use lib.ListN.{length-take}
 use Rattle.refusal.specs.Limits.{maxWords}
-use Rattle.field.proofs.Fields.{longest-room}
-use Rattle.list_cofactors.proofs.StartRow.{rows-part}
+use Rattle.field.specs.Fields.{fieldAt, longest}
+use Rattle.field.proofs.Fields.{longest-more, longest-room}
+use Rattle.list_gcd.specs.Internal.{Ready}
+use Rattle.list_cofactors.proofs.StartRow.{rows-part, tables-part, part-words}
 use borrow.Author.Needs.{needs}
 use Rattle.list_cofactors.proofs.cofactors_between.Statement.{statement}
 use Rattle.list_cofactors.proofs.cofactors_between.Tie as tie
 
--- the parts stand in the arrays
-fits : (c : tie.After-longest-of) → c .longest-of .result ≤ maxWords
-fits c = omega (arith, longest-room (c .before .before .before .before .before .before .before .before .before .before .before .before .args .field))
+-- the parts of a row have enough words, and stand in the arrays
+enough : (c : tie.After-larger2) → let start = c .before .before .before .before .before .before .before .before .before .before .before .before .before in let n = c .larger2 .result in (1 < n) × (n ≤ longest (start .args .field)) × Ready (fieldAt (start .args .field)) n (start .args .f .now) (start .args .g .now)
+enough c =
+    let start = c .before .before .before .before .before .before .before .before .before .before .before .before .before in
+    part-words (fieldAt (start .args .field)) _ (longest-more (start .args .field)) (start .pre .1 .0) (c .larger2 .ensures ∙ ap (max 2) (c .before .larger .ensures))
 
-longest-of-requires : tie.Need-longest-of-requires
-longest-of-requires c κs = search needs
+fits : (c : tie.After-larger2) → c .larger2 .result ≤ maxWords
+fits c = omega (arith, enough c .1, longest-room (c .before .before .before .before .before .before .before .before .before .before .before .before .before .args .field))
+
+larger-requires : tie.Need-larger-requires
+larger-requires c κs = search needs
+
+larger-requires-2 : tie.Need-larger-requires-2
+larger-requires-2 c κs = search needs
 
 mul-row : tie.Need-mul-row
 mul-row c = search needs
@@ -40,12 +51,10 @@ slice-aggregate-cofactors-in-3 c = simp length-take (omega (arith, fits (c .befo
 
 cofactors-in-requires : tie.Need-cofactors-in-requires
 cofactors-in-requires c κs =
-    let start = c .before .before .before .before .before .before .before .before .before .before .before .before .before .before .before .before .before .before in
-    let pre = start .pre in
-    let e = c .before .before .before .before .before .before .longest-of .ensures in
-    let n = c .before .before .before .before .before .before .longest-of .result in
-    let l = fits (c .before .before .before .before .before .before) in
-    (e, (rw e (pre .0), (rw e (pre .1 .0), (rw e (pre .1 .1 .0), rows-part n l (pre .1 .1 .1)))))
+    let pre = c .before .before .before .before .before .before .before .before .before .before .before .before .before .before .before .before .before .before .before .pre in
+    let n = c .before .before .before .before .before .before .larger2 .result in
+    let known = enough (c .before .before .before .before .before .before) in
+    ((known .0, known .1), (tables-part (fieldAt _) n (known .1) (pre .0), (known .2, (pre .1 .1 .0, rows-part n (fits (c .before .before .before .before .before .before)) (pre .1 .1 .1)))))
 
 same-length : tie.Need-same-length
 same-length c = search needs
@@ -66,13 +75,14 @@ same-length-6 : tie.Need-same-length-6
 same-length-6 c = search needs
 
 returns : tie.Need-returns
-returns c = rw (c .before .before .before .before .before .before .before .before .before .before .before .before .before .before .before .before .before .before .before .longest-of .ensures) at (c .before .before .before .before .before .before .before .before .before .before .before .before .cofactors-in .ensures)
+returns c = c .before .before .before .before .before .before .before .before .before .before .before .before .cofactors-in .ensures
 
 pub cofactors-between-spec : {M : Type 1} → statement M
 cofactors-between-spec =
     tie.close
     (tie.spec
-    longest-of-requires
+    larger-requires
+    larger-requires-2
     mul-row
     slice-relend-prefix-cofactors-in
     slice-aggregate-cofactors-in

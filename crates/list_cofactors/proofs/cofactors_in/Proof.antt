@@ -1,17 +1,11 @@
 -- `list_cofactors::cofactors_in` meets its contract: the row of the last x, written, is what the definitions name.
 -- Assumes nothing.
-use Prim.Native.Nat.{_<_}
 use native.Mathlib.Omega.{arith}
 use borrow.Author.Needs.{needs}
 use Rattle.field.specs.Fields.{fieldAt}
-use Rattle.field.proofs.Fields.{longest-more}
 use Rattle.list_cofactors.proofs.Results.{nonzero-row, slices-short, results}
 use Rattle.list_cofactors.proofs.cofactors_in.Statement.{statement}
 use Rattle.list_cofactors.proofs.cofactors_in.Tie as tie
-
--- a row's parts have more than 1 word
-more : (s : tie.Start) → 1 < s .args .n
-more s = omega (arith, longest-more (s .args .field))
 
 find-last-requires : tie.Need-find-last-requires
 find-last-requires c κs =
@@ -22,7 +16,7 @@ write-last-requires : tie.Need-write-last-requires
 write-last-requires c κs =
     let start = c .before .before .before .before .before .before .before .before .before .before .before .before .before .before .before .before .before .before .before .before .before .before .before .before .before .before in
     let pre = start .pre in
-    (pre .0, (pre .1 .0, (nonzero-row (fieldAt _) (c .before .before .before .before .before .before .before .before .before .before .before .find-last .ensures), slices-short (fieldAt _) _ (more start) (pre .1 .1 .0) (pre .1 .1 .1 .0))))
+    (pre .0 .1, (pre .1 .0, (nonzero-row (fieldAt _) (c .before .before .before .before .before .before .before .before .before .before .before .find-last .ensures), slices-short (fieldAt _) _ _ (pre .0 .0) (pre .0 .1) (pre .1 .1 .0) (pre .1 .1 .1 .0))))
 
 common-power-requires : tie.Need-common-power-requires
 common-power-requires c κs = search needs
@@ -49,7 +43,7 @@ returns : tie.Need-returns
 returns c =
     let start = c .before .before .before .before .before .before .before .before .before .before .before .before .before .before .before .before .before .before .before .before .before .before .before .before .before .before .before .before .before .before .before .before .before .before .before .before .before .before in
     let pre = start .pre in
-    results (fieldAt _) _ (more start) _ _ (start .args .h .now) _ _ (pre .1 .1 .0) (pre .1 .1 .1 .0) (c .before .before .before .before .before .before .before .before .before .before .before .before .before .before .before .before .before .before .before .before .before .before .before .find-last .ensures) (c .before .before .before .before .before .before .before .before .before .before .before .write-last .ensures) (c .common-power .ensures)
+    results (fieldAt _) _ _ (pre .0 .0) _ _ (start .args .h .now) _ _ (pre .1 .1 .0) (pre .1 .1 .1 .0) (c .before .before .before .before .before .before .before .before .before .before .before .before .before .before .before .before .before .before .before .before .before .before .before .find-last .ensures) (c .before .before .before .before .before .before .before .before .before .before .before .write-last .ensures) (c .common-power .ensures)
 
 pub cofactors-in-spec : {M : Type 1} → statement M
 cofactors-in-spec =

@@ -1,13 +1,12 @@
 -- `list_cofactors::find_last` meets its contract: the rounds from the rows of g and f are those of the definition.
 -- Assumes nothing.
-use mathlib.Core.Path.{_≡_}
+use mathlib.Core.Path.{subst}
 use mathlib.Core.List.{List}
-use Prim.Native.Nat.{ℕ}
+use Prim.Native.Nat.{ℕ, _+_}
 use native.Mathlib.Omega.{arith}
 use Rattle.algebra.specs.PrimeField.{PrimeField}
 use Rattle.field.specs.Fields.{fieldAt}
-use Rattle.field.proofs.Fields.{longest-more, longest-room}
-use Rattle.field_tables.specs.Factorials.{Tables}
+use Rattle.field.proofs.Fields.{longest-room}
 use Rattle.list_cofactors.specs.Internal.{Started}
 use Rattle.list_cofactors.proofs.Results.{found}
 use Rattle.list_cofactors.proofs.Start.{carried-start}
@@ -15,39 +14,31 @@ use borrow.Author.Needs.{needs}
 use Rattle.list_cofactors.proofs.find_last.Statement.{statement}
 use Rattle.list_cofactors.proofs.find_last.Tie as tie
 
--- n is the number of words of the longest list
-tables-at : {F : PrimeField} {n m : ℕ} {whole part : List ℕ} → n ≡ m → Tables F n whole part → Tables F m whole part
-tables-at e t = rw e at t
-
-started-at : {F : PrimeField} {n m one : ℕ} {row : List ℕ} {s : F .series .ring .Carrier} → n ≡ m → Started F m one row s → Started F n one row s
-started-at e s = rw e s
+-- the 1 of g stands at the first word of its cofactors
+first : {F : PrimeField} {n : ℕ} {row : List ℕ} {s : F .series .ring .Carrier} → Started F n (n + 0) row s → Started F n n row s
+first {F} {n} {row} {s} r = subst (λ i. Started F n i row s) (omega arith) r
 
 start-row-requires : tie.Need-start-row-requires
 start-row-requires c κs =
     let start = c .before .before .before .before .before .before .before .before .before in
-    let more = longest-more (start .args .field) in
     let pre = start .pre in
     let ready = pre .1 .1 .0 in
-    (tables-at (pre .0) (pre .1 .0), ((omega arith, omega arith), ((omega arith, omega arith), pre .1 .1 .1 .zeros-u)))
-
-add-start-row : tie.Need-add-start-row
-add-start-row c = search needs
+    (pre .0 .1, (pre .1 .0, ((ready .short-g, pre .1 .1 .1 .size-u, omega arith), pre .1 .1 .1 .zeros-u)))
 
 start-row-requires-2 : tie.Need-start-row-requires-2
 start-row-requires-2 c κs =
     let start = c .before .before .before .before .before .before .before .before .before .before .before .before .before in
-    let more = longest-more (start .args .field) in
     let pre = start .pre in
     let ready = pre .1 .1 .0 in
-    (tables-at (pre .0) (pre .1 .0), ((omega arith, omega arith), ((omega arith, omega arith), pre .1 .1 .1 .zeros-v)))
+    (pre .0 .1, (pre .1 .0, ((ready .short-f, pre .1 .1 .1 .size-v, omega arith), pre .1 .1 .1 .zeros-v)))
 
 all-rounds-requires : tie.Need-all-rounds-requires
 all-rounds-requires c κs =
     let start = c .before .before .before .before .before .before .before .before .before .before .before .before .before .before .before .before .before .before .before in
     let pre = start .pre in
-    let u = started-at (pre .0) (c .before .before .before .before .before .before .before .before .before .start-row .ensures) in
-    let v = started-at (pre .0) (c .before .before .before .before .before .start-row2 .ensures) in
-    (carried-start (fieldAt _) _ (omega (arith, longest-more (start .args .field))) u v, (pre .1 .1 .1 .size-q, omega (arith, longest-room (start .args .field))))
+    let u = first (c .before .before .before .before .before .before .before .before .before .start-row .ensures) in
+    let v = c .before .before .before .before .before .start-row2 .ensures in
+    (carried-start (fieldAt _) _ (omega arith) u v, (pre .1 .1 .1 .size-q, omega (arith, longest-room (start .args .field))))
 
 same-length : tie.Need-same-length
 same-length c = search needs
@@ -62,14 +53,13 @@ returns : tie.Need-returns
 returns c =
     let start = c .before .before .before .before .before .before .before .before .before .before .before .before .before .before .before .before .before .before .before .before .before .before .before .before .before .before in
     let pre = start .pre in
-    found (fieldAt _) _ _ _ (pre .1 .1 .0) (started-at (pre .0) (c .before .before .before .before .before .before .before .before .before .before .before .before .before .before .before .before .start-row .ensures)) (started-at (pre .0) (c .before .before .before .before .before .before .before .before .before .before .before .before .start-row2 .ensures)) (c .before .before .before .before .before .before .all-rounds .ensures)
+    found (fieldAt _) _ _ _ (pre .1 .1 .0) (first (c .before .before .before .before .before .before .before .before .before .before .before .before .before .before .before .before .start-row .ensures)) (c .before .before .before .before .before .before .before .before .before .before .before .before .start-row2 .ensures) (c .before .before .before .before .before .before .all-rounds .ensures)
 
 pub find-last-spec : {M : Type 1} → statement M
 find-last-spec =
     tie.close
     (tie.spec
     start-row-requires
-    add-start-row
     start-row-requires-2
     all-rounds-requires
     same-length

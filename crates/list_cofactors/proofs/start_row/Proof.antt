@@ -18,6 +18,9 @@ slice-aggregate-weigh c = simp length-take (omega arith)
 weigh-requires : tie.Need-weigh-requires
 weigh-requires c κs = search needs
 
+add-row : tie.Need-add-row
+add-row c = search needs
+
 mul-row : tie.Need-mul-row
 mul-row c = search needs
 
@@ -29,8 +32,10 @@ same-length c = search needs
 
 returns : tie.Need-returns
 returns c =
-    let pre = c .before .before .before .before .before .before .before .before .pre in
-    row-started (fieldAt _) _ (p-at _) (longest-in _) _ _ (pre .0) _ _ _ (pre .1 .0 .0) (pre .1 .0 .1) (pre .1 .1 .0 .0) (pre .1 .1 .0 .1) (pre .1 .1 .1) (c .before .before .weigh .ensures)
+    let start = c .before .before .before .before .before .before .before .before in
+    let pre = start .pre in
+    let short = longest-in (start .args .field) in
+    row-started (fieldAt _) _ (p-at _) (omega arith) _ _ (pre .1 .0) _ _ _ (pre .1 .1 .0 .0) (pre .1 .1 .0 .1) (omega arith) (omega arith) (pre .1 .1 .1) (c .before .before .weigh .ensures)
 
 pub start-row-spec : {M : Type 1} → statement M
 start-row-spec =
@@ -39,6 +44,7 @@ start-row-spec =
     slice-relend-prefix-weigh
     slice-aggregate-weigh
     weigh-requires
+    add-row
     mul-row
     slice-write-row
     same-length

@@ -1,5 +1,6 @@
 -- `list_product::product_in` meets its contract: the product of the scaled forms, divided by the binomial coefficients again.
 -- Assumes nothing.
+use native.Mathlib.Omega.{arith}
 use borrow.Author.Needs.{needs}
 use Rattle.field.specs.Fields.{fieldAt}
 use Rattle.field.proofs.Fields.{p-at, longest-in, longest-room}
@@ -34,7 +35,9 @@ same-length-4 c = search needs
 returns : tie.Need-returns
 returns c =
     let start = c .before .before .before .before .before .before .before .before .before .before .before .before .before .before .before .before .before .before .before .before .before .before .before .before .before .before .before in
-    product-is (fieldAt _) (p-at _) _ _ (longest-in _) (longest-room _) _ _ (start .pre .0) _ _ _ _ _ _ (start .pre .1 .0) (start .pre .1 .1 .0) (start .pre .1 .1 .1) (start .pre .1 .1 .2)
+    let tables = start .pre .0 in
+    let k = start .args .field in
+    product-is (fieldAt _) (p-at _) _ _ (omega (arith, tables .few, longest-in k)) (omega (arith, tables .few, longest-room k)) _ _ (tables .tables) _ _ _ _ _ _ (start .pre .1 .0) (start .pre .1 .1 .0) (start .pre .1 .1 .1) (start .pre .1 .1 .2)
     (c .before .before .before .before .before .before .before .before .before .before .before .before .before .before .before .before .before .weigh .ensures)
     (c .before .before .before .before .before .before .before .before .before .before .before .before .before .weigh2 .ensures)
     (c .before .before .before .before .before .before .before .convolve .ensures)

@@ -20,15 +20,16 @@ add-m : tie.Need-add-m
 add-m c = search needs
 
 array-share-prefix-ones : tie.Need-array-share-prefix-ones
-array-share-prefix-ones c = omega (arith, longest-room (c .before .before .before .before .args .field))
+array-share-prefix-ones c = omega (arith, c .before .before .before .before .pre .0 .few, longest-room (c .before .before .before .before .args .field))
 
 slice-aggregate-product-with : tie.Need-slice-aggregate-product-with
-slice-aggregate-product-with c = sym (prefix-length _ maxWords _ refl (omega (arith, longest-room (c .before .before .before .before .before .args .field))))
+slice-aggregate-product-with c = sym (prefix-length _ maxWords _ refl (omega (arith, c .before .before .before .before .before .pre .0 .few, longest-room (c .before .before .before .before .before .args .field))))
 
 product-with-requires : tie.Need-product-with-requires
 product-with-requires c κs =
     let args = c .before .before .before .before .before .before .args in
     let pre = c .before .before .before .before .before .before .pre in
+    let few = pre .0 .few in
     let room = longest-room (args .field) in
     let m = prefix-length (length (args .out .now) - length (args .f .now) + 1) maxWords (replicate maxWords 1) refl (omega arith) in
     (pre .0, record { first = omega arith; second = omega arith; size = omega arith; short = omega arith })
@@ -38,7 +39,8 @@ same-length c = search needs
 
 returns : tie.Need-returns
 returns c =
-    raise-is (fieldAt _) maxWords (longest-room _) _ _ _ (c .before .before .before .before .before .before .before .before .before .pre .1) refl (c .before .before .product-with .ensures)
+    let start = c .before .before .before .before .before .before .before .before .before in
+    raise-is (fieldAt _) maxWords (omega (arith, start .pre .0 .few, longest-room (start .args .field))) _ _ _ (start .pre .1) refl (c .before .before .product-with .ensures)
 
 pub raise-with-spec : {M : Type 1} → statement M
 raise-with-spec =

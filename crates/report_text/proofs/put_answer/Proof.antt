@@ -46,11 +46,10 @@ small : (c : tie.After-w) → c .w .given .0 .1 .0 .0 < maxWords
 small c =
     let start = c .before .before .before .before .before .before .before .before .before in
     let s = start .args .album .now in
-    let bytes = c .before .before .before .before .before .before .before .before .shared-slice-known .given in
     let answer = given c in
     let short =
     common-power-short (listsOf s) maxWords (omega arith) (answer .some)
-    (λ j k. passed-each _ s (start .pre .0 .0) (λ i. omega (arith, bytes i)) maxWords (omega arith) j k .short) in
+    (λ j k. passed-each _ s (start .pre .0 .0) maxWords (omega arith) j k .short) in
     omega (arith, answer .power)
 
 add-put-gcd : tie.Need-add-put-gcd

@@ -23,7 +23,7 @@ byte-at-requires c κs = search needs
 put-named-requires : tie.Need-put-named-requires
 put-named-requires c κs =
     let start = c .before .before .before .before .before .before .before in
-    room-is (ap (λ n. line (⟨lists⟩ ∷ decimal n ∷ [])) (sym (c .before .byte-at .ensures .0))) (first-room _ (start .args .album .now) (start .pre .0) (λ i. omega (arith, c .before .before .before .before .before .before .shared-slice-known .given i)) (start .pre .1 .2))
+    room-is (ap (λ n. line (⟨lists⟩ ∷ decimal n ∷ [])) (sym (c .before .byte-at .ensures .0))) (first-room _ (start .args .album .now) (start .pre .0) (start .pre .1 .2))
 
 -- the first line says the number of lists
 first : (c : tie.After-put-named) → Put (line (⟨lists⟩ ∷ decimal (count (c .before .before .before .before .before .before .before .before .args .album .now)) ∷ [])) 0 (c .before .before .before .before .before .before .before .before .args .out .now) (c .put-named .last .1 .1 .1 .0) (c .put-named .result)
@@ -32,12 +32,12 @@ first c = put-is (ap (λ n. line (⟨lists⟩ ∷ decimal n ∷ [])) (c .before 
 put-lists-requires : tie.Need-put-lists-requires
 put-lists-requires c κs =
     let start = c .before .before .before .before .before .before .before .before .before .before .before .before in
-    (search needs, lists-room _ (start .args .album .now) (start .pre .0) (λ i. omega (arith, c .before .before .before .before .before .before .before .before .before .before .before .shared-slice-known .given i)) (start .pre .1 .2) (first (c .before .before .before .before)))
+    (search needs, lists-room _ (start .args .album .now) (start .pre .0) (start .pre .1 .2) (first (c .before .before .before .before)))
 
 put-answer-requires : tie.Need-put-answer-requires
 put-answer-requires c κs =
     let start = c .before .before .before .before .before .before .before .before .before .before .before .before .before .before .before .before .before .before .before in
-    (search needs, answer-room _ (start .args .album .now) (start .pre .0) (λ i. omega (arith, c .before .before .before .before .before .before .before .before .before .before .before .before .before .before .before .before .before .before .shared-slice-known .given i)) (start .pre .1 .2) (first (c .before .before .before .before .before .before .before .before .before .before .before)) (c .before .before .before .before .before .before .put-lists .ensures))
+    (search needs, answer-room _ (start .args .album .now) (start .pre .0) (start .pre .1 .2) (first (c .before .before .before .before .before .before .before .before .before .before .before)) (c .before .before .before .before .before .before .put-lists .ensures))
 
 same-length : tie.Need-same-length
 same-length c = search needs

@@ -24,7 +24,7 @@ lay-requires : tie.Need-lay-requires
 lay-requires c κs = search needs
 
 plan-of-requires : tie.Need-plan-of-requires
-plan-of-requires c κs = (cut-few (c .before .before .before .before .before .before .before .halving .ensures), omega arith, omega arith)
+plan-of-requires c κs = (omega (arith, cut-few (c .before .before .before .before .before .before .before .halving .ensures)), omega arith, omega arith)
 
 multiply-requires : tie.Need-multiply-requires
 multiply-requires c κs =

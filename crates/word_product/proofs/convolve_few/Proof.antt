@@ -1,12 +1,12 @@
--- `word_product::convolve_into` meets its contract: it lends arrays of zeros.
+-- `word_product::convolve_few` meets its contract: it lends arrays of zeros for factors of few words together.
 -- Assumes nothing.
 use mathlib.Core.Path.{refl}
 use Prim.Native.Nat.{_+_, _*_}
-use Rattle.refusal.specs.Limits.{maxWords}
 use Rattle.lists.proofs.Words.{zeros-are}
+use Rattle.word_product.specs.Halves.{fewWords}
 use borrow.Author.Needs.{needs}
-use Rattle.word_product.proofs.convolve_into.Statement.{statement}
-use Rattle.word_product.proofs.convolve_into.Tie as tie
+use Rattle.word_product.proofs.convolve_few.Statement.{statement}
+use Rattle.word_product.proofs.convolve_few.Tie as tie
 
 slice-aggregate-convolve-in : tie.Need-slice-aggregate-convolve-in
 slice-aggregate-convolve-in c = search needs
@@ -19,8 +19,10 @@ slice-aggregate-convolve-in-3 c = search needs
 
 convolve-in-requires : tie.Need-convolve-in-requires
 convolve-in-requires c κs =
-    let start = c .before .before .before .before .before .before .before in
-    (start .pre, ((refl, refl, refl), (zeros-are (maxWords + 8), zeros-are (maxWords + 16), zeros-are (2 * maxWords + 8))))
+    let start = c .before .before .before .before .before .before .before in (
+      (search needs, search needs, search needs),
+      ((refl, refl), (start .pre .1, (zeros-are (fewWords + 8), zeros-are (fewWords + 16), zeros-are (2 * fewWords + 8)))),
+    )
 
 same-length : tie.Need-same-length
 same-length c = search needs
@@ -28,8 +30,8 @@ same-length c = search needs
 returns : tie.Need-returns
 returns c = search needs
 
-pub convolve-into-spec : {M : Type 1} → statement M
-convolve-into-spec =
+pub convolve-few-spec : {M : Type 1} → statement M
+convolve-few-spec =
     tie.close
     (tie.spec
     slice-aggregate-convolve-in

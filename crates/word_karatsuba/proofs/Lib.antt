@@ -1,0 +1,4 @@
+pub mod Words
+pub mod Products
+pub mod Karatsuba
+pub mod Parts

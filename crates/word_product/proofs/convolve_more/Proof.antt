@@ -1,0 +1,42 @@
+-- `word_product::convolve_more` meets its contract: it lends arrays of zeros for factors of more words together.
+-- Assumes nothing.
+use mathlib.Core.Path.{refl}
+use Prim.Native.Nat.{_+_, _*_}
+use Rattle.lists.proofs.Words.{zeros-are}
+use Rattle.word_product.specs.Halves.{moreWords}
+use borrow.Author.Needs.{needs}
+use Rattle.word_product.proofs.convolve_more.Statement.{statement}
+use Rattle.word_product.proofs.convolve_more.Tie as tie
+
+slice-aggregate-convolve-in : tie.Need-slice-aggregate-convolve-in
+slice-aggregate-convolve-in c = search needs
+
+slice-aggregate-convolve-in-2 : tie.Need-slice-aggregate-convolve-in-2
+slice-aggregate-convolve-in-2 c = search needs
+
+slice-aggregate-convolve-in-3 : tie.Need-slice-aggregate-convolve-in-3
+slice-aggregate-convolve-in-3 c = search needs
+
+convolve-in-requires : tie.Need-convolve-in-requires
+convolve-in-requires c κs =
+    let start = c .before .before .before .before .before .before .before in (
+      (search needs, search needs, search needs),
+      ((refl, refl), (start .pre .1, (zeros-are (moreWords + 8), zeros-are (moreWords + 16), zeros-are (2 * moreWords + 8)))),
+    )
+
+same-length : tie.Need-same-length
+same-length c = search needs
+
+returns : tie.Need-returns
+returns c = search needs
+
+pub convolve-more-spec : {M : Type 1} → statement M
+convolve-more-spec =
+    tie.close
+    (tie.spec
+    slice-aggregate-convolve-in
+    slice-aggregate-convolve-in-2
+    slice-aggregate-convolve-in-3
+    convolve-in-requires
+    same-length
+    returns)

@@ -4,6 +4,7 @@
 -- Theorems:
 --     factorials-hold, inverses-hold     a table that passes holds the factorials, or their inverses
 --     tables-for                         tables of n entries are tables for lists of n words
+--     tables-within                      tables for lists of m words are tables for shorter ones
 -- Assumes nothing.
 use mathlib.Core.Path.{_≡_, sym, ap, ap₂, _∙_, subst}
 use mathlib.Core.Bool.{Bool, true, _&&_}
@@ -20,7 +21,7 @@ use Rattle.algebra.specs.RingLaws.{AC}
 use Rattle.algebra.specs.PrimeField.{PrimeField, scalars, residue, inverse}
 use Rattle.algebra.proofs.PrimeField.{residue-1, residue-mul-mod, inverse-cancel′}
 use Rattle.field.specs.Fields.{fieldAt, longest}
-use Rattle.field_tables.specs.Factorials.{factorialIn, inverseFactorialIn, Holds, TablesFor}
+use Rattle.field_tables.specs.Factorials.{factorialIn, inverseFactorialIn, Holds, Tables, TablesFor}
 use Rattle.field_tables.proofs.FactorialLaws.{factorial-start, factorial-next, factorial-nonzero}
 
 -- a rule on each entry and the next; k counts on from entry to entry
@@ -109,3 +110,10 @@ module _ (F : PrimeField) {m : ℕ} (e : F .p ≡ m) (n : ℕ) (l : List ℕ) (s
 pub tables-for : (k n : ℕ) {whole part : List ℕ} → length whole ≡ n → n ≤ longest k → Holds (fieldAt k) n (factorialIn (fieldAt k)) whole
     → Holds (fieldAt k) n (inverseFactorialIn (fieldAt k)) part → TablesFor k whole part
 tables-for k n e l h i = record { tables = rw e (record { factorials = h; inverses = i }); few = omega arith }
+
+pub tables-within : (F : PrimeField) {m : ℕ} (n : ℕ) {whole part : List ℕ} → n ≤ m → Tables F m whole part → Tables F n whole part
+tables-within F n l t =
+    record {
+      factorials = record { long = omega (arith, t .factorials .long); at = λ k i. t .factorials .at k (omega arith) };
+      inverses = record { long = omega (arith, t .inverses .long); at = λ k i. t .inverses .at k (omega arith) };
+    }

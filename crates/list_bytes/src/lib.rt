@@ -216,17 +216,45 @@ fn divide_in(
     }
 }
 
-// g divided by f, two lists that pass.
-fn divide_lists(field: u8, g: &[u8], f: &[u8], q: &mut [u8], r: &mut [u8]) -> u8
+// g divided by f, two lists that pass, with results of k and l words, in small arrays, since each is filled with zeros.
+fn divide_few(field: u8, g: &[u8], f: &[u8], k: usize, l: usize, q: &mut [u8], r: &mut [u8]) -> u8
     requires { ⌜ (badList (longest field) (now g) ≡ false) × (badList (longest field) (now f) ≡ false) ⌝ }
+    requires { ⌜ (wordCount (now g) ≤ fewWords) × (wordCount (now f) ≤ fewWords) × (k ≤ fewWords) × (l ≤ fewWords) ⌝ }
+    requires { ⌜ (k ≡ roomOf (longest field) 0 (now q)) × (l ≡ roomOf (longest field) (longest field) (now r)) ⌝ }
     ensures { λ a. ⌜ a ≡ hostDivisionAnswer field (given g) (given f) (given q) (given r) ⌝ }
     ensures { λ _. ⌜ now (q .exit) ≡ hostQuotientWritten field (given g) (given f) (given q) (given r) ⌝ }
     ensures { λ _. ⌜ now (r .exit) ≡ hostRemainderWritten field (given g) (given f) (given q) (given r) ⌝ }
 {
     let n = g.len() / 2;
     let m = f.len() / 2;
-    let k = room(field, q, 0);
-    let l = room(field, r, field::longest_of(field));
+    let mut a = [0u16; field_tables::FEW_WORDS];
+    let mut b = [0u16; field_tables::FEW_WORDS];
+    let mut c = [0u16; field_tables::FEW_WORDS];
+    let mut d = [0u16; field_tables::FEW_WORDS];
+    divide_in(
+        field,
+        g,
+        f,
+        &mut a[..n],
+        &mut b[..m],
+        &mut c[..k],
+        &mut d[..l],
+        q,
+        r,
+    )
+}
+
+// The same in arrays that take any list.
+fn divide_many(field: u8, g: &[u8], f: &[u8], k: usize, l: usize, q: &mut [u8], r: &mut [u8]) -> u8
+    requires { ⌜ (badList (longest field) (now g) ≡ false) × (badList (longest field) (now f) ≡ false) ⌝ }
+    requires { ⌜ (wordCount (now g) ≤ maxWords) × (wordCount (now f) ≤ maxWords) × (k ≤ maxWords) × (l ≤ maxWords) ⌝ }
+    requires { ⌜ (k ≡ roomOf (longest field) 0 (now q)) × (l ≡ roomOf (longest field) (longest field) (now r)) ⌝ }
+    ensures { λ a. ⌜ a ≡ hostDivisionAnswer field (given g) (given f) (given q) (given r) ⌝ }
+    ensures { λ _. ⌜ now (q .exit) ≡ hostQuotientWritten field (given g) (given f) (given q) (given r) ⌝ }
+    ensures { λ _. ⌜ now (r .exit) ≡ hostRemainderWritten field (given g) (given f) (given q) (given r) ⌝ }
+{
+    let n = g.len() / 2;
+    let m = f.len() / 2;
     let mut a = [0u16; refusal::MAX_WORDS];
     let mut b = [0u16; refusal::MAX_WORDS];
     let mut c = [0u16; refusal::MAX_WORDS];
@@ -242,6 +270,22 @@ fn divide_lists(field: u8, g: &[u8], f: &[u8], q: &mut [u8], r: &mut [u8]) -> u8
         q,
         r,
     )
+}
+
+// g divided by f, two lists that pass.
+fn divide_lists(field: u8, g: &[u8], f: &[u8], q: &mut [u8], r: &mut [u8]) -> u8
+    requires { ⌜ (badList (longest field) (now g) ≡ false) × (badList (longest field) (now f) ≡ false) ⌝ }
+    ensures { λ a. ⌜ a ≡ hostDivisionAnswer field (given g) (given f) (given q) (given r) ⌝ }
+    ensures { λ _. ⌜ now (q .exit) ≡ hostQuotientWritten field (given g) (given f) (given q) (given r) ⌝ }
+    ensures { λ _. ⌜ now (r .exit) ≡ hostRemainderWritten field (given g) (given f) (given q) (given r) ⌝ }
+{
+    let k = room(field, q, 0);
+    let l = room(field, r, field::longest_of(field));
+    let longer = words::larger(g.len() / 2, f.len() / 2);
+    if words::larger(longer, words::larger(k, l)) <= field_tables::FEW_WORDS {
+        return divide_few(field, g, f, k, l, q, r);
+    }
+    divide_many(field, g, f, k, l, q, r)
 }
 
 // The three numbers of an answer as words.

@@ -130,3 +130,9 @@ module _ (F : PrimeField) where
             unscale-is F is most wide whole part tables x″ r (omega (arith, nl, nx)) (omega arith) qr
             ∙ ap₂ (unscaled F) words (seriesOf-carries F cl)
             ∙ ap (λ n. unscaled F (naiveDegree f) (remainder (F .series) (scalarField F) n (naiveDegree f) (scaled F g) (scaled F f))) count
+
+-- a division that tables of n entries suffice for
+pub divide-within : {F : PrimeField} (n : ℕ) (whole : List ℕ) {most : ℕ} {g f q r : List ℕ} → length whole ≡ n → DivideFits F most g f q r → length g ≤ n
+    → DivideFits F (length whole) g f q r
+divide-within n whole e h l =
+    record { divisible = h .divisible; short = omega arith; quotient-words = h .quotient-words; remainder-words = h .remainder-words }

@@ -1,12 +1,13 @@
 // Division of lists.
 ghost use mathlib.Core.Path.{_≡_};
+ghost use Prim.Native.Nat.{_≤_};
 ghost use lib.ListN.{length};
 ghost use Rattle.refusal.specs.Contract.{given};
 ghost use Rattle.field.specs.Fields.{modulus, fieldAt, longest};
 ghost use Rattle.refusal.specs.Refusal.{outcomeReply};
 ghost use Rattle.refusal.specs.Lowest.{lowest};
 ghost use Rattle.euclid_theory.specs.Division.{quotientOf, remainderOf};
-ghost use Rattle.field_tables.specs.Factorials.{Tables};
+ghost use Rattle.field_tables.specs.Factorials.{fewWords, TablesFor};
 ghost use Rattle.list_division.specs.Calls.{divideRows, divideAnswer, quotientWritten, remainderWritten, DividesSo};
 ghost use Rattle.list_division.specs.Internal.{DivideFits};
 use refusal::Outcome;
@@ -65,8 +66,8 @@ fn divide_in(
     q: &mut [u16],
     r: &mut [u16],
 )
-    requires { ⌜ Tables (fieldAt field) (longest field) (now whole) (now part) ⌝ }
-    requires { ⌜ DivideFits (fieldAt field) (longest field) (now g) (now f) (now q) (now r) ⌝ }
+    requires { ⌜ TablesFor field (now whole) (now part) ⌝ }
+    requires { ⌜ DivideFits (fieldAt field) (length (now whole)) (now g) (now f) (now q) (now r) ⌝ }
     requires { ⌜ (length (now x) ≡ length (now g)) × (length (now y) ≡ length (now f)) × (length (now k) ≡ length (now q)) ⌝ }
     ensures quotient { λ _. ⌜ now (q .exit) ≡ quotientOf (fieldAt field) (given g) (given f) ⌝ }
     ensures remainder { λ _. ⌜ now (r .exit) ≡ remainderOf (fieldAt field) (given g) (given f) ⌝ }
@@ -79,8 +80,8 @@ fn divide_in(
     word_scaling::weigh(field, x, part, whole, r);
 }
 
-// The division where nothing is refused, with tables that are lent.
-fn divide_with(
+// The division where nothing is refused, with tables that are lent, in small arrays, since each is filled with zeros.
+fn divide_few(
     field: u8,
     whole: &[u16],
     part: &[u16],
@@ -90,8 +91,45 @@ fn divide_with(
     q: &mut [u16],
     r: &mut [u16],
 )
-    requires { ⌜ Tables (fieldAt field) (longest field) (now whole) (now part) ⌝ }
-    requires { ⌜ DivideFits (fieldAt field) (longest field) (now g) (now f) (now q) (now r) ⌝ }
+    requires { ⌜ TablesFor field (now whole) (now part) ⌝ }
+    requires { ⌜ DivideFits (fieldAt field) (length (now whole)) (now g) (now f) (now q) (now r) × (length (now g) ≤ fewWords) ⌝ }
+    ensures quotient { λ _. ⌜ now (q .exit) ≡ quotientOf (fieldAt field) (given g) (given f) ⌝ }
+    ensures remainder { λ _. ⌜ now (r .exit) ≡ remainderOf (fieldAt field) (given g) (given f) ⌝ }
+{
+    let m = g.len();
+    let n = f.len();
+    let s = q.len();
+    let mut x = [0u16; field_tables::FEW_WORDS];
+    let mut y = [0u16; field_tables::FEW_WORDS];
+    let mut k = [0u16; field_tables::FEW_WORDS];
+    divide_in(
+        field,
+        whole,
+        part,
+        inverses,
+        g,
+        f,
+        &mut x[..m],
+        &mut y[..n],
+        &mut k[..s],
+        q,
+        r,
+    );
+}
+
+// The same in arrays that take any list.
+fn divide_many(
+    field: u8,
+    whole: &[u16],
+    part: &[u16],
+    inverses: &[u16],
+    g: &[u16],
+    f: &[u16],
+    q: &mut [u16],
+    r: &mut [u16],
+)
+    requires { ⌜ TablesFor field (now whole) (now part) ⌝ }
+    requires { ⌜ DivideFits (fieldAt field) (length (now whole)) (now g) (now f) (now q) (now r) ⌝ }
     ensures quotient { λ _. ⌜ now (q .exit) ≡ quotientOf (fieldAt field) (given g) (given f) ⌝ }
     ensures remainder { λ _. ⌜ now (r .exit) ≡ remainderOf (fieldAt field) (given g) (given f) ⌝ }
 {
@@ -116,14 +154,43 @@ fn divide_with(
     );
 }
 
-// The same with our own tables.
+// The same in arrays of the size that the dividend needs.
+fn divide_with(
+    field: u8,
+    whole: &[u16],
+    part: &[u16],
+    inverses: &[u16],
+    g: &[u16],
+    f: &[u16],
+    q: &mut [u16],
+    r: &mut [u16],
+)
+    requires { ⌜ TablesFor field (now whole) (now part) ⌝ }
+    requires { ⌜ DivideFits (fieldAt field) (length (now whole)) (now g) (now f) (now q) (now r) ⌝ }
+    ensures quotient { λ _. ⌜ now (q .exit) ≡ quotientOf (fieldAt field) (given g) (given f) ⌝ }
+    ensures remainder { λ _. ⌜ now (r .exit) ≡ remainderOf (fieldAt field) (given g) (given f) ⌝ }
+{
+    if g.len() <= field_tables::FEW_WORDS {
+        divide_few(field, whole, part, inverses, g, f, q, r);
+        return;
+    }
+    divide_many(field, whole, part, inverses, g, f, q, r);
+}
+
+// The same with our own tables, of the size that the dividend needs.
 fn divide_into(field: u8, g: &[u16], f: &[u16], q: &mut [u16], r: &mut [u16])
     requires { ⌜ DivideFits (fieldAt field) (longest field) (now g) (now f) (now q) (now r) ⌝ }
     ensures quotient { λ _. ⌜ now (q .exit) ≡ quotientOf (fieldAt field) (given g) (given f) ⌝ }
     ensures remainder { λ _. ⌜ now (r .exit) ≡ remainderOf (fieldAt field) (given g) (given f) ⌝ }
 {
+    let inverses = field_tables::inverses(field);
+    if g.len() <= field_tables::FEW_WORDS {
+        let whole = field_tables::few_factorials(field);
+        let part = field_tables::few_inverse_factorials(field);
+        divide_with(field, &whole, &part, &inverses, g, f, q, r);
+        return;
+    }
     let whole = field_tables::factorials(field);
     let part = field_tables::inverse_factorials(field);
-    let inverses = field_tables::inverses(field);
     divide_with(field, &whole, &part, &inverses, g, f, q, r);
 }

@@ -1,12 +1,13 @@
 // The extent of a list, and a list with its top zeros removed.
 ghost use mathlib.Core.Path.{_≡_};
+ghost use Prim.Native.Nat.{_≤_};
 ghost use lib.ListN.{length};
 ghost use Rattle.refusal.specs.Contract.{given};
 ghost use Rattle.field.specs.Fields.{modulus, fieldAt, longest};
 ghost use Rattle.refusal.specs.Refusal.{outcomeReply};
 ghost use Rattle.refusal.specs.Lowest.{lowest};
 ghost use Rattle.lists.specs.Operations as of;
-ghost use Rattle.field_tables.specs.Factorials.{Tables};
+ghost use Rattle.field_tables.specs.Factorials.{fewWords, TablesFor};
 ghost use Rattle.list_extent.specs.Calls.{extentReply, searchedReply, trimRows, extentAnswer, searchedAnswer, trimAnswer, trimWritten};
 ghost use Rattle.list_extent.specs.Internal.{TrimFits};
 use lists::Extent;
@@ -70,8 +71,8 @@ fn judge_trim(field: u8, f: &[u16], out: &[u16]) -> Outcome
 
 // The scaled form of f in s, and the list of as many of its words as out has.
 fn trim_in(field: u8, whole: &[u16], part: &[u16], f: &[u16], s: &mut [u16], out: &mut [u16])
-    requires { ⌜ Tables (fieldAt field) (longest field) (now whole) (now part) ⌝ }
-    requires { ⌜ TrimFits (longest field) (now f) (now out) ⌝ }
+    requires { ⌜ TablesFor field (now whole) (now part) ⌝ }
+    requires { ⌜ TrimFits (length (now whole)) (now f) (now out) ⌝ }
     requires { ⌜ length (now s) ≡ length (now f) ⌝ }
     ensures { λ _. ⌜ now (out .exit) ≡ of.trim (fieldAt field) (given f) ⌝ }
 {
@@ -80,23 +81,38 @@ fn trim_in(field: u8, whole: &[u16], part: &[u16], f: &[u16], s: &mut [u16], out
     word_scaling::weigh(field, form, part, whole, out);
 }
 
-// The trim where nothing is refused, with tables that are lent.
-fn trim_with(field: u8, whole: &[u16], part: &[u16], f: &[u16], out: &mut [u16])
-    requires { ⌜ Tables (fieldAt field) (longest field) (now whole) (now part) ⌝ }
-    requires { ⌜ TrimFits (longest field) (now f) (now out) ⌝ }
+// The trim of a short list that is not refused, with small tables and a small array: tables are copied, and the array is filled with zeros.
+fn trim_few(field: u8, f: &[u16], out: &mut [u16])
+    requires { ⌜ TrimFits (longest field) (now f) (now out) × (length (now f) ≤ fewWords) ⌝ }
     ensures { λ _. ⌜ now (out .exit) ≡ of.trim (fieldAt field) (given f) ⌝ }
 {
+    let whole = field_tables::few_factorials(field);
+    let part = field_tables::few_inverse_factorials(field);
     let n = f.len();
-    let mut s = [0u16; refusal::MAX_WORDS];
-    trim_in(field, whole, part, f, &mut s[..n], out);
+    let mut s = [0u16; field_tables::FEW_WORDS];
+    trim_in(field, &whole, &part, f, &mut s[..n], out);
 }
 
-// The same with our own tables.
-fn trim_into(field: u8, f: &[u16], out: &mut [u16])
+// The trim of any list that is not refused.
+fn trim_many(field: u8, f: &[u16], out: &mut [u16])
     requires { ⌜ TrimFits (longest field) (now f) (now out) ⌝ }
     ensures { λ _. ⌜ now (out .exit) ≡ of.trim (fieldAt field) (given f) ⌝ }
 {
     let whole = field_tables::factorials(field);
     let part = field_tables::inverse_factorials(field);
-    trim_with(field, &whole, &part, f, out);
+    let n = f.len();
+    let mut s = [0u16; refusal::MAX_WORDS];
+    trim_in(field, &whole, &part, f, &mut s[..n], out);
+}
+
+// The same with tables and an array of the size that the list needs.
+fn trim_into(field: u8, f: &[u16], out: &mut [u16])
+    requires { ⌜ TrimFits (longest field) (now f) (now out) ⌝ }
+    ensures { λ _. ⌜ now (out .exit) ≡ of.trim (fieldAt field) (given f) ⌝ }
+{
+    if f.len() <= field_tables::FEW_WORDS {
+        trim_few(field, f, out);
+        return;
+    }
+    trim_many(field, f, out);
 }

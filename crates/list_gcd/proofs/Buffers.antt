@@ -34,12 +34,12 @@ zeros-arrays n =
       zeros-y = getD-zeros n;
     }
 
-pub zeros-part : {m : ℕ} (n : ℕ) {k : ℕ} {x y q : List ℕ} → n ≡ k → n ≤ m → Zeros m x y q → Zeros k (take n x) (take n y) (take n q)
-zeros-part n {x = x} {y} {q} e l z =
+pub zeros-part : {m : ℕ} (n : ℕ) {x y q : List ℕ} → n ≤ m → Zeros m x y q → Zeros n (take n x) (take n y) (take n q)
+zeros-part n {x} {y} {q} l z =
     record {
-      size-x = length-part x n (z .size-x) l ∙ e;
-      size-y = length-part y n (z .size-y) l ∙ e;
-      size-q = length-part q n (z .size-q) l ∙ e;
+      size-x = length-part x n (z .size-x) l;
+      size-y = length-part y n (z .size-y) l;
+      size-q = length-part q n (z .size-q) l;
       zeros-x = getD-part x n (z .zeros-x);
       zeros-y = getD-part y n (z .zeros-y);
     }

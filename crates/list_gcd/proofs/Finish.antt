@@ -138,11 +138,11 @@ module _ (F : PrimeField) where
 
       -- k and m as the code finds them
       pub gcd-written : {p : ℕ} → F .p ≡ p → n ≤ F .p → (whole part : List ℕ) → Tables F n whole part → (h : List ℕ) (k m : ℕ) {last′ h′ : List ℕ}
-          → length h ≡ n → k ≡ significant last → m ≡ inverseOrZero F (getD last (k - 1) 0)
+          {room : ℕ} → length h ≡ room → n ≤ room → k ≡ significant last → m ≡ inverseOrZero F (getD last (k - 1) 0)
           → (last′ ≡ cond (writeFits k whole part last h) (multiplied p m last) last)
           × (h′ ≡ cond (writeFits k whole part last h) (writtenWords p whole part k m last h) h)
-          → h′ ≡ padded n (monicList F n (seriesOf F last))
-      gcd-written at short whole part t h k m {last′} {h′} e ek em q =
+          → h′ ≡ padded room (monicList F n (seriesOf F last))
+      gcd-written at short whole part t h k m {last′} {h′} e fits ek em q =
           let l = significant-le last in
           let s = b .size in
           write-is F at n short whole part t k m last h (omega arith) (omega arith) (omega arith) q .1

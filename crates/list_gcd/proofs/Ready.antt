@@ -1,6 +1,9 @@
 -- The rows of a call on two lists that are not both zero, as the chain of tests that the code makes, and what such a call knows where it
 -- refuses nothing.
 --     judgedRows       the rows, with a test of the result slices
+-- Theorems:
+--     ready, gcd-ready     what is known where nothing is refused
+--     ready-within         the same of fewer words, where the lists have no more
 -- Assumes nothing.
 use mathlib.Core.Path.{_≡_, sym, _∙_}
 use mathlib.Core.Bool.{Bool, true, false, not}
@@ -49,6 +52,16 @@ module _ (p most : ℕ) (f g : List ℕ) (misfit : Bool) where
 
     pub judged-done : eqb (significant f + significant g) 0 ≡ false → misfit ≡ false → Done ≡ lowest (judgedRows p most f g misfit)
     judged-done z m = sym (rows-judged ∙ simp (e, z, m))
+
+pub ready-within : (F : PrimeField) {m : ℕ} (n : ℕ) {f g : List ℕ} → Ready F m f g → length f ≤ n → length g ≤ n → Ready F n f g
+ready-within F n r lf lg =
+    record {
+      short-f = lf;
+      short-g = lg;
+      coefficients-f = r .coefficients-f;
+      coefficients-g = r .coefficients-g;
+      some = r .some;
+    }
 
 module _ (F : PrimeField) (most : ℕ) (big : most ≤ F .p) where
   -- what a call knows that refuses nothing

@@ -11,11 +11,12 @@ ghost use Rattle.refusal.specs.Limits.{maxWords};
 ghost use Rattle.refusal.specs.Lowest.{lowest};
 ghost use Rattle.lists.specs.Degrees.{significant};
 ghost use Rattle.lists.specs.Lists.{scaled};
+ghost use Rattle.lists.specs.Words.{seriesOf};
 ghost use Rattle.euclid_theory.specs.Gcd.{gcdOf, roundsOf, commonPower};
 ghost use Rattle.lists.specs.Padded.{padded};
 ghost use Rattle.field_tables.specs.Factorials.{Tables};
 ghost use Rattle.list_gcd.specs.Calls.{gcdReply, gcdRows, gcdAnswer, gcdWritten, Greatest};
-ghost use Rattle.list_gcd.specs.Internal.{Ready, Zeros, Buffer, Holds, Ends, monicWords, LastOf, gcdDone};
+ghost use Rattle.list_gcd.specs.Internal.{Ready, Zeros, Buffer, Holds, Ends, monicList, LastOf, gcdDone};
 use lists::NaiveDegree;
 use lists::Power;
 use refusal::Outcome;
@@ -92,15 +93,16 @@ pub fn common_power(f: &[u16], g: &[u16]) -> Power
     pg
 }
 
-// The words of the scaled form of a list, to a buffer of zeros.
-fn scale_into(field: u8, whole: &[u16], part: &[u16], list: &[u16], buffer: &mut [u16])
-    requires { ⌜ Tables (fieldAt field) (longest field) (now whole) (now part) ⌝ }
-    requires { ⌜ (length (now list) ≤ longest field) × (length (now buffer) ≡ longest field) ⌝ }
+// The words of the scaled form of a list, to a buffer of n zeros.
+fn scale_into(field: u8, n: usize, whole: &[u16], part: &[u16], list: &[u16], buffer: &mut [u16])
+    requires { ⌜ n ≤ longest field ⌝ }
+    requires { ⌜ Tables (fieldAt field) n (now whole) (now part) ⌝ }
+    requires { ⌜ (length (now list) ≤ n) × (length (now buffer) ≡ n) ⌝ }
     requires { ⌜ ((k : ℕ) → getD (now buffer) k 0 ≡ 0) ⌝ }
-    ensures { λ _. ⌜ Holds (fieldAt field) (longest field) (now (buffer .exit)) (scaled (fieldAt field) (given list)) ⌝ }
+    ensures { λ _. ⌜ Holds (fieldAt field) n (now (buffer .exit)) (scaled (fieldAt field) (given list)) ⌝ }
 {
-    let n = list.len();
-    word_scaling::weigh(field, list, whole, part, &mut buffer[..n]);
+    let words = list.len();
+    word_scaling::weigh(field, list, whole, part, &mut buffer[..words]);
 }
 
 // Where the rounds ended: how many they were, and whether the last x stands in the first buffer.
@@ -109,12 +111,20 @@ pub struct Ended {
     pub first: bool,
 }
 
-// Euclid's rounds on two buffers that alternate, until one of them is zero.
-fn all_rounds(field: u8, inverses: &[u16], x: &mut [u16], y: &mut [u16], q: &mut [u16]) -> Ended
-    requires { ⌜ Buffer (fieldAt field) (longest field) (now x) ⌝ }
-    requires { ⌜ Buffer (fieldAt field) (longest field) (now y) ⌝ }
-    requires { ⌜ longest field ≤ length (now q) ⌝ }
-    ensures { λ r. ⌜ Ends (fieldAt field) (longest field) (given x) (given y) (cond (r .first) (now (x .exit)) (now (y .exit))) (r .rounds) ⌝ }
+// Euclid's rounds on two buffers of n words that alternate, until one of them is zero.
+fn all_rounds(
+    field: u8,
+    n: usize,
+    inverses: &[u16],
+    x: &mut [u16],
+    y: &mut [u16],
+    q: &mut [u16],
+) -> Ended
+    requires { ⌜ n ≤ maxWords ⌝ }
+    requires { ⌜ Buffer (fieldAt field) n (now x) ⌝ }
+    requires { ⌜ Buffer (fieldAt field) n (now y) ⌝ }
+    requires { ⌜ n ≤ length (now q) ⌝ }
+    ensures { λ r. ⌜ Ends (fieldAt field) n (given x) (given y) (cond (r .first) (now (x .exit)) (now (y .exit))) (r .rounds) ⌝ }
 {
     let mut rounds = 0;
     let mut nx = lists::significant_words(x);
@@ -144,27 +154,30 @@ fn all_rounds(field: u8, inverses: &[u16], x: &mut [u16], y: &mut [u16], q: &mut
 // h from the last x: made to end in 1, unscaled, zeros after it. Its naive degree.
 fn write_gcd(
     field: u8,
+    n: usize,
     whole: &[u16],
     part: &[u16],
     inverses: &[u16],
     last: &mut [u16],
     h: &mut [u16],
 ) -> NaiveDegree
-    requires { ⌜ Tables (fieldAt field) (longest field) (now whole) (now part) ⌝ }
-    requires { ⌜ Buffer (fieldAt field) (longest field) (now last) ⌝ }
+    requires { ⌜ n ≤ longest field ⌝ }
+    requires { ⌜ Tables (fieldAt field) n (now whole) (now part) ⌝ }
+    requires { ⌜ Buffer (fieldAt field) n (now last) ⌝ }
     requires { ⌜ (0 < significant (now last)) × (length (now h) ≡ longest field) ⌝ }
     ensures { λ r. ⌜ r .0 + 1 ≡ significant (given last) ⌝ }
-    ensures { λ _. ⌜ now (h .exit) ≡ monicWords (fieldAt field) (longest field) (given last) ⌝ }
+    ensures { λ _. ⌜ now (h .exit) ≡ padded (longest field) (monicList (fieldAt field) n (seriesOf (fieldAt field) (given last))) ⌝ }
 {
-    let n = lists::significant_words(last);
-    let inv = field_inverse::inverse_or_zero(field, inverses, last[n - 1]);
-    euclid_round::write_list(field, whole, part, last, inv, n, h);
-    NaiveDegree(n - 1)
+    let words = lists::significant_words(last);
+    let inv = field_inverse::inverse_or_zero(field, inverses, last[words - 1]);
+    euclid_round::write_list(field, whole, part, last, inv, words, h);
+    NaiveDegree(words - 1)
 }
 
 // The same from the buffer that holds the last x.
 fn write_last(
     field: u8,
+    n: usize,
     whole: &[u16],
     part: &[u16],
     inverses: &[u16],
@@ -173,21 +186,23 @@ fn write_last(
     y: &mut [u16],
     h: &mut [u16],
 ) -> NaiveDegree
-    requires { ⌜ Tables (fieldAt field) (longest field) (now whole) (now part) ⌝ }
-    requires { ⌜ Buffer (fieldAt field) (longest field) (cond first (now x) (now y)) ⌝ }
+    requires { ⌜ n ≤ longest field ⌝ }
+    requires { ⌜ Tables (fieldAt field) n (now whole) (now part) ⌝ }
+    requires { ⌜ Buffer (fieldAt field) n (cond first (now x) (now y)) ⌝ }
     requires { ⌜ (0 < significant (cond first (now x) (now y))) × (length (now h) ≡ longest field) ⌝ }
     ensures { λ r. ⌜ r .0 + 1 ≡ significant (cond first (given x) (given y)) ⌝ }
-    ensures { λ _. ⌜ now (h .exit) ≡ monicWords (fieldAt field) (longest field) (cond first (given x) (given y)) ⌝ }
+    ensures { λ _. ⌜ now (h .exit) ≡ padded (longest field) (monicList (fieldAt field) n (seriesOf (fieldAt field) (cond first (given x) (given y)))) ⌝ }
 {
     if first {
-        return write_gcd(field, whole, part, inverses, x, h);
+        return write_gcd(field, n, whole, part, inverses, x, h);
     }
-    write_gcd(field, whole, part, inverses, y, h)
+    write_gcd(field, n, whole, part, inverses, y, h)
 }
 
-// Euclid's rounds on the scaled forms of g and f, in buffers x and y of zeros.
+// Euclid's rounds on the scaled forms of g and f, in buffers x and y of n zeros.
 fn find_last(
     field: u8,
+    n: usize,
     whole: &[u16],
     part: &[u16],
     inverses: &[u16],
@@ -197,20 +212,22 @@ fn find_last(
     y: &mut [u16],
     q: &mut [u16],
 ) -> Ended
-    requires { ⌜ Tables (fieldAt field) (longest field) (now whole) (now part) ⌝ }
-    requires { ⌜ Ready (fieldAt field) (longest field) (now f) (now g) ⌝ }
-    requires { ⌜ Zeros (longest field) (now x) (now y) (now q) ⌝ }
+    requires { ⌜ n ≤ longest field ⌝ }
+    requires { ⌜ Tables (fieldAt field) n (now whole) (now part) ⌝ }
+    requires { ⌜ Ready (fieldAt field) n (now f) (now g) ⌝ }
+    requires { ⌜ Zeros n (now x) (now y) (now q) ⌝ }
     ensures { λ r. ⌜ r .rounds ≡ roundsOf (fieldAt field) (given f) (given g) ⌝ }
-    ensures { λ r. ⌜ LastOf (fieldAt field) (longest field) (given f) (given g) (cond (r .first) (now (x .exit)) (now (y .exit))) ⌝ }
+    ensures { λ r. ⌜ LastOf (fieldAt field) n (given f) (given g) (cond (r .first) (now (x .exit)) (now (y .exit))) ⌝ }
 {
-    scale_into(field, whole, part, g, x);
-    scale_into(field, whole, part, f, y);
-    all_rounds(field, inverses, x, y, q)
+    scale_into(field, n, whole, part, g, x);
+    scale_into(field, n, whole, part, f, y);
+    all_rounds(field, n, inverses, x, y, q)
 }
 
-// The GCD by way of buffers.
+// The GCD by way of buffers of n words.
 fn gcd_in(
     field: u8,
+    n: usize,
     whole: &[u16],
     part: &[u16],
     inverses: &[u16],
@@ -221,15 +238,16 @@ fn gcd_in(
     q: &mut [u16],
     h: &mut [u16],
 ) -> Gcd
-    requires { ⌜ Tables (fieldAt field) (longest field) (now whole) (now part) ⌝ }
-    requires { ⌜ Ready (fieldAt field) (longest field) (now f) (now g) ⌝ }
-    requires { ⌜ Zeros (longest field) (now x) (now y) (now q) ⌝ }
+    requires { ⌜ n ≤ longest field ⌝ }
+    requires { ⌜ Tables (fieldAt field) n (now whole) (now part) ⌝ }
+    requires { ⌜ Ready (fieldAt field) n (now f) (now g) ⌝ }
+    requires { ⌜ Zeros n (now x) (now y) (now q) ⌝ }
     requires { ⌜ length (now h) ≡ longest field ⌝ }
     ensures { λ r. ⌜ r ≡ gcdDone (fieldAt field) (given f) (given g) ⌝ }
     ensures { λ _. ⌜ now (h .exit) ≡ padded (longest field) (gcdOf (fieldAt field) (given f) (given g)) ⌝ }
 {
-    let ended = find_last(field, whole, part, inverses, f, g, x, y, q);
-    let w = write_last(field, whole, part, inverses, ended.first, x, y, h);
+    let ended = find_last(field, n, whole, part, inverses, f, g, x, y, q);
+    let w = write_last(field, n, whole, part, inverses, ended.first, x, y, h);
     let c = common_power(f, g);
     Gcd::Done(w, c, Rounds(ended.rounds))
 }
@@ -267,7 +285,7 @@ fn gcd_with(
     )
 }
 
-// The same in as much of three arrays of zeros as the longest list takes.
+// The same in as much of three arrays of zeros as the longer list takes.
 fn gcd_between(
     field: u8,
     whole: &[u16],
@@ -287,9 +305,10 @@ fn gcd_between(
     ensures { λ r. ⌜ r ≡ gcdDone (fieldAt field) (given f) (given g) ⌝ }
     ensures { λ _. ⌜ now (h .exit) ≡ padded (longest field) (gcdOf (fieldAt field) (given f) (given g)) ⌝ }
 {
-    let n = field::longest_of(field);
+    let n = words::larger(f.len(), g.len());
     gcd_in(
         field,
+        n,
         whole,
         part,
         inverses,

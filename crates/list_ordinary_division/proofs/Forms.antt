@@ -1,6 +1,8 @@
 -- Division by powers of t: what the functions on words leave in the slices is the quotient and the remainder of the lists, for every prime
 -- field F.
 --     quotient-is, remainder-is      what is written to q and to r
+--     ordinary-within                the same lists with tables for shorter ones
+--     buffers-part                   arrays of zeros, as much of them as is lent
 -- Assumes nothing.
 use mathlib.Core.Path.{_≡_, refl, sym, _∙_, ap, ap₂, subst}
 use mathlib.Core.Bool.{true, cond}
@@ -8,7 +10,7 @@ use mathlib.Core.List.{List, _++_, append-nil}
 use Prim.Native.Nat.{ℕ, _+_, _-_, _≤_, _<_}
 use native.Mathlib.Decide.{decLt}
 use native.Mathlib.Omega.{arith}
-use lib.ListN.{length, getD, take, drop, length-append, length-take, length-drop, drop-of-length-le, List·getD-eq-default}
+use lib.ListN.{length, getD, take, drop, length-append, length-take, length-drop, drop-of-length-le, replicate, length-replicate, List·getD-eq-default}
 use lib.Seq.{take-all, getD-take, getD-drop}
 use Rattle.algebra.specs.Ring.{CommRing}
 use Rattle.algebra.specs.Polynomial.{Below}
@@ -22,7 +24,7 @@ use Rattle.algebra.proofs.PrimeField.{residue-0}
 use Rattle.lists.specs.Degrees.{naiveDegree, significant}
 use Rattle.lists.specs.Lists.{meaning}
 use Rattle.lists.specs.Words.{ZeroFrom, seriesOf}
-use Rattle.lists.proofs.Words.{Carries, seriesOf-carries}
+use Rattle.lists.proofs.Words.{zeros-are, zero-part, Carries, seriesOf-carries}
 use Rattle.lists.proofs.Parts.{prefix-length, getD-then-zeros}
 use Rattle.field_tables.specs.Factorials.{Tables}
 use Rattle.word_scaling.specs.Scaling.{weighedInto}
@@ -212,3 +214,30 @@ module _ (F : PrimeField) where
               list-is F is most wide whole part tables (take (length g) x′) r (carries-front (length g) (below-remainder F g f (fits .dividable)) cr)
               (nr ∙ sym n) (omega arith) (omega arith) (e ∙ ap (λ i. weighedInto p (expandedInto p true (take i x′)) part whole r) n)
               ∙ ap (λ i. listOf F i (remainderBy (F .series) (scalarField F) (length g) (degreeInT F f) (meaning F g) (meaning F f))) (ap (λ i. i - 1) n ∙ named)
+
+-- a division that tables of n entries suffice for
+pub ordinary-within : {F : PrimeField} (n : ℕ) (whole : List ℕ) {most : ℕ} {g f q r : List ℕ} → length whole ≡ n → OrdinaryFits F most g f q r
+    → length g ≤ n → length f ≤ n → OrdinaryFits F (length whole) g f q r
+ordinary-within n whole e h lg lf =
+    record {
+      dividable = h .dividable;
+      short-dividend = omega arith;
+      short-divisor = omega arith;
+      quotient-words = h .quotient-words;
+      remainder-words = h .remainder-words;
+    }
+
+-- three arrays of zeros, and as much of them as is lent
+pub buffers-part : (room l : ℕ) {m n : ℕ} → l ≤ room → m ≤ l → n ≤ l
+    → Buffers m n (take l (replicate room 0)) (take l (replicate room 0)) (take l (replicate room 0))
+buffers-part room l fits lm ln =
+    let size = prefix-length l room (replicate room 0) (length-replicate room 0) fits in
+    record {
+      long-dividend = omega (arith, size);
+      long-divisor = omega (arith, size);
+      equal-y = refl;
+      equal-k = refl;
+      zero-x = zero-part l (zeros-are room);
+      zero-y = zero-part l (zeros-are room);
+      zero-k = zero-part l (zeros-are room);
+    }

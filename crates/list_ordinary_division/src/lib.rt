@@ -5,10 +5,11 @@ ghost use mathlib.Core.List.{_++_};
 ghost use Prim.Native.Nat.{_≤_};
 ghost use lib.ListN.{length, take, drop};
 ghost use Rattle.refusal.specs.Contract.{given};
+ghost use Rattle.refusal.specs.Limits.{maxWords};
 ghost use Rattle.refusal.specs.Refusal.{outcomeReply};
 ghost use Rattle.refusal.specs.Lowest.{lowest};
 ghost use Rattle.field.specs.Fields.{modulus, fieldAt, longest};
-ghost use Rattle.field_tables.specs.Factorials.{Tables};
+ghost use Rattle.field_tables.specs.Factorials.{fewWords, TablesFor};
 ghost use Rattle.word_scaling.specs.Scaling.{weighedInto};
 ghost use Rattle.word_expansion.specs.Expansion.{expandedInto};
 ghost use Rattle.list_powers.specs.Powers.{powersInto};
@@ -93,8 +94,8 @@ fn divide_in(
     q: &mut [u16],
     r: &mut [u16],
 )
-    requires { ⌜ Tables (fieldAt field) (longest field) (now whole) (now part) ⌝ }
-    requires { ⌜ OrdinaryFits (fieldAt field) (longest field) (now g) (now f) (now q) (now r) ⌝ }
+    requires { ⌜ TablesFor field (now whole) (now part) ⌝ }
+    requires { ⌜ OrdinaryFits (fieldAt field) (length (now whole)) (now g) (now f) (now q) (now r) ⌝ }
     requires { ⌜ Buffers (length (now g)) (length (now f)) (now x) (now y) (now k) ⌝ }
     ensures quotient { λ _. ⌜ now (q .exit) ≡ ordinaryQuotient (fieldAt field) (given g) (given f) ⌝ }
     ensures remainder { λ _. ⌜ now (r .exit) ≡ ordinaryRemainder (fieldAt field) (given g) (given f) ⌝ }
@@ -107,31 +108,25 @@ fn divide_in(
     write_back(field, whole, part, x, r);
 }
 
-// The division where nothing is refused, with tables that are lent, and buffers as long as the longer list.
-fn divide_with(
-    field: u8,
-    whole: &[u16],
-    part: &[u16],
-    inverses: &[u16],
-    g: &[u16],
-    f: &[u16],
-    q: &mut [u16],
-    r: &mut [u16],
-)
-    requires { ⌜ Tables (fieldAt field) (longest field) (now whole) (now part) ⌝ }
+// The division of short lists, where nothing is refused, in buffers of l words, with small tables and small arrays: tables are copied, and
+// arrays are filled with zeros.
+fn divide_few(field: u8, g: &[u16], f: &[u16], l: usize, q: &mut [u16], r: &mut [u16])
     requires { ⌜ OrdinaryFits (fieldAt field) (longest field) (now g) (now f) (now q) (now r) ⌝ }
+    requires { ⌜ (length (now g) ≤ l) × (length (now f) ≤ l) × (l ≤ fewWords) ⌝ }
     ensures quotient { λ _. ⌜ now (q .exit) ≡ ordinaryQuotient (fieldAt field) (given g) (given f) ⌝ }
     ensures remainder { λ _. ⌜ now (r .exit) ≡ ordinaryRemainder (fieldAt field) (given g) (given f) ⌝ }
 {
-    let l = words::larger(g.len(), f.len());
-    let mut x = [0u16; refusal::MAX_WORDS];
-    let mut y = [0u16; refusal::MAX_WORDS];
-    let mut k = [0u16; refusal::MAX_WORDS];
+    let whole = field_tables::few_factorials(field);
+    let part = field_tables::few_inverse_factorials(field);
+    let inverses = field_tables::inverses(field);
+    let mut x = [0u16; field_tables::FEW_WORDS];
+    let mut y = [0u16; field_tables::FEW_WORDS];
+    let mut k = [0u16; field_tables::FEW_WORDS];
     divide_in(
         field,
-        whole,
-        part,
-        inverses,
+        &whole,
+        &part,
+        &inverses,
         g,
         f,
         &mut x[..l],
@@ -142,14 +137,44 @@ fn divide_with(
     );
 }
 
-// The same with our own tables.
-fn divide_into(field: u8, g: &[u16], f: &[u16], q: &mut [u16], r: &mut [u16])
+// The division of any lists, where nothing is refused, in buffers of l words.
+fn divide_many(field: u8, g: &[u16], f: &[u16], l: usize, q: &mut [u16], r: &mut [u16])
     requires { ⌜ OrdinaryFits (fieldAt field) (longest field) (now g) (now f) (now q) (now r) ⌝ }
+    requires { ⌜ (length (now g) ≤ l) × (length (now f) ≤ l) × (l ≤ maxWords) ⌝ }
     ensures quotient { λ _. ⌜ now (q .exit) ≡ ordinaryQuotient (fieldAt field) (given g) (given f) ⌝ }
     ensures remainder { λ _. ⌜ now (r .exit) ≡ ordinaryRemainder (fieldAt field) (given g) (given f) ⌝ }
 {
     let whole = field_tables::factorials(field);
     let part = field_tables::inverse_factorials(field);
     let inverses = field_tables::inverses(field);
-    divide_with(field, &whole, &part, &inverses, g, f, q, r);
+    let mut x = [0u16; refusal::MAX_WORDS];
+    let mut y = [0u16; refusal::MAX_WORDS];
+    let mut k = [0u16; refusal::MAX_WORDS];
+    divide_in(
+        field,
+        &whole,
+        &part,
+        &inverses,
+        g,
+        f,
+        &mut x[..l],
+        &mut y[..l],
+        &mut k[..l],
+        q,
+        r,
+    );
+}
+
+// The same with tables and arrays of the size that the longer list needs.
+fn divide_into(field: u8, g: &[u16], f: &[u16], q: &mut [u16], r: &mut [u16])
+    requires { ⌜ OrdinaryFits (fieldAt field) (longest field) (now g) (now f) (now q) (now r) ⌝ }
+    ensures quotient { λ _. ⌜ now (q .exit) ≡ ordinaryQuotient (fieldAt field) (given g) (given f) ⌝ }
+    ensures remainder { λ _. ⌜ now (r .exit) ≡ ordinaryRemainder (fieldAt field) (given g) (given f) ⌝ }
+{
+    let l = words::larger(g.len(), f.len());
+    if l <= field_tables::FEW_WORDS {
+        divide_few(field, g, f, l, q, r);
+        return;
+    }
+    divide_many(field, g, f, l, q, r);
 }

@@ -43,17 +43,6 @@ pub fn high(word: u16) -> u8
     (word / 256) as u8
 }
 
-// Word k of some bytes; 0 where they have no more whole words.
-fn word_or_zero(bytes: &[u8], k: usize) -> u16
-    ensures { λ r. ⌜ r ≡ getD (wordsOf (given bytes)) k 0 ⌝ }
-{
-    if k < bytes.len() / 2 {
-        word_at(bytes, 2 * k) as u16
-    } else {
-        0
-    }
-}
-
 // A word from its two bytes.
 fn word(low: u8, high: u8) -> u16
     ensures { λ r. ⌜ r ≡ low + byteValues * high ⌝ }
@@ -81,7 +70,7 @@ pub fn read_words(bytes: &[u8], words: &mut [u16])
     read_first(bytes, words, n);
     let mut k = n;
     while k < words.len() {
-        words[k] = word_or_zero(bytes, k);
+        words[k] = 0;
         k += 1;
     }
 }

@@ -1,6 +1,6 @@
--- `list_bytes::divide_lists` meets its contract: it only lends the arrays.
+-- `list_bytes::divide_lists` meets its contract, whichever arrays are lent.
 -- Assumes nothing.
-use mathlib.Core.Path.{refl, sym, ap, _∙_}
+use mathlib.Core.Path.{_∙_, ap}
 use Prim.Native.Nat.{ℕ}
 use native.Mathlib.Omega.{arith}
 use borrow.Author.Needs.{needs}
@@ -8,7 +8,7 @@ use Rattle.field.specs.Fields.{longest}
 use Rattle.field.proofs.Fields.{longest-room}
 use Rattle.lists.specs.Bytes.{wordCount}
 use Rattle.list_bytes.specs.Internal.{roomOf}
-use Rattle.list_bytes.proofs.Fits.{good-half, list-part, room-short, room-part}
+use Rattle.list_bytes.proofs.Fits.{good-half, room-short}
 use Rattle.list_bytes.proofs.divide_lists.Statement.{statement}
 use Rattle.list_bytes.proofs.divide_lists.Tie as tie
 
@@ -21,42 +21,26 @@ longest-of-requires c κs = search needs
 room-requires-2 : tie.Need-room-requires-2
 room-requires-2 c κs = search needs
 
-array-borrow-prefix-a : tie.Need-array-borrow-prefix-a
-array-borrow-prefix-a c = omega (arith, good-half (longest (c .before .before .before .before .before .before .before .before .before .args .field)) _ (c .before .before .before .before .before .before .before .before .before .pre .0), longest-room (c .before .before .before .before .before .before .before .before .before .args .field))
+larger-requires : tie.Need-larger-requires
+larger-requires c κs = search needs
 
-slice-aggregate-divide-in : tie.Need-slice-aggregate-divide-in
-slice-aggregate-divide-in c = sym (list-part (longest (c .before .before .before .before .before .before .before .before .before .before .args .field)) _ _ (c .before .before .before .before .before .before .before .before .before .before .pre .0) refl (longest-room (c .before .before .before .before .before .before .before .before .before .before .args .field)))
+larger-requires-2 : tie.Need-larger-requires-2
+larger-requires-2 c κs = search needs
 
-array-borrow-prefix-b : tie.Need-array-borrow-prefix-b
-array-borrow-prefix-b c = omega (arith, good-half (longest (c .before .before .before .before .before .before .before .before .before .before .args .field)) _ (c .before .before .before .before .before .before .before .before .before .before .pre .1), longest-room (c .before .before .before .before .before .before .before .before .before .before .args .field))
+larger-requires-3 : tie.Need-larger-requires-3
+larger-requires-3 c κs = search needs
 
-slice-aggregate-divide-in-2 : tie.Need-slice-aggregate-divide-in-2
-slice-aggregate-divide-in-2 c = sym (list-part (longest (c .before .before .before .before .before .before .before .before .before .before .before .args .field)) _ _ (c .before .before .before .before .before .before .before .before .before .before .before .pre .1) refl (longest-room (c .before .before .before .before .before .before .before .before .before .before .before .args .field)))
-
-array-borrow-prefix-c : tie.Need-array-borrow-prefix-c
-array-borrow-prefix-c c = omega (arith, room-short (longest (c .before .before .before .before .before .before .before .before .before .before .before .args .field)) 0 _ (omega arith) (c .before .before .before .before .before .room .ensures), longest-room (c .before .before .before .before .before .before .before .before .before .before .before .args .field))
-
-slice-aggregate-divide-in-3 : tie.Need-slice-aggregate-divide-in-3
-slice-aggregate-divide-in-3 c = sym (room-part (longest (c .before .before .before .before .before .before .before .before .before .before .before .before .args .field)) 0 _ _ (omega arith) (c .before .before .before .before .before .before .room .ensures) refl (longest-room (c .before .before .before .before .before .before .before .before .before .before .before .before .args .field)))
-
-array-borrow-prefix-d : tie.Need-array-borrow-prefix-d
-array-borrow-prefix-d c = omega (arith, room-short (longest (c .before .before .before .before .before .before .before .before .before .before .before .before .args .field)) _ _ (omega arith) (c .before .before .before .room2 .ensures), longest-room (c .before .before .before .before .before .before .before .before .before .before .before .before .args .field))
-
-slice-aggregate-divide-in-4 : tie.Need-slice-aggregate-divide-in-4
-slice-aggregate-divide-in-4 c = sym (room-part (longest (c .before .before .before .before .before .before .before .before .before .before .before .before .before .args .field)) _ _ _ (omega arith) (c .before .before .before .before .room2 .ensures) refl (longest-room (c .before .before .before .before .before .before .before .before .before .before .before .before .before .args .field)))
-
-divide-in-requires : tie.Need-divide-in-requires
+divide-few-requires : tie.Need-divide-few-requires
 unfolding wordCount
-divide-in-requires c κs = (
-  c .before .before .before .before .before .before .before .before .before .before .before .before .before .before .before .pre,
-  (
-    list-part (longest (c .before .before .before .before .before .before .before .before .before .before .before .before .before .before .before .args .field)) _ _ (c .before .before .before .before .before .before .before .before .before .before .before .before .before .before .before .pre .0) refl (longest-room (c .before .before .before .before .before .before .before .before .before .before .before .before .before .before .before .args .field)),
-    list-part (longest (c .before .before .before .before .before .before .before .before .before .before .before .before .before .before .before .args .field)) _ _ (c .before .before .before .before .before .before .before .before .before .before .before .before .before .before .before .pre .1) refl (longest-room (c .before .before .before .before .before .before .before .before .before .before .before .before .before .before .before .args .field)),
-    room-part (longest (c .before .before .before .before .before .before .before .before .before .before .before .before .before .before .before .args .field)) 0 _ _ (omega arith) (c .before .before .before .before .before .before .before .before .before .room .ensures) refl (longest-room (c .before .before .before .before .before .before .before .before .before .before .before .before .before .before .before .args .field)) ∙ c .before .before .before .before .before .before .before .before .before .room .ensures,
-    room-part (longest (c .before .before .before .before .before .before .before .before .before .before .before .before .before .before .before .args .field)) _ _ _ (omega arith) (c .before .before .before .before .before .before .room2 .ensures) refl (longest-room (c .before .before .before .before .before .before .before .before .before .before .before .before .before .before .before .args .field)) ∙ c .before .before .before .before .before .before .room2 .ensures
-        ∙ ap (λ (n : ℕ). roomOf (longest (c .before .before .before .before .before .before .before .before .before .before .before .before .before .before .before .args .field)) n (c .before .before .before .before .before .before .before .before .before .before .before .before .before .before .before .args .r .now)) (c .before .before .before .before .before .before .before .longest-of .ensures),
-  ),
-)
+divide-few-requires c κs =
+    let start = c .before .before .before .before .before .before .before .before .before .before .before .before .before .before .before .pre in
+    let most = longest (c .before .before .before .before .before .before .before .before .before .before .before .before .before .before .before .args .field) in
+    let few = c .before .before .if1 .taken in
+    let widest = c .before .before .before .larger3 .ensures in
+    let results = c .before .before .before .before .larger2 .ensures in
+    let longer = c .before .before .before .before .before .larger .ensures in
+    let rest = c .before .before .before .before .before .before .room2 .ensures ∙ ap (λ (n : ℕ). roomOf most n (c .before .before .before .before .before .before .before .before .before .before .before .before .before .before .before .args .r .now)) (c .before .before .before .before .before .before .before .longest-of .ensures) in
+    (start, ((omega arith, omega arith, omega arith, omega arith), (c .before .before .before .before .before .before .before .before .before .room .ensures, rest)))
 
 same-length : tie.Need-same-length
 same-length c = search needs
@@ -67,6 +51,28 @@ same-length-2 c = search needs
 returns : tie.Need-returns
 returns c = search needs
 
+divide-many-requires : tie.Need-divide-many-requires
+unfolding wordCount
+divide-many-requires c κs =
+    let start = c .before .before .before .before .before .before .before .before .before .before .before .before .before .before .before in
+    let most = longest (start .args .field) in
+    let dividend = good-half most (start .args .g .now) (start .pre .0) in
+    let divisor = good-half most (start .args .f .now) (start .pre .1) in
+    let rest = c .before .before .before .before .before .before .room2 .ensures ∙ ap (λ (n : ℕ). roomOf most n (start .args .r .now)) (c .before .before .before .before .before .before .before .longest-of .ensures) in
+    let quotient-short = room-short most 0 (start .args .q .now) (omega arith) (c .before .before .before .before .before .before .before .before .before .room .ensures) in
+    let remainder-short = room-short most most (start .args .r .now) (omega arith) rest in
+    let whole = longest-room (start .args .field) in
+    (start .pre, ((omega arith, omega arith, omega arith, omega arith), (c .before .before .before .before .before .before .before .before .before .room .ensures, rest)))
+
+same-length-3 : tie.Need-same-length-3
+same-length-3 c = search needs
+
+same-length-4 : tie.Need-same-length-4
+same-length-4 c = search needs
+
+returns-2 : tie.Need-returns-2
+returns-2 c = search needs
+
 pub divide-lists-spec : {M : Type 1} → statement M
 divide-lists-spec =
     tie.close
@@ -74,15 +80,14 @@ divide-lists-spec =
     room-requires
     longest-of-requires
     room-requires-2
-    array-borrow-prefix-a
-    slice-aggregate-divide-in
-    array-borrow-prefix-b
-    slice-aggregate-divide-in-2
-    array-borrow-prefix-c
-    slice-aggregate-divide-in-3
-    array-borrow-prefix-d
-    slice-aggregate-divide-in-4
-    divide-in-requires
+    larger-requires
+    larger-requires-2
+    larger-requires-3
+    divide-few-requires
     same-length
     same-length-2
-    returns)
+    returns
+    divide-many-requires
+    same-length-3
+    same-length-4
+    returns-2)

@@ -7,8 +7,9 @@ use lib.ListN.{length-take}
 use Rattle.refusal.specs.Limits.{maxWords}
 use Rattle.field.specs.Fields.{fieldAt, longest}
 use Rattle.field.proofs.Fields.{longest-more, longest-room}
+use Rattle.field_tables.proofs.Entries.{tables-within}
 use Rattle.list_gcd.specs.Internal.{Ready}
-use Rattle.list_cofactors.proofs.StartRow.{rows-part, tables-part, part-words}
+use Rattle.list_cofactors.proofs.StartRow.{rows-part, part-words}
 use borrow.Author.Needs.{needs}
 use Rattle.list_cofactors.proofs.cofactors_between.Statement.{statement}
 use Rattle.list_cofactors.proofs.cofactors_between.Tie as tie
@@ -54,7 +55,7 @@ cofactors-in-requires c κs =
     let pre = c .before .before .before .before .before .before .before .before .before .before .before .before .before .before .before .before .before .before .before .pre in
     let n = c .before .before .before .before .before .before .larger2 .result in
     let known = enough (c .before .before .before .before .before .before) in
-    ((known .0, known .1), (tables-part (fieldAt _) n (known .1) (pre .0), (known .2, (pre .1 .1 .0, rows-part n (fits (c .before .before .before .before .before .before)) (pre .1 .1 .1)))))
+    ((known .0, known .1), (tables-within (fieldAt _) n (known .1) (pre .0), (known .2, (pre .1 .1 .0, rows-part n (fits (c .before .before .before .before .before .before)) (pre .1 .1 .1)))))
 
 same-length : tie.Need-same-length
 same-length c = search needs

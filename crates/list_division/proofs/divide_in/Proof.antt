@@ -1,6 +1,7 @@
 -- `list_division::divide_in` meets its contract: the quotient and the remainder of the scaled forms, unscaled again.
 -- Assumes nothing.
 use mathlib.Core.Path.{_∙_}
+use native.Mathlib.Omega.{arith}
 use Rattle.field.specs.Fields.{fieldAt}
 use Rattle.field.proofs.Fields.{p-at, longest-in}
 use Rattle.list_division.proofs.Forms.{last-inverse, quotient-is, remainder-is}
@@ -53,7 +54,9 @@ same-length-5 c = search needs
 returns : tie.Need-returns
 returns c =
     let s = c .before .before .before .before .before .before .before .before .before .before .before .before .before .before .before .before .before .before .before .before .before .before .before .before .before .before .before .before .before .before .before .before .before .before .before .before .before .before in
-    let tables = s .pre .0 in
+    let tables = s .pre .0 .tables in
+    let few = s .pre .0 .few in
+    let wide = longest-in (s .args .field) in
     let fits = s .pre .1 .0 in
     let lx = s .pre .1 .1 .0 in
     let ly = s .pre .1 .1 .1 in
@@ -62,8 +65,8 @@ returns c =
     let x = c .before .before .before .before .before .before .before .before .before .before .before .before .before .before .before .before .before .before .before .before .before .before .before .before .weigh .ensures in
     let y = c .before .before .before .before .before .before .before .before .before .before .before .before .before .before .before .before .before .before .before .before .weigh2 .ensures in
     let parts = c .before .before .before .before .before .before .before .before .before .before .before .before .before .before .reduce .ensures in (
-      quotient-is (fieldAt _) (p-at _) _ (longest-in _) _ _ tables _ _ _ _ _ _ _ fits lx ly lk top x y (parts .1) (c .before .before .before .before .before .before .before .weigh3 .ensures),
-      remainder-is (fieldAt _) (p-at _) _ (longest-in _) _ _ tables _ _ _ _ _ _ _ fits lx ly lk top x y (parts .0) (c .before .before .weigh4 .ensures),
+      quotient-is (fieldAt _) (p-at _) _ (omega arith) _ _ tables _ _ _ _ _ _ _ fits lx ly lk top x y (parts .1) (c .before .before .before .before .before .before .before .weigh3 .ensures),
+      remainder-is (fieldAt _) (p-at _) _ (omega arith) _ _ tables _ _ _ _ _ _ _ fits lx ly lk top x y (parts .0) (c .before .before .weigh4 .ensures),
     )
 
 pub divide-in-spec : {M : Type 1} → statement M

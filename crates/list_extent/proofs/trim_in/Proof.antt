@@ -1,5 +1,6 @@
 -- `list_extent::trim_in` meets its contract: the significant words of the scaled form, unscaled.
 -- Assumes nothing.
+use native.Mathlib.Omega.{arith}
 use borrow.Author.Needs.{needs}
 use Rattle.field.specs.Fields.{fieldAt}
 use Rattle.field.proofs.Fields.{p-at, longest-in}
@@ -23,11 +24,13 @@ same-length-2 c = search needs
 returns : tie.Need-returns
 returns c =
     let start = c .before .before .before .before .before .before .before .before .before .before .before .before .before .before in
-    let tables = start .pre .0 in
+    let tables = start .pre .0 .tables in
+    let few = start .pre .0 .few in
+    let wide = longest-in (start .args .field) in
     let fits = start .pre .1 .0 in
     let f = start .args .f .now in
-    let form = scale-is (fieldAt _) (p-at _) _ (longest-in _) _ _ tables f (start .args .s .now) (start .pre .1 .1) (fits .short) (c .before .before .before .before .before .before .before .weigh .ensures) in
-    trimmed (fieldAt _) (p-at _) _ (longest-in _) _ _ tables f fits form (c .before .before .weigh2 .ensures)
+    let form = scale-is (fieldAt _) (p-at _) _ (omega arith) _ _ tables f (start .args .s .now) (start .pre .1 .1) (fits .short) (c .before .before .before .before .before .before .before .weigh .ensures) in
+    trimmed (fieldAt _) (p-at _) _ (omega arith) _ _ tables f fits form (c .before .before .weigh2 .ensures)
 
 pub trim-in-spec : {M : Type 1} → statement M
 trim-in-spec =

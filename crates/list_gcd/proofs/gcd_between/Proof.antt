@@ -1,44 +1,57 @@
--- `list_gcd::gcd_between` meets its contract: parts of zeros are zeros.
+-- `list_gcd::gcd_between` meets its contract: parts of zeros are zeros, and they have enough words.
 -- Assumes nothing.
 use Prim.Native.Nat.{_≤_}
 use native.Mathlib.Omega.{arith}
 use lib.ListN.{length-take}
 use Rattle.refusal.specs.Limits.{maxWords}
+use Rattle.field.specs.Fields.{fieldAt, longest}
 use Rattle.field.proofs.Fields.{longest-room}
+use Rattle.field_tables.proofs.Entries.{tables-within}
+use Rattle.list_gcd.specs.Internal.{Ready}
 use Rattle.list_gcd.proofs.Buffers.{zeros-part}
+use Rattle.list_gcd.proofs.Ready.{ready-within}
 use borrow.Author.Needs.{needs}
 use Rattle.list_gcd.proofs.gcd_between.Statement.{statement}
 use Rattle.list_gcd.proofs.gcd_between.Tie as tie
 
-longest-of-requires : tie.Need-longest-of-requires
-longest-of-requires c κs = search needs
+-- the buffers stand in the arrays, and have enough words
+enough : (c : tie.After-larger) → let start = c .before .before .before .before .before .before .before .before .before .before in let n = c .larger .result in (n ≤ longest (start .args .field)) × (n ≤ maxWords) × Ready (fieldAt (start .args .field)) n (start .args .f .now) (start .args .g .now)
+enough c =
+    let start = c .before .before .before .before .before .before .before .before .before .before in
+    let ready = start .pre .1 .0 in
+    let short-f = ready .short-f in
+    let short-g = ready .short-g in
+    let most = longest-room (start .args .field) in
+    let is = c .larger .ensures in
+    (omega arith, omega arith, ready-within (fieldAt _) _ ready (omega arith) (omega arith))
+
+larger-requires : tie.Need-larger-requires
+larger-requires c κs = search needs
 
 slice-relend-prefix-gcd-in : tie.Need-slice-relend-prefix-gcd-in
-slice-relend-prefix-gcd-in c = omega (arith, longest-room (c .before .before .before .before .before .before .before .before .before .before .args .field))
+slice-relend-prefix-gcd-in c = omega (arith, enough (c) .1)
 
 slice-aggregate-gcd-in : tie.Need-slice-aggregate-gcd-in
-slice-aggregate-gcd-in c = simp length-take (omega (arith, longest-room (c .before .before .before .before .before .before .before .before .before .before .before .args .field)))
+slice-aggregate-gcd-in c = simp length-take (omega (arith, enough (c .before) .1))
 
 slice-relend-prefix-gcd-in-2 : tie.Need-slice-relend-prefix-gcd-in-2
-slice-relend-prefix-gcd-in-2 c = omega (arith, longest-room (c .before .before .before .before .before .before .before .before .before .before .before .args .field))
+slice-relend-prefix-gcd-in-2 c = omega (arith, enough (c .before) .1)
 
 slice-aggregate-gcd-in-2 : tie.Need-slice-aggregate-gcd-in-2
-slice-aggregate-gcd-in-2 c = simp length-take (omega (arith, longest-room (c .before .before .before .before .before .before .before .before .before .before .before .before .args .field)))
+slice-aggregate-gcd-in-2 c = simp length-take (omega (arith, enough (c .before .before) .1))
 
 slice-relend-prefix-gcd-in-3 : tie.Need-slice-relend-prefix-gcd-in-3
-slice-relend-prefix-gcd-in-3 c = omega (arith, longest-room (c .before .before .before .before .before .before .before .before .before .before .before .before .args .field))
+slice-relend-prefix-gcd-in-3 c = omega (arith, enough (c .before .before) .1)
 
 slice-aggregate-gcd-in-3 : tie.Need-slice-aggregate-gcd-in-3
-slice-aggregate-gcd-in-3 c = simp length-take (omega (arith, longest-room (c .before .before .before .before .before .before .before .before .before .before .before .before .before .args .field)))
+slice-aggregate-gcd-in-3 c = simp length-take (omega (arith, enough (c .before .before .before) .1))
 
 gcd-in-requires : tie.Need-gcd-in-requires
 gcd-in-requires c κs =
-    let k = c .before .before .before .before .before .before .before .before .before .before .before .before .before .before .args .field in
     let pre = c .before .before .before .before .before .before .before .before .before .before .before .before .before .before .pre in
-    let n = c .before .before .before .before .longest-of .result in
-    let e = c .before .before .before .before .longest-of .ensures in
-    let l : n ≤ maxWords = omega (arith, longest-room k) in
-    (pre .0, (pre .1 .0, (zeros-part n e l (pre .1 .1 .0), pre .1 .1 .1)))
+    let n = c .before .before .before .before .larger .result in
+    let known = enough (c .before .before .before .before) in
+    (known .0, (tables-within (fieldAt _) n (known .0) (pre .0), (known .2, (zeros-part n (known .1) (pre .1 .1 .0), pre .1 .1 .1))))
 
 same-length : tie.Need-same-length
 same-length c = search needs
@@ -59,7 +72,7 @@ pub gcd-between-spec : {M : Type 1} → statement M
 gcd-between-spec =
     tie.close
     (tie.spec
-    longest-of-requires
+    larger-requires
     slice-relend-prefix-gcd-in
     slice-aggregate-gcd-in
     slice-relend-prefix-gcd-in-2

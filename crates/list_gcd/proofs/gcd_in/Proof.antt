@@ -12,14 +12,14 @@ use Rattle.list_gcd.proofs.gcd_in.Tie as tie
 find-last-requires : tie.Need-find-last-requires
 find-last-requires c κs =
     let pre = c .before .before .before .before .before .before .before .before .before .before .before .before .pre in
-    (pre .0, (pre .1 .0, pre .1 .1 .0))
+    (pre .0, (pre .1 .0, (pre .1 .1 .0, pre .1 .1 .1 .0)))
 
 write-last-requires : tie.Need-write-last-requires
 write-last-requires c κs =
     let pre = c .before .before .before .before .before .before .before .before .before .before .before .before .before .before .before .before .before .before .before .before .before .before .pre in
     let last = c .before .before .before .before .before .before .before .before .before .find-last .ensures .1 in
     let size = last .size in
-    (pre .0, (last .buffer, (omega arith, pre .1 .1 .1)))
+    (pre .0, (pre .1 .0, (last .buffer, (omega arith, pre .1 .1 .1 .1))))
 
 common-power-requires : tie.Need-common-power-requires
 common-power-requires c κs = search needs

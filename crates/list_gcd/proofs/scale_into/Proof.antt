@@ -22,7 +22,10 @@ same-length : tie.Need-same-length
 same-length c = search needs
 
 returns : tie.Need-returns
-returns c = holds-scaled (fieldAt _) (p-at _) _ (longest-in _) _ _ (c .before .before .before .before .before .before .before .before .pre .0) _ _ (c .before .before .before .before .before .before .before .before .pre .1 .0 .0) (c .before .before .before .before .before .before .before .before .pre .1 .0 .1) (c .before .before .before .before .before .before .before .before .pre .1 .1) (c .before .before .weigh .ensures)
+returns c =
+    let start = c .before .before .before .before .before .before .before .before in
+    let pre = start .pre in
+    holds-scaled (fieldAt _) (p-at _) _ (omega (arith, longest-in (start .args .field))) _ _ (pre .1 .0) _ _ (pre .1 .1 .0 .0) (pre .1 .1 .0 .1) (pre .1 .1 .1) (c .before .before .weigh .ensures)
 
 pub scale-into-spec : {M : Type 1} → statement M
 scale-into-spec =

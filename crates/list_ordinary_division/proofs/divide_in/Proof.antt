@@ -51,14 +51,16 @@ returns : tie.Need-returns
 returns c =
     let s = c .before .before .before .before .before .before .before .before .before .before .before .before .before .before .before .before .before .before .before .before .before .before .before .before .before .before .before .before .before .before .before .before .before .before .before .before .before .before .before .before in
     let a = s .args in
-    let tables = s .pre .0 in
+    let tables = s .pre .0 .tables in
+    let few = s .pre .0 .few in
+    let wide = longest-in (a .field) in
     let fits = s .pre .1 .0 in
     let buffers = s .pre .1 .1 in
     let x = c .before .before .before .before .before .before .before .before .before .before .before .before .before .before .before .before .before .before .before .before .before .before .before .before .before .before .before .before .place .ensures in
     let y = c .before .before .before .before .before .before .before .before .before .before .before .before .before .before .before .before .before .before .before .before .before .before .before .before .place2 .ensures in
     let parts = c .before .before .before .before .before .before .before .before .before .before .before .before .before .before .before .before .before .before .shorten .ensures in (
-      quotient-is (fieldAt _) (p-at _) _ (longest-in _) _ _ tables _ _ _ _ _ _ _ fits buffers x y _ refl (parts .1 .1 .1) (c .before .before .before .before .before .before .before .before .before .before .before .write-back .ensures),
-      remainder-is (fieldAt _) (p-at _) _ (longest-in _) _ _ tables _ _ _ _ _ _ _ fits buffers x y _ refl (parts .1 .1 .0) (c .before .before .before .before .write-back2 .ensures),
+      quotient-is (fieldAt _) (p-at _) _ (omega arith) _ _ tables _ _ _ _ _ _ _ fits buffers x y _ refl (parts .1 .1 .1) (c .before .before .before .before .before .before .before .before .before .before .before .write-back .ensures),
+      remainder-is (fieldAt _) (p-at _) _ (omega arith) _ _ tables _ _ _ _ _ _ _ fits buffers x y _ refl (parts .1 .1 .0) (c .before .before .before .before .write-back2 .ensures),
     )
 
 pub divide-in-spec : {M : Type 1} → statement M

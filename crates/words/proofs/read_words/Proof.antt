@@ -1,4 +1,5 @@
--- `words::read_words` meets its contract. The loop's invariant: the words below k are read. The measure is the number of words left.
+-- `words::read_words` meets its contract. The loop's invariant: the words below k are there, and k is past the first n, which were read. The
+-- measure is the number of words left.
 -- Assumes nothing.
 use mathlib.Core.Path.{_≡_}
 use Prim.Native.Nat.{_≤_, _-_}
@@ -7,13 +8,13 @@ use native.Mathlib.Omega.{arith}
 use lib.ListN.{length, length-set}
 use Rattle.lists.specs.Bytes.{wordsOf}
 use Rattle.lists.proofs.Filled.{Filled, fill-step}
-use Rattle.words.proofs.Transfer.{into-is}
+use Rattle.words.proofs.Transfer.{into-is, word-past}
 use borrow.Author.Needs.{needs}
 use Rattle.words.proofs.read_words.Statement.{statement}
 use Rattle.words.proofs.read_words.Tie as tie
 
 abbrev Inv-loop : tie.InvT-loop
-Inv-loop bytes words₀ n k₀ words k = (k ≤ length words) × (length words ≡ length words₀) × Filled words k (wordsOf bytes)
+Inv-loop bytes words₀ n k₀ words k = (n ≤ k) × (k ≤ length words) × (length words ≡ length words₀) × Filled words k (wordsOf bytes)
 
 abbrev μ-loop : tie.MeasureT-loop
 μ-loop bytes words₀ n k₀ words k = length words₀ - k
@@ -28,10 +29,7 @@ read-first-requires c κs =
     (omega arith, omega arith)
 
 loop-holds : tie.Need-loop-holds Inv-loop μ-loop
-loop-holds c = (omega (arith, c .before .before .before .before .smaller .ensures), search needs, record { at = c .before .before .read-first .ensures })
-
-word-or-zero-requires : tie.Need-word-or-zero-requires Inv-loop μ-loop
-word-or-zero-requires c κs = search needs
+loop-holds c = (omega arith, omega (arith, c .before .before .before .before .smaller .ensures), search needs, record { at = c .before .before .read-first .ensures })
 
 mul-words : tie.Need-mul-words Inv-loop μ-loop
 mul-words c = search needs
@@ -46,17 +44,20 @@ loop-less : tie.Need-loop-less Inv-loop μ-loop
 loop-less c = search needs
 
 loop-again : tie.Need-loop-again Inv-loop μ-loop
-loop-again c = (
-  simp length-set (omega arith),
-  simp length-set (omega arith),
-  fill-step _ (c .before .before .loop .inv .2) (omega arith) (c .word-or-zero .ensures),
-)
+loop-again c =
+    let start = c .before .before .before .before .before .before .before .before .before in
+    let read = c .before .before .before .before .before .before .smaller .ensures in (
+      omega arith,
+      simp length-set (omega arith),
+      simp length-set (omega arith),
+      fill-step _ (c .before .loop .inv .3) (omega arith) (word-past (start .args .bytes .now) _ (omega arith)),
+    )
 
 same-length : tie.Need-same-length Inv-loop μ-loop
 same-length c = search needs
 
 returns : tie.Need-returns Inv-loop μ-loop
-returns c = into-is _ _ _ (omega arith) (record { at = λ k l. c .before .loop .inv .2 .at k (omega arith) })
+returns c = into-is _ _ _ (omega arith) (record { at = λ k l. c .before .loop .inv .3 .at k (omega arith) })
 
 pub read-words-spec : {M : Type 1} → statement M
 read-words-spec =
@@ -67,7 +68,6 @@ read-words-spec =
     smaller-requires
     read-first-requires
     loop-holds
-    word-or-zero-requires
     mul-words
     slice-write-words
     add-k

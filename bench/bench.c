@@ -320,6 +320,8 @@ typedef struct {
 static const task tasks[] = {
     {"product, 0 by 0", draw_two, 0, 0, engine_product, flint_product, 1, 0, 0, -1},
     {"product, 7 by 7", draw_two, 7, 7, engine_product, flint_product, 15, 0, 0, -1},
+    {"division, 7 by 3", draw_two, 3, 7, engine_division, flint_division, 5, 3, 0, -1},
+    {"GCD, 3 and 3, coprime", draw_two, 3, 3, engine_gcd, flint_gcd, MAX_WORDS, 2, 0, 0},
     {"product, 127 by 128", draw_two, 127, 128, engine_product, flint_product, 256, 0, 0, -1},
     {"division, 255 by 128", draw_two, 128, 255, engine_division, flint_division, 128, 128, 0, -1},
     {"ordinary division, 255 by 128", draw_ordinary_division, 128, 255, engine_ordinary_division, flint_ordinary_division, 256, 256, 0, -1},

@@ -1,6 +1,6 @@
 -- Buffers of zeros, and the words of a scaled form in one.
 -- Assumes nothing.
-use mathlib.Core.Path.{_≡_, sym, _∙_, ap}
+use mathlib.Core.Path.{_≡_, sym, _∙_, ap, subst}
 use mathlib.Core.Bool.{cond}
 use mathlib.Core.List.{List, _++_}
 use Prim.Native.Nat.{ℕ, _≤_}
@@ -16,7 +16,7 @@ use Rattle.lists.proofs.Words.{coeff-seriesOf, scaledWords, length-scaledWords,
 use Rattle.field_tables.specs.Factorials.{Tables}
 use Rattle.word_scaling.specs.Scaling.{weighFits, weighted}
 use Rattle.word_scaling.proofs.Weights.{scale-is}
-use Rattle.list_gcd.specs.Internal.{Zeros, Holds}
+use Rattle.list_gcd.specs.Internal.{Ready, Zeros, Holds}
 use Rattle.lists.proofs.Parts.{getD-zeros, getD-part, getD-then-zeros}
 
 -- the first n words of a list
@@ -34,7 +34,7 @@ zeros-arrays n =
       zeros-y = getD-zeros n;
     }
 
-pub zeros-part : {m : ℕ} (n : ℕ) {x y q : List ℕ} → n ≤ m → Zeros m x y q → Zeros n (take n x) (take n y) (take n q)
+zeros-part : {m : ℕ} (n : ℕ) {x y q : List ℕ} → n ≤ m → Zeros m x y q → Zeros n (take n x) (take n y) (take n q)
 zeros-part n {x} {y} {q} l z =
     record {
       size-x = length-part x n (z .size-x) l;
@@ -46,6 +46,13 @@ zeros-part n {x} {y} {q} l z =
 
 module _ (F : PrimeField) where
   open CommRing (F .series .ring) using (Carrier as S)
+
+  -- as much of three arrays of zeros as n words take
+  pub zeros-lent : {m most : ℕ} (n : ℕ) {f g x y q : List ℕ} → n ≤ m → n ≤ most → Ready F n f g → Zeros m x y q
+      → (Ready F (length (take n x)) f g × (length (take n x) ≤ most)) × Zeros (length (take n x)) (take n x) (take n y) (take n q)
+  zeros-lent {most = most} n {f} {g} {x} {y} {q} l few r z =
+      subst (λ i. (Ready F i f g × (i ≤ most)) × Zeros i (take n x) (take n y) (take n q)) (sym (length-part x n (z .size-x) l))
+      ((r, few), zeros-part n l z)
 
   -- the series of two buffers that agree
   seriesOf-ext : (x y : List ℕ) → ((k : ℕ) → getD x k 0 ≡ getD y k 0) → seriesOf F x ≡ seriesOf F y

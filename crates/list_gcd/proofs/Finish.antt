@@ -1,6 +1,6 @@
 -- How the rounds end, what is written from the last x, and what a GCD answers.
 -- Assumes nothing.
-use mathlib.Core.Path.{_≡_, sym, _∙_, ap, ap₂}
+use mathlib.Core.Path.{_≡_, sym, _∙_, ap, ap₂, subst}
 use mathlib.Core.Bool.{cond}
 use mathlib.Core.List.{List, [], _∷_}
 use Prim.Native.Nat.{ℕ, suc, _-_, _≤_, _<_}
@@ -43,11 +43,11 @@ use Rattle.list_gcd.specs.declared.Gcd.{Gcd}
 use Rattle.list_gcd.specs.declared.Rounds.{Rounds}
 use Rattle.list_gcd.specs.declared.Gcd.the-variants as G
 use Rattle.list_gcd.specs.Calls.{gcdReply, gcdValues, GreatestSo, Greatest}
-use Rattle.list_gcd.specs.Internal.{Ready, Buffer, Holds, euclidOn, monicList, LastOf, gcdDone}
+use Rattle.list_gcd.specs.Internal.{Ready, Buffer, Holds, euclidOn, Ends, monicList, monicWords, LastOf, gcdDone}
 use Rattle.list_gcd.proofs.Ready.{ready}
 
 module _ (F : PrimeField) where
-  open CommRing (F .series .ring) using (mul as _*ˢ_)
+  open CommRing (F .series .ring) using (Carrier as S, mul as _*ˢ_)
 
   infixl 70 _*ˢ_
   pub gcd-done : (f g : List ℕ) (w : NaiveDegree) (c : Power) (rounds : Rounds) → w .0 ≡ naiveDegree (gcdOf F f g)
@@ -104,6 +104,24 @@ module _ (F : PrimeField) where
           is : seriesOf F last ≡ euclid (F .series) (scalarField F) n n (scaled F g) (scaled F f) .last
           is = hl .series ∙ ap (λ z. z .last) ready-euclid
 
+      -- the rounds on buffers of one length
+      pub ready-ends : {last : List ℕ} {rounds : ℕ} → Ends F (length x) x y last rounds → (rounds ≡ roundsOf F f g) × LastOf F n f g last
+      ready-ends {last} {rounds} ends =
+          let same = subst (λ i. Ends F i x y last rounds) (hx .buffer .size) ends in
+          (same .count ∙ ready-count, ready-last (same .holds))
+
+  -- a buffer's length in other words
+  pub buffer-as : {n m : ℕ} {x : List ℕ} → n ≡ m → Buffer F n x → Buffer F m x
+  buffer-as e b = record { size = b .size ∙ e; below = b .below }
+
+  pub holds-as : {n m : ℕ} {x : List ℕ} {s : S} → n ≡ m → Holds F n x s → Holds F m x s
+  holds-as e h = record { buffer = buffer-as e (h .buffer); series = h .series }
+
+  -- the words of the last x, made to end in 1, are those of the GCD
+  pub last-words : (room : ℕ) {n : ℕ} {f g last : List ℕ} → LastOf F n f g last → monicWords F room last ≡ padded room (gcdOf F f g)
+  last-words room {n} {f} {g} {last} l =
+      ap (λ i. padded room (monicList F i (seriesOf F last))) (l .buffer .size) ∙ ap (padded room) (l .list)
+
   -- what is written from the last x
   module _ (n : ℕ) (last : List ℕ) (b : Buffer F n last) where
     size-last-is : size (F .series) (scalarField F) n (seriesOf F last) ≡ significant last
@@ -137,15 +155,15 @@ module _ (F : PrimeField) where
           (ap (λ a. C (F .series) a *ˢ seriesOf F last) last-inverse ∙ sym (monic-is (F .series) (scalarField F) n (seriesOf F last))))
 
       -- k and m as the code finds them
-      pub gcd-written : {p : ℕ} → F .p ≡ p → n ≤ F .p → (whole part : List ℕ) → Tables F n whole part → (h : List ℕ) (k m : ℕ) {last′ h′ : List ℕ}
-          {room : ℕ} → length h ≡ room → n ≤ room → k ≡ significant last → m ≡ inverseOrZero F (getD last (k - 1) 0)
+      pub gcd-written : {p room : ℕ} → F .p ≡ p → room ≤ F .p → (whole part : List ℕ) → Tables F room whole part → (h : List ℕ) (k m : ℕ)
+          {last′ h′ : List ℕ} → length h ≡ room → n ≤ room → k ≡ significant last → m ≡ inverseOrZero F (getD last (k - 1) 0)
           → (last′ ≡ cond (writeFits k whole part last h) (multiplied p m last) last)
           × (h′ ≡ cond (writeFits k whole part last h) (writtenWords p whole part k m last h) h)
           → h′ ≡ padded room (monicList F n (seriesOf F last))
-      gcd-written at short whole part t h k m {last′} {h′} e fits ek em q =
+      gcd-written {room = room} at short whole part t h k m {last′} {h′} e fits ek em q =
           let l = significant-le last in
           let s = b .size in
-          write-is F at n short whole part t k m last h (omega arith) (omega arith) (omega arith) q .1
+          write-is F at room short whole part t k m last h (omega arith) (omega arith) (omega arith) q .1
           ∙ ap₂ (λ i j. writtenList F i j last h) ek (em ∙ ap (λ i. inverseOrZero F (getD last (i - 1) 0)) ek)
           ∙ monic-written h ∙ ap (λ i. padded i (monicList F n (seriesOf F last))) e
 

@@ -8,6 +8,7 @@
 --                         are left are all the rounds
 --     Ends n x₀ y₀ x      the buffer x holds the last x of the rounds from x₀, y₀
 --     monicList n s       the list of the scaled form s, of at most n coefficients, made to have last word 1
+--     monicWords n x      the words of the list of a buffer so, in a slice of n words, zeros after it
 --     LastOf n f g x      the buffer x holds the last x of the rounds on f and g
 --     gcdDone f g         the answer of the GCD of f and g: w, c and rounds
 -- Assumes nothing.
@@ -22,6 +23,7 @@ use Rattle.algebra.specs.Monic.{monic}
 use Rattle.algebra.specs.PrimeField.{PrimeField, scalarField}
 use Rattle.lists.specs.Degrees.{naiveDegree, significant}
 use Rattle.lists.specs.Lists.{Coefficients, unscaled}
+use Rattle.lists.specs.Padded.{padded}
 use Rattle.lists.specs.Words.{seriesOf}
 use Rattle.euclid_theory.specs.Gcd.{gcdOf, roundsOf, commonPower}
 use Rattle.list_gcd.specs.declared.Gcd.{Gcd}
@@ -67,6 +69,9 @@ module _ (F : PrimeField) where
   pub record Ends (n : ℕ) (x₀ y₀ last : List ℕ) (rounds : ℕ) : Type 0 where
     pub count : rounds ≡ euclidOn n x₀ y₀ .rounds
     pub holds : Holds n last (euclidOn n x₀ y₀ .last)
+
+  abbrev pub monicWords : ℕ → (x : List ℕ) → List ℕ
+  monicWords n x = padded n (monicList (length x) (seriesOf F x))
 
   pub record LastOf (n : ℕ) (f g last : List ℕ) : Type 0 where
     pub buffer : Buffer n last

@@ -11,12 +11,11 @@ ghost use Rattle.refusal.specs.Limits.{maxWords};
 ghost use Rattle.refusal.specs.Lowest.{lowest};
 ghost use Rattle.lists.specs.Degrees.{significant};
 ghost use Rattle.lists.specs.Lists.{scaled};
-ghost use Rattle.lists.specs.Words.{seriesOf};
 ghost use Rattle.euclid_theory.specs.Gcd.{gcdOf, roundsOf, commonPower};
 ghost use Rattle.lists.specs.Padded.{padded};
 ghost use Rattle.field_tables.specs.Factorials.{Tables};
 ghost use Rattle.list_gcd.specs.Calls.{gcdReply, gcdRows, gcdAnswer, gcdWritten, Greatest};
-ghost use Rattle.list_gcd.specs.Internal.{Ready, Zeros, Buffer, Holds, Ends, monicList, LastOf, gcdDone};
+ghost use Rattle.list_gcd.specs.Internal.{Ready, Zeros, Buffer, Holds, Ends, monicWords, LastOf, gcdDone};
 use lists::NaiveDegree;
 use lists::Power;
 use refusal::Outcome;
@@ -93,16 +92,15 @@ pub fn common_power(f: &[u16], g: &[u16]) -> Power
     pg
 }
 
-// The words of the scaled form of a list, to a buffer of n zeros.
-fn scale_into(field: u8, n: usize, whole: &[u16], part: &[u16], list: &[u16], buffer: &mut [u16])
-    requires { ⌜ n ≤ longest field ⌝ }
-    requires { ⌜ Tables (fieldAt field) n (now whole) (now part) ⌝ }
-    requires { ⌜ (length (now list) ≤ n) × (length (now buffer) ≡ n) ⌝ }
+// The words of the scaled form of a list, to a buffer of zeros.
+fn scale_into(field: u8, whole: &[u16], part: &[u16], list: &[u16], buffer: &mut [u16])
+    requires { ⌜ Tables (fieldAt field) (longest field) (now whole) (now part) ⌝ }
+    requires { ⌜ (length (now list) ≤ length (now buffer)) × (length (now buffer) ≤ longest field) ⌝ }
     requires { ⌜ ((k : ℕ) → getD (now buffer) k 0 ≡ 0) ⌝ }
-    ensures { λ _. ⌜ Holds (fieldAt field) n (now (buffer .exit)) (scaled (fieldAt field) (given list)) ⌝ }
+    ensures { λ _. ⌜ Holds (fieldAt field) (length (given buffer)) (now (buffer .exit)) (scaled (fieldAt field) (given list)) ⌝ }
 {
-    let words = list.len();
-    word_scaling::weigh(field, list, whole, part, &mut buffer[..words]);
+    let n = list.len();
+    word_scaling::weigh(field, list, whole, part, &mut buffer[..n]);
 }
 
 // Where the rounds ended: how many they were, and whether the last x stands in the first buffer.
@@ -111,20 +109,12 @@ pub struct Ended {
     pub first: bool,
 }
 
-// Euclid's rounds on two buffers of n words that alternate, until one of them is zero.
-fn all_rounds(
-    field: u8,
-    n: usize,
-    inverses: &[u16],
-    x: &mut [u16],
-    y: &mut [u16],
-    q: &mut [u16],
-) -> Ended
-    requires { ⌜ n ≤ maxWords ⌝ }
-    requires { ⌜ Buffer (fieldAt field) n (now x) ⌝ }
-    requires { ⌜ Buffer (fieldAt field) n (now y) ⌝ }
-    requires { ⌜ n ≤ length (now q) ⌝ }
-    ensures { λ r. ⌜ Ends (fieldAt field) n (given x) (given y) (cond (r .first) (now (x .exit)) (now (y .exit))) (r .rounds) ⌝ }
+// Euclid's rounds on two buffers that alternate, until one of them is zero.
+fn all_rounds(field: u8, inverses: &[u16], x: &mut [u16], y: &mut [u16], q: &mut [u16]) -> Ended
+    requires { ⌜ Buffer (fieldAt field) (length (now x)) (now x) ⌝ }
+    requires { ⌜ Buffer (fieldAt field) (length (now x)) (now y) ⌝ }
+    requires { ⌜ (length (now x) ≤ maxWords) × (length (now x) ≤ length (now q)) ⌝ }
+    ensures { λ r. ⌜ Ends (fieldAt field) (length (given x)) (given x) (given y) (cond (r .first) (now (x .exit)) (now (y .exit))) (r .rounds) ⌝ }
 {
     let mut rounds = 0;
     let mut nx = lists::significant_words(x);
@@ -154,30 +144,27 @@ fn all_rounds(
 // h from the last x: made to end in 1, unscaled, zeros after it. Its naive degree.
 fn write_gcd(
     field: u8,
-    n: usize,
     whole: &[u16],
     part: &[u16],
     inverses: &[u16],
     last: &mut [u16],
     h: &mut [u16],
 ) -> NaiveDegree
-    requires { ⌜ n ≤ longest field ⌝ }
-    requires { ⌜ Tables (fieldAt field) n (now whole) (now part) ⌝ }
-    requires { ⌜ Buffer (fieldAt field) n (now last) ⌝ }
+    requires { ⌜ Tables (fieldAt field) (longest field) (now whole) (now part) ⌝ }
+    requires { ⌜ Buffer (fieldAt field) (length (now last)) (now last) × (length (now last) ≤ longest field) ⌝ }
     requires { ⌜ (0 < significant (now last)) × (length (now h) ≡ longest field) ⌝ }
     ensures { λ r. ⌜ r .0 + 1 ≡ significant (given last) ⌝ }
-    ensures { λ _. ⌜ now (h .exit) ≡ padded (longest field) (monicList (fieldAt field) n (seriesOf (fieldAt field) (given last))) ⌝ }
+    ensures { λ _. ⌜ now (h .exit) ≡ monicWords (fieldAt field) (longest field) (given last) ⌝ }
 {
-    let words = lists::significant_words(last);
-    let inv = field_inverse::inverse_or_zero(field, inverses, last[words - 1]);
-    euclid_round::write_list(field, whole, part, last, inv, words, h);
-    NaiveDegree(words - 1)
+    let n = lists::significant_words(last);
+    let inv = field_inverse::inverse_or_zero(field, inverses, last[n - 1]);
+    euclid_round::write_list(field, whole, part, last, inv, n, h);
+    NaiveDegree(n - 1)
 }
 
 // The same from the buffer that holds the last x.
 fn write_last(
     field: u8,
-    n: usize,
     whole: &[u16],
     part: &[u16],
     inverses: &[u16],
@@ -186,23 +173,21 @@ fn write_last(
     y: &mut [u16],
     h: &mut [u16],
 ) -> NaiveDegree
-    requires { ⌜ n ≤ longest field ⌝ }
-    requires { ⌜ Tables (fieldAt field) n (now whole) (now part) ⌝ }
-    requires { ⌜ Buffer (fieldAt field) n (cond first (now x) (now y)) ⌝ }
+    requires { ⌜ Tables (fieldAt field) (longest field) (now whole) (now part) ⌝ }
+    requires { ⌜ Buffer (fieldAt field) (length (cond first (now x) (now y))) (cond first (now x) (now y)) × (length (cond first (now x) (now y)) ≤ longest field) ⌝ }
     requires { ⌜ (0 < significant (cond first (now x) (now y))) × (length (now h) ≡ longest field) ⌝ }
     ensures { λ r. ⌜ r .0 + 1 ≡ significant (cond first (given x) (given y)) ⌝ }
-    ensures { λ _. ⌜ now (h .exit) ≡ padded (longest field) (monicList (fieldAt field) n (seriesOf (fieldAt field) (cond first (given x) (given y)))) ⌝ }
+    ensures { λ _. ⌜ now (h .exit) ≡ monicWords (fieldAt field) (longest field) (cond first (given x) (given y)) ⌝ }
 {
     if first {
-        return write_gcd(field, n, whole, part, inverses, x, h);
+        return write_gcd(field, whole, part, inverses, x, h);
     }
-    write_gcd(field, n, whole, part, inverses, y, h)
+    write_gcd(field, whole, part, inverses, y, h)
 }
 
-// Euclid's rounds on the scaled forms of g and f, in buffers x and y of n zeros.
+// Euclid's rounds on the scaled forms of g and f, in buffers x and y of zeros.
 fn find_last(
     field: u8,
-    n: usize,
     whole: &[u16],
     part: &[u16],
     inverses: &[u16],
@@ -212,22 +197,20 @@ fn find_last(
     y: &mut [u16],
     q: &mut [u16],
 ) -> Ended
-    requires { ⌜ n ≤ longest field ⌝ }
-    requires { ⌜ Tables (fieldAt field) n (now whole) (now part) ⌝ }
-    requires { ⌜ Ready (fieldAt field) n (now f) (now g) ⌝ }
-    requires { ⌜ Zeros n (now x) (now y) (now q) ⌝ }
+    requires { ⌜ Tables (fieldAt field) (longest field) (now whole) (now part) ⌝ }
+    requires { ⌜ Ready (fieldAt field) (length (now x)) (now f) (now g) × (length (now x) ≤ longest field) ⌝ }
+    requires { ⌜ Zeros (length (now x)) (now x) (now y) (now q) ⌝ }
     ensures { λ r. ⌜ r .rounds ≡ roundsOf (fieldAt field) (given f) (given g) ⌝ }
-    ensures { λ r. ⌜ LastOf (fieldAt field) n (given f) (given g) (cond (r .first) (now (x .exit)) (now (y .exit))) ⌝ }
+    ensures { λ r. ⌜ LastOf (fieldAt field) (length (given x)) (given f) (given g) (cond (r .first) (now (x .exit)) (now (y .exit))) ⌝ }
 {
-    scale_into(field, n, whole, part, g, x);
-    scale_into(field, n, whole, part, f, y);
-    all_rounds(field, n, inverses, x, y, q)
+    scale_into(field, whole, part, g, x);
+    scale_into(field, whole, part, f, y);
+    all_rounds(field, inverses, x, y, q)
 }
 
-// The GCD by way of buffers of n words.
+// The GCD by way of buffers.
 fn gcd_in(
     field: u8,
-    n: usize,
     whole: &[u16],
     part: &[u16],
     inverses: &[u16],
@@ -238,16 +221,15 @@ fn gcd_in(
     q: &mut [u16],
     h: &mut [u16],
 ) -> Gcd
-    requires { ⌜ n ≤ longest field ⌝ }
-    requires { ⌜ Tables (fieldAt field) n (now whole) (now part) ⌝ }
-    requires { ⌜ Ready (fieldAt field) n (now f) (now g) ⌝ }
-    requires { ⌜ Zeros n (now x) (now y) (now q) ⌝ }
+    requires { ⌜ Tables (fieldAt field) (longest field) (now whole) (now part) ⌝ }
+    requires { ⌜ Ready (fieldAt field) (length (now x)) (now f) (now g) × (length (now x) ≤ longest field) ⌝ }
+    requires { ⌜ Zeros (length (now x)) (now x) (now y) (now q) ⌝ }
     requires { ⌜ length (now h) ≡ longest field ⌝ }
     ensures { λ r. ⌜ r ≡ gcdDone (fieldAt field) (given f) (given g) ⌝ }
     ensures { λ _. ⌜ now (h .exit) ≡ padded (longest field) (gcdOf (fieldAt field) (given f) (given g)) ⌝ }
 {
-    let ended = find_last(field, n, whole, part, inverses, f, g, x, y, q);
-    let w = write_last(field, n, whole, part, inverses, ended.first, x, y, h);
+    let ended = find_last(field, whole, part, inverses, f, g, x, y, q);
+    let w = write_last(field, whole, part, inverses, ended.first, x, y, h);
     let c = common_power(f, g);
     Gcd::Done(w, c, Rounds(ended.rounds))
 }
@@ -308,7 +290,6 @@ fn gcd_between(
     let n = words::larger(f.len(), g.len());
     gcd_in(
         field,
-        n,
         whole,
         part,
         inverses,

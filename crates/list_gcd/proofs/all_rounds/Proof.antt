@@ -14,11 +14,11 @@ use Rattle.list_gcd.proofs.all_rounds.Statement.{statement}
 use Rattle.list_gcd.proofs.all_rounds.Tie as tie
 
 abbrev Inv-loop : tie.InvT-loop
-Inv-loop field n inverses x₀ y₀ q₀ rounds₀ nx₀ ny₀ x y q rounds nx ny =
-    Led (fieldAt field) n x₀ y₀ x y rounds × (length q ≡ length q₀) × (nx ≡ significant x) × (ny ≡ significant y)
+Inv-loop field inverses x₀ y₀ q₀ rounds₀ nx₀ ny₀ x y q rounds nx ny =
+    Led (fieldAt field) (length x₀) x₀ y₀ x y rounds × (length q ≡ length q₀) × (nx ≡ significant x) × (ny ≡ significant y)
 
 abbrev μ-loop : tie.MeasureT-loop
-μ-loop field n inverses x₀ y₀ q₀ rounds₀ nx₀ ny₀ x y q rounds nx ny = ny
+μ-loop field inverses x₀ y₀ q₀ rounds₀ nx₀ ny₀ x y q rounds nx ny = ny
 
 significant-words-requires : tie.Need-significant-words-requires Inv-loop μ-loop
 significant-words-requires c κs = search needs
@@ -29,7 +29,7 @@ significant-words-requires-2 c κs = search needs
 loop-holds : tie.Need-loop-holds Inv-loop μ-loop
 loop-holds c =
     let pre = c .before .before .before .before .before .before .before .before .pre in
-    (led-start (fieldAt _) _ _ _ (pre .1 .0) (pre .1 .1 .0), refl, c .before .before .significant-words .ensures, c .significant-words2 .ensures)
+    (led-start (fieldAt _) _ _ _ (pre .0) (pre .1 .0), refl, c .before .before .significant-words .ensures, c .significant-words2 .ensures)
 
 same-length : tie.Need-same-length Inv-loop μ-loop
 same-length c = search needs
@@ -48,20 +48,20 @@ returns c =
 
 -- x by y
 first : (c : tie.After-shorten Inv-loop μ-loop)
-    → LedOn (fieldAt (c .before .before .before .before .before .before .before .before .before .before .before .before .before .before .args .field)) (c .before .before .before .before .before .before .before .before .before .before .before .before .before .before .args .n) (c .before .before .before .before .before .before .before .before .before .before .before .before .before .before .args .x .now) (c .before .before .before .before .before .before .before .before .before .before .before .before .before .before .args .y .now) (c .before .before .before .before .before .loop .y) (c .shorten .last .1 .1 .0) (c .before .before .before .before .before .loop .rounds) × (c .shorten .result .left ≡ significant (c .shorten .last .1 .1 .0))
+    → LedOn (fieldAt (c .before .before .before .before .before .before .before .before .before .before .before .before .before .before .args .field)) (length (c .before .before .before .before .before .before .before .before .before .before .before .before .before .before .args .x .now)) (c .before .before .before .before .before .before .before .before .before .before .before .before .before .before .args .x .now) (c .before .before .before .before .before .before .before .before .before .before .before .before .before .before .args .y .now) (c .before .before .before .before .before .loop .y) (c .shorten .last .1 .1 .0) (c .before .before .before .before .before .loop .rounds) × (c .shorten .result .left ≡ significant (c .shorten .last .1 .1 .0))
 first c =
     let start = c .before .before .before .before .before .before .before .before .before .before .before .before .before .before in
     let t = c .before .before .before .before .before .loop .inv in
-    led-on _ _ _ _ _ _ _ _ _ _ (start .pre .1 .0) (start .pre .1 .1 .0) (t .0) (t .2) (t .3) (omega arith) (omega arith) (c .shorten .kept .1 .1 .0) (c .shorten .ensures)
+    led-on _ _ _ _ _ _ _ _ _ _ (start .pre .0) (start .pre .1 .0) (t .0) (t .2) (t .3) (omega arith) (omega arith) (c .shorten .kept .1 .1 .0) (c .shorten .ensures)
 
 -- y by what is left of x
 second : (c : tie.After-shorten2 Inv-loop μ-loop)
-    → LedOn (fieldAt (c .before .before .before .before .before .before .before .before .before .before .before .before .before .before .before .before .before .before .before .before .before .before .before .args .field)) (c .before .before .before .before .before .before .before .before .before .before .before .before .before .before .before .before .before .before .before .before .before .before .before .args .n) (c .before .before .before .before .before .before .before .before .before .before .before .before .before .before .before .before .before .before .before .before .before .before .before .args .x .now) (c .before .before .before .before .before .before .before .before .before .before .before .before .before .before .before .before .before .before .before .before .before .before .before .args .y .now) (c .before .before .before .before .before .before .before .before .before .shorten .last .1 .1 .0) (c .shorten2 .last .1 .1 .0) (c .before .before .before .before .before .before .before .before .before .before .before .before .before .before .loop .rounds + 1) × (c .shorten2 .result .left ≡ significant (c .shorten2 .last .1 .1 .0))
+    → LedOn (fieldAt (c .before .before .before .before .before .before .before .before .before .before .before .before .before .before .before .before .before .before .before .before .before .before .before .args .field)) (length (c .before .before .before .before .before .before .before .before .before .before .before .before .before .before .before .before .before .before .before .before .before .before .before .args .x .now)) (c .before .before .before .before .before .before .before .before .before .before .before .before .before .before .before .before .before .before .before .before .before .before .before .args .x .now) (c .before .before .before .before .before .before .before .before .before .before .before .before .before .before .before .before .before .before .before .before .before .before .before .args .y .now) (c .before .before .before .before .before .before .before .before .before .shorten .last .1 .1 .0) (c .shorten2 .last .1 .1 .0) (c .before .before .before .before .before .before .before .before .before .before .before .before .before .before .loop .rounds + 1) × (c .shorten2 .result .left ≡ significant (c .shorten2 .last .1 .1 .0))
 second c =
     let start = c .before .before .before .before .before .before .before .before .before .before .before .before .before .before .before .before .before .before .before .before .before .before .before in
     let made = first (c .before .before .before .before .before .before .before .before .before) in
     let t = c .before .before .before .before .before .before .before .before .before .before .before .before .before .before .loop .inv in
-    led-on _ _ _ _ _ _ _ _ _ _ (start .pre .1 .0) (start .pre .1 .1 .0) (made .0 .next) (t .3) (made .1) (omega arith) (omega arith) (c .shorten2 .kept .1 .1 .0) (c .shorten2 .ensures)
+    led-on _ _ _ _ _ _ _ _ _ _ (start .pre .0) (start .pre .1 .0) (made .0 .next) (t .3) (made .1) (omega arith) (omega arith) (c .shorten2 .kept .1 .1 .0) (c .shorten2 .ensures)
 
 shorten-requires : tie.Need-shorten-requires Inv-loop μ-loop
 shorten-requires c κs = search needs
@@ -89,7 +89,7 @@ shorten-requires-2 c κs = search needs
 
 add-rounds-2 : tie.Need-add-rounds-2 Inv-loop μ-loop
 add-rounds-2 c =
-    let most = c .before .before .before .before .before .before .before .before .before .before .before .before .before .before .before .before .before .before .before .before .before .before .before .before .before .before .before .pre .0 in
+    let most = c .before .before .before .before .before .before .before .before .before .before .before .before .before .before .before .before .before .before .before .before .before .before .before .before .before .before .before .pre .1 .1 .0 in
     let few = first (c .before .before .before .before .before .before .before .before .before .before .before .before .before) .0 .few in
     search needs
 

@@ -6,9 +6,8 @@ use lib.ListN.{length-take}
 use Rattle.refusal.specs.Limits.{maxWords}
 use Rattle.field.specs.Fields.{fieldAt, longest}
 use Rattle.field.proofs.Fields.{longest-room}
-use Rattle.field_tables.proofs.Entries.{tables-within}
 use Rattle.list_gcd.specs.Internal.{Ready}
-use Rattle.list_gcd.proofs.Buffers.{zeros-part}
+use Rattle.list_gcd.proofs.Buffers.{zeros-lent}
 use Rattle.list_gcd.proofs.Ready.{ready-within}
 use borrow.Author.Needs.{needs}
 use Rattle.list_gcd.proofs.gcd_between.Statement.{statement}
@@ -29,7 +28,7 @@ larger-requires : tie.Need-larger-requires
 larger-requires c κs = search needs
 
 slice-relend-prefix-gcd-in : tie.Need-slice-relend-prefix-gcd-in
-slice-relend-prefix-gcd-in c = omega (arith, enough (c) .1)
+slice-relend-prefix-gcd-in c = omega (arith, enough c .1)
 
 slice-aggregate-gcd-in : tie.Need-slice-aggregate-gcd-in
 slice-aggregate-gcd-in c = simp length-take (omega (arith, enough (c .before) .1))
@@ -51,7 +50,8 @@ gcd-in-requires c κs =
     let pre = c .before .before .before .before .before .before .before .before .before .before .before .before .before .before .pre in
     let n = c .before .before .before .before .larger .result in
     let known = enough (c .before .before .before .before) in
-    (known .0, (tables-within (fieldAt _) n (known .0) (pre .0), (known .2, (zeros-part n (known .1) (pre .1 .1 .0), pre .1 .1 .1))))
+    let lent = zeros-lent (fieldAt _) n (known .1) (known .0) (known .2) (pre .1 .1 .0) in
+    (pre .0, (lent .0, (lent .1, pre .1 .1 .1)))
 
 same-length : tie.Need-same-length
 same-length c = search needs

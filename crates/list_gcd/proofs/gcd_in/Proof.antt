@@ -1,10 +1,9 @@
 -- `list_gcd::gcd_in` meets its contract: the list and the numbers are those of the definition.
 -- Assumes nothing.
-use mathlib.Core.Path.{_∙_, ap}
+use mathlib.Core.Path.{sym, _∙_}
 use native.Mathlib.Omega.{arith}
 use Rattle.field.specs.Fields.{fieldAt}
-use Rattle.lists.specs.Padded.{padded}
-use Rattle.list_gcd.proofs.Finish.{gcd-done}
+use Rattle.list_gcd.proofs.Finish.{gcd-done, buffer-as, last-words}
 use borrow.Author.Needs.{needs}
 use Rattle.list_gcd.proofs.gcd_in.Statement.{statement}
 use Rattle.list_gcd.proofs.gcd_in.Tie as tie
@@ -12,14 +11,16 @@ use Rattle.list_gcd.proofs.gcd_in.Tie as tie
 find-last-requires : tie.Need-find-last-requires
 find-last-requires c κs =
     let pre = c .before .before .before .before .before .before .before .before .before .before .before .before .pre in
-    (pre .0, (pre .1 .0, (pre .1 .1 .0, pre .1 .1 .1 .0)))
+    (pre .0, (pre .1 .0, pre .1 .1 .0))
 
 write-last-requires : tie.Need-write-last-requires
 write-last-requires c κs =
     let pre = c .before .before .before .before .before .before .before .before .before .before .before .before .before .before .before .before .before .before .before .before .before .before .pre in
     let last = c .before .before .before .before .before .before .before .before .before .find-last .ensures .1 in
     let size = last .size in
-    (pre .0, (pre .1 .0, (last .buffer, (omega arith, pre .1 .1 .1 .1))))
+    let same = last .buffer .size in
+    let few = pre .1 .0 .1 in
+    (pre .0, ((buffer-as (fieldAt _) (sym (last .buffer .size)) (last .buffer), omega arith), (omega arith, pre .1 .1 .1)))
 
 common-power-requires : tie.Need-common-power-requires
 common-power-requires c κs = search needs
@@ -42,7 +43,7 @@ returns c =
     let list = c .before .before .before .before .before .before .before .write-last .ensures in
     let size = last .1 .size in
     let w = list .0 in
-    (gcd-done (fieldAt _) _ _ _ _ _ (omega arith) (c .common-power .ensures) (last .0), list .1 ∙ ap (padded _) (last .1 .list))
+    (gcd-done (fieldAt _) _ _ _ _ _ (omega arith) (c .common-power .ensures) (last .0), list .1 ∙ last-words (fieldAt _) _ (last .1))
 
 pub gcd-in-spec : {M : Type 1} → statement M
 gcd-in-spec =

@@ -1,9 +1,11 @@
 -- `list_gcd::scale_into` meets its contract: a buffer of zeros then holds the scaled form.
 -- Assumes nothing.
+use mathlib.Core.Path.{refl}
 use native.Mathlib.Omega.{arith}
 use lib.ListN.{length-take}
 use Rattle.field.specs.Fields.{fieldAt}
 use Rattle.field.proofs.Fields.{p-at, longest-in}
+use Rattle.field_tables.proofs.Entries.{tables-within}
 use Rattle.list_gcd.proofs.Buffers.{holds-scaled}
 use borrow.Author.Needs.{needs}
 use Rattle.list_gcd.proofs.scale_into.Statement.{statement}
@@ -25,7 +27,8 @@ returns : tie.Need-returns
 returns c =
     let start = c .before .before .before .before .before .before .before .before in
     let pre = start .pre in
-    holds-scaled (fieldAt _) (p-at _) _ (omega (arith, longest-in (start .args .field))) _ _ (pre .1 .0) _ _ (pre .1 .1 .0 .0) (pre .1 .1 .0 .1) (pre .1 .1 .1) (c .before .before .weigh .ensures)
+    let tables = tables-within (fieldAt _) _ (pre .1 .0 .1) (pre .0) in
+    holds-scaled (fieldAt _) (p-at _) _ (omega (arith, longest-in (start .args .field))) _ _ tables _ _ (pre .1 .0 .0) refl (pre .1 .1) (c .before .before .weigh .ensures)
 
 pub scale-into-spec : {M : Type 1} → statement M
 scale-into-spec =

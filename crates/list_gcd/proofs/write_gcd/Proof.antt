@@ -27,8 +27,8 @@ inverse-or-zero-requires c κs = search needs
 write-list-requires : tie.Need-write-list-requires
 write-list-requires c κs = search needs
 
-sub-t12 : tie.Need-sub-t12
-sub-t12 c = search needs
+sub-t11 : tie.Need-sub-t11
+sub-t11 c = search needs
 
 same-length : tie.Need-same-length
 same-length c = search needs
@@ -39,9 +39,9 @@ same-length-2 c = search needs
 returns : tie.Need-returns
 returns c =
     let start = c .before .before .before .before .before .before .before .before .before .before .before .before .before .before .before .before in
-    let words = c .before .before .before .before .before .before .before .before .before .significant-words in (
+    let n = c .before .before .before .before .before .before .before .before .before .significant-words in (
       omega arith,
-      gcd-written (fieldAt _) _ _ (start .pre .1 .1 .0) (start .pre .1 .1 .1 .0) (p-at _) (omega (arith, longest-in (start .args .field))) _ _ (start .pre .1 .0) _ _ _ (start .pre .1 .1 .1 .1) (start .pre .0) (words .ensures) (c .before .before .before .before .before .before .before .inverse-or-zero .ensures) (c .before .before .before .before .write-list .ensures),
+      gcd-written (fieldAt _) _ _ (start .pre .1 .0 .0) (start .pre .1 .1 .0) (p-at _) (longest-in _) _ _ (start .pre .0) _ _ _ (start .pre .1 .1 .1) (start .pre .1 .0 .1) (n .ensures) (c .before .before .before .before .before .before .before .inverse-or-zero .ensures) (c .before .before .before .before .write-list .ensures),
     )
 
 pub write-gcd-spec : {M : Type 1} → statement M
@@ -54,7 +54,7 @@ write-gcd-spec =
     slice-read-inverse-or-zero
     inverse-or-zero-requires
     write-list-requires
-    sub-t12
+    sub-t11
     same-length
     same-length-2
     returns)

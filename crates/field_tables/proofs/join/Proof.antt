@@ -1,6 +1,6 @@
 -- `field_tables::join` meets its contract: each part is copied to its place.
 -- Assumes nothing.
-use mathlib.Core.Path.{_≡_, ap, sym, _∙_}
+use mathlib.Core.Path.{_≡_, ap, _∙_}
 use native.Mathlib.Omega.{arith}
 use lib.ListN.{length, take, drop, length-take, length-drop}
 use Rattle.words.proofs.Transfer.{copied-fit}

@@ -1,6 +1,5 @@
 -- `list_cofactors::cofactors_in` meets its contract: the row of the last x, written, is what the definitions name.
 -- Assumes nothing.
-use native.Mathlib.Omega.{arith}
 use borrow.Author.Needs.{needs}
 use Rattle.field.specs.Fields.{fieldAt}
 use Rattle.list_cofactors.proofs.Results.{nonzero-row, slices-short, results}

@@ -1,6 +1,5 @@
 -- `word_karatsuba::is_turned` meets its contract.
 -- Assumes nothing.
-use native.Mathlib.Omega.{arith}
 use borrow.Author.Tests.{eq-eqb, ne-eqb}
 use borrow.Author.Needs.{needs}
 use Rattle.word_karatsuba.proofs.is_turned.Statement.{statement}

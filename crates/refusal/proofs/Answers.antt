@@ -1,5 +1,5 @@
 -- What a call answers and writes that does as its judge found.
---     number-range      the numbers are 1 to 11
+--     number-range      the numbers are 1 to 13
 --     number-is         the number of a reply is that of its outcome
 --     result, kept      what a slice holds afterwards, where the judge found Done and where it found a refusal
 --     done, refused     the same with the answer, of a call that hands back no value
@@ -11,11 +11,11 @@ use Prim.Native.Nat.{ℕ, _≤_}
 use native.Mathlib.Omega.{arith}
 use Rattle.refusal.specs.Refusal.{number, outcomeNumber, Reply, reply, outcomeReply, written}
 use Rattle.refusal.specs.declared.Refusal.{Refusal}
-use Rattle.refusal.specs.declared.Refusal.the-variants.{Count, Contents, Index, Length, LooseWord, Over, Backwards, Vanishes, AllZero, Misfit, NoInverse}
+use Rattle.refusal.specs.declared.Refusal.the-variants.{Count, Contents, Index, Length, LooseWord, Over, Backwards, Vanishes, AllZero, Misfit, NoInverse, Line, Nesting}
 use Rattle.refusal.specs.declared.Outcome.{Outcome}
 use Rattle.refusal.specs.declared.Outcome.the-variants.{Done, Refused}
 
-pub number-range : (why : Refusal) → (1 ≤ number why) × (number why ≤ 11)
+pub number-range : (why : Refusal) → (1 ≤ number why) × (number why ≤ 13)
 number-range Count = (omega arith, omega arith)
 number-range Contents = (omega arith, omega arith)
 number-range Index = (omega arith, omega arith)
@@ -27,6 +27,8 @@ number-range Vanishes = (omega arith, omega arith)
 number-range AllZero = (omega arith, omega arith)
 number-range Misfit = (omega arith, omega arith)
 number-range NoInverse = (omega arith, omega arith)
+number-range Line = (omega arith, omega arith)
+number-range Nesting = (omega arith, omega arith)
 
 reply-number : (o : Outcome) (values : List ℕ) → reply o values .number ≡ outcomeNumber o
 reply-number Done values = refl

@@ -1,8 +1,8 @@
--- A call tests its conditions one after the other, lowest number first, and refuses at the first that applies: that is the lowest
--- number that applies.
+-- A call tests its conditions one after the other, lowest rank first, and refuses at the first that applies: that is the one of the lowest
+-- rank that applies.
 --     refuse test why next     refused where the test holds, else what comes after
 --     first rows               the first row that applies
---     ascending rows           no row has a lower number than the row before it: computed, since the numbers are known
+--     ascending rows           no row has a lower rank than the row before it: computed, since the numbers are known
 --     or-else o next           the outcome of the first rows where they refuse, else that of the later ones
 -- Theorems:
 --     first-is                      of ascending rows the first that applies is the lowest
@@ -17,7 +17,7 @@ use native.Mathlib.Nat.{le-trans}
 use lib.Dec.{T, leb, leb→le}
 use borrow.Author.Tests.{le-ltb}
 use mir.Facts.{and-yes, yes-and}
-use Rattle.refusal.specs.Refusal.{number}
+use Rattle.refusal.specs.Rank.{rank}
 use Rattle.refusal.specs.Lowest.{Condition, lower, lowest}
 use Rattle.refusal.specs.declared.Refusal.{Refusal}
 use Rattle.refusal.specs.declared.Outcome.{Outcome}
@@ -34,38 +34,38 @@ first (c ∷ rows) = refuse (c .applies) (c .why) (first rows)
 abbrev pub ascending : List Condition → Bool
 ascending [] = true
 ascending (c ∷ []) = true
-ascending (c ∷ d ∷ rows) = leb (number (c .why)) (number (d .why)) && ascending (d ∷ rows)
+ascending (c ∷ d ∷ rows) = leb (rank (c .why)) (rank (d .why)) && ascending (d ∷ rows)
 
--- every refusal that the outcome can be has at least the number n
+-- every refusal that the outcome can be has at least the rank n
 abbrev AtLeast : ℕ → Outcome → Type 0
 AtLeast n Done = Unit {0}
-AtLeast n (Refused why) = n ≤ number why
+AtLeast n (Refused why) = n ≤ rank why
 
 weaken : {m n : ℕ} (o : Outcome) → m ≤ n → AtLeast n o → AtLeast m o
 weaken Done l h = tt
 weaken (Refused why) l h = le-trans l h
 
-later : (c : Condition) (rows : List Condition) → T (ascending (c ∷ rows)) → AtLeast (number (c .why)) (first rows)
+later : (c : Condition) (rows : List Condition) → T (ascending (c ∷ rows)) → AtLeast (rank (c .why)) (first rows)
 later c [] t = tt
-later c (d ∷ rows) t = pick (d .applies) (later d rows (and-yes (leb (number (c .why)) (number (d .why))) (ascending (d ∷ rows)) t .1))
+later c (d ∷ rows) t = pick (d .applies) (later d rows (and-yes (leb (rank (c .why)) (rank (d .why))) (ascending (d ∷ rows)) t .1))
   where
-    order : number (c .why) ≤ number (d .why)
-    order = leb→le _ _ (and-yes (leb (number (c .why)) (number (d .why))) (ascending (d ∷ rows)) t .0)
+    order : rank (c .why) ≤ rank (d .why)
+    order = leb→le _ _ (and-yes (leb (rank (c .why)) (rank (d .why))) (ascending (d ∷ rows)) t .0)
 
-    pick : (b : Bool) → AtLeast (number (d .why)) (first rows) → AtLeast (number (c .why)) (refuse b (d .why) (first rows))
+    pick : (b : Bool) → AtLeast (rank (d .why)) (first rows) → AtLeast (rank (c .why)) (refuse b (d .why) (first rows))
     pick true h = order
     pick false h = weaken (first rows) order h
 
 rest : (c : Condition) (rows : List Condition) → T (ascending (c ∷ rows)) → T (ascending rows)
 rest c [] t = tt
-rest c (d ∷ rows) t = and-yes (leb (number (c .why)) (number (d .why))) (ascending (d ∷ rows)) t .1
+rest c (d ∷ rows) t = and-yes (leb (rank (c .why)) (rank (d .why))) (ascending (d ∷ rows)) t .1
 
-lower-first : (why : Refusal) (o : Outcome) → AtLeast (number why) o → lower why o ≡ Refused why
+lower-first : (why : Refusal) (o : Outcome) → AtLeast (rank why) o → lower why o ≡ Refused why
 unfolding lower
 lower-first why Done h = refl
 lower-first why (Refused other) h = ap (λ b. cond b (Refused other) (Refused why)) (le-ltb _ _ h)
 
-one-row : (b : Bool) (why : Refusal) (o : Outcome) → AtLeast (number why) o → cond b (lower why o) o ≡ refuse b why o
+one-row : (b : Bool) (why : Refusal) (o : Outcome) → AtLeast (rank why) o → cond b (lower why o) o ≡ refuse b why o
 one-row true why o h = lower-first why o h
 one-row false why o h = refl
 
@@ -92,7 +92,7 @@ left-ascending : (rows more : List Condition) → T (ascending (rows ++ more)) �
 left-ascending [] more t = tt
 left-ascending (c ∷ []) more t = tt
 left-ascending (c ∷ d ∷ rows) more t =
-    let order = leb (number (c .why)) (number (d .why)) in
+    let order = leb (rank (c .why)) (rank (d .why)) in
     let both = and-yes order (ascending (d ∷ rows ++ more)) t in
     yes-and order (ascending (d ∷ rows)) (both .0) (left-ascending (d ∷ rows) more (both .1))
 

@@ -1,4 +1,5 @@
 pub mod Limits
 pub mod Refusal
+pub mod Rank
 pub mod Lowest
 pub mod Contract

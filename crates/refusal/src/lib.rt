@@ -1,4 +1,4 @@
-// The refusals of the engine's calls, each with its number, and the limits of lists and albums.
+// The refusals of the engine's calls, each with its number, and the limits of lists, albums and lines.
 ghost use mathlib.Core.Path.{_≡_};
 ghost use Rattle.refusal.specs.Refusal.{number, outcomeNumber};
 
@@ -14,6 +14,11 @@ pub const ENTRY_BYTES: usize = 4;
 
 pub const MAX_BYTES: usize = 1 + MAX_LISTS * (ENTRY_BYTES + 2 * MAX_WORDS);
 
+// The longest line of algebra, and the most parentheses that may be open together in it.
+pub const MAX_LINE: usize = 256;
+
+pub const MAX_OPEN: usize = 32;
+
 pub enum Refusal {
     Count,
     Contents,
@@ -26,6 +31,8 @@ pub enum Refusal {
     AllZero,
     Misfit,
     NoInverse,
+    Line,
+    Nesting,
 }
 
 // The answer of a call that hands back no value.
@@ -50,6 +57,8 @@ pub fn number_of(why: Refusal) -> u8
         Refusal::AllZero => 9,
         Refusal::Misfit => 10,
         Refusal::NoInverse => 11,
+        Refusal::Line => 12,
+        Refusal::Nesting => 13,
     }
 }
 

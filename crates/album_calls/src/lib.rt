@@ -17,8 +17,9 @@ ghost use Rattle.album_reader.specs.Calls.{listedReply, readRows, readAnswer, r
 ghost use Rattle.album_writer.specs.Calls.{writtenReply, writeRows, writeAnswer, writeWritten};
 ghost use Rattle.list_gcd.specs.Calls.{gcdReply};
 ghost use Rattle.album_gcd.specs.Calls.{albumGcdRows, albumGcdAnswer, albumGcdWritten, AlbumGreatest};
-ghost use Rattle.statement.specs.Demand1.{Demand1, EmptyRefused, slice};
-ghost use Rattle.statement.specs.Demand2Calls.{ReadSo, BodySo, WriteSo};
+ghost use Rattle.line_values.specs.Calls.{lineRows, lineValue, lateOf, lineAnswer, lineWritten};
+ghost use Rattle.statement.specs.Demand1.{Demand1After, Demand1, EmptyRefused, slice};
+ghost use Rattle.statement.specs.Demand2Calls.{ReadSo, BodySo, WriteSo, LineSo};
 use album_reader::Listed;
 use album_writer::Written;
 use list_gcd::Gcd;
@@ -73,4 +74,15 @@ pub fn gcd_of_album(album: &[u8], h: &mut [u16]) -> Gcd
     ensures demand3 { λ r. ⌜ AlbumGreatest F65521 (listsOf (given album)) (now (h .exit)) r ⌝ }
 {
     album_gcd::album_gcd_over(0, album, h)
+}
+
+// What a line of algebra says of the album's lists, in a slice of as many words as the longest list has, zeros after it: `(0+1)*D 2-3` is
+// the product of the sum of lists 0 and 1 and the derivative of list 2, less list 3.
+pub fn line_value(album: &[u8], line: &[u8], out: &mut [u16]) -> Listed
+    ensures answer { λ r. ⌜ listedReply r ≡ lineAnswer 0 (given album) (given line) (given out) ⌝ }
+    ensures writes { λ _. ⌜ now (out .exit) ≡ lineWritten 0 (given album) (given line) (given out) ⌝ }
+    ensures demand1 { λ r. ⌜ Demand1After (lineRows p maxWords (given album) (given line) (given out)) (lateOf (lineValue F65521 maxWords (given album) (given line))) (listedReply r .number) (slice out ∷ []) ⌝ }
+    ensures demand2 { λ r. ⌜ LineSo F65521 (given album) (given line) (now (out .exit)) (listedReply r) ⌝ }
+{
+    line_values::line_value_over(0, album, line, out)
 }

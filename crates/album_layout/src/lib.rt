@@ -81,8 +81,8 @@ pub fn body_at(album: &[u8], i: usize) -> &[u8]
     &album[from..to]
 }
 
-// Whether the album breaks its layout: `at` is where the next body has to start.
-fn judge_layout(album: &[u8]) -> Outcome
+// What the layout of an album refuses: `at` is where the next body has to start.
+pub fn judge_layout(album: &[u8]) -> Outcome
     ensures { λ r. ⌜ r ≡ lowest (layoutRefusals (given album)) ⌝ }
 {
     if album.len() == 0 {
@@ -119,7 +119,7 @@ fn judge_layout(album: &[u8]) -> Outcome
 }
 
 // Whether a list of the album has a loose word: the bodies' words stand one after the other up to the end.
-fn has_loose_word(field: u8, album: &[u8]) -> bool
+pub fn has_loose_word(field: u8, album: &[u8]) -> bool
     requires { ⌜ Obeys (now album) ⌝ }
     ensures { λ r. ⌜ r ≡ anyOf (hasLoose (modulus field)) (listsOf (given album)) ⌝ }
 {

@@ -4,18 +4,19 @@
 --     Turn               the next line's list: it is within the limits, and there is room for it
 --     loaded-inside      the words and degrees that are read lie in the buffers
 -- Assumes nothing.
-use mathlib.Core.Path.{_≡_, refl, sym, _∙_, ap, ap₂}
+use mathlib.Core.Path.{_≡_, refl, sym, _∙_, ap}
 use mathlib.Core.Bool.{false}
 use mathlib.Core.List.{List, [], _∷_, _++_, map, append-assoc, append-nil, map-append}
 use Prim.Native.Nat.{ℕ, _+_, _-_, _*_, _≤_, _<_}
 use native.Mathlib.Numerals.{add-one}
 use native.Mathlib.Omega.{arith}
 use lib.ListN.{length, take, drop, set, length-append, length-set, length-take, length-map}
-use lib.Seq.{length-take-le, take-suc-set, take-all, take-at}
+use lib.Seq.{take-suc-set, take-all}
 use Rattle.refusal.specs.Limits.{maxLists, maxWords}
 use Rattle.refusal.proofs.First.{or-false}
 use Rattle.lists.specs.Degrees.{naiveDegree}
 use Rattle.lists.specs.Refused.{wrongLength, anyOf}
+use Rattle.lists.proofs.Parts.{part-filled}
 use Rattle.album_writer.specs.Cut.{joined}
 use Rattle.bind_text.specs.Text.{⟨line-end⟩, ⟨space⟩, linesOf, valueOf, listOf, listsIn}
 use Rattle.bind_text.specs.Internal.{PartEnd, capped, Loaded}
@@ -99,13 +100,6 @@ degree-is c = refl
 none-joined : joined [] ≡ []
 unfolding joined
 none-joined = refl
-
--- a part that is lent, filled
-part-filled : (words part rest : List ℕ) (used n : ℕ) → used ≤ length words → length part ≡ n
-    → take (used + n) (take used words ++ (part ++ rest)) ≡ take used words ++ part
-part-filled words part rest used n l e =
-    ap (take (used + n)) (sym (append-assoc (take used words) part rest))
-    ∙ take-at (take used words ++ part) rest (used + n) (length-append (take used words) part ∙ ap₂ _+_ (length-take-le used words l) e)
 
 module _ {text words degrees : List ℕ} {used k at : ℕ} (w : Partway text words degrees used k at) where
   module _ {end n : ℕ} (l : at < length text) (e : PartEnd ⟨line-end⟩ text at end)

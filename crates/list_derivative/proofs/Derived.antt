@@ -1,8 +1,8 @@
--- The words of a derivative, one by one: the loop's n · (c_(k+1) - c_k), and the one 0 of a constant.
+-- The words of a derivative, one by one: the loop's n · (c_(k+1) - c_k), and the one 0 of a constant; and their number.
 -- Assumes nothing.
-use mathlib.Core.Path.{_≡_, sym, _∙_, ap, ap₂}
+use mathlib.Core.Path.{_≡_, refl, sym, _∙_, ap, ap₂}
 use mathlib.Core.List.{List, [], _∷_}
-use Prim.Native.Nat.{ℕ, suc, _+_, _-_, _*_, _%_, _<_}
+use Prim.Native.Nat.{ℕ, zero, suc, _+_, _-_, _*_, _%_, _<_, max}
 use native.Mathlib.Nat.{mod-lt}
 use native.Mathlib.Numerals.{add-one}
 use native.Mathlib.Omega.{arith}
@@ -17,6 +17,8 @@ use Rattle.lists.specs.Degrees.{naiveDegree}
 use Rattle.lists.specs.Lists.{word}
 use Rattle.lists.specs.Operations.{derivativeAt, derivative}
 use Rattle.lists.proofs.Words.{value-is}
+use Rattle.lists.proofs.Calculus.{length-derivative}
+use Rattle.list_derivative.specs.Calls.{derivativeWords}
 
 module _ (F : PrimeField) where
   open CommRing (scalars F) using (neg as ⊖_, add as _⊕_, mul as _⊗_)
@@ -24,6 +26,18 @@ module _ (F : PrimeField) where
   infixl 65 _⊕_
   infixl 70 _⊗_
   infix 80 ⊖_
+  constant-length : (f : List ℕ) → naiveDegree f ≡ 0 → length (derivative F f) ≡ 1
+  unfolding derivative
+  constant-length f e = simp (eq-eqb (naiveDegree f) 0 e)
+
+  pub derivative-length : (f : List ℕ) → length (derivative F f) ≡ derivativeWords f
+  unfolding derivativeWords
+  derivative-length f = go (naiveDegree f) refl
+    where
+      go : (n : ℕ) → naiveDegree f ≡ n → length (derivative F f) ≡ max (naiveDegree f) 1
+      go zero e = constant-length f e ∙ omega (arith, e)
+      go (suc n) e = length-derivative F f n e ∙ omega (arith, e)
+
   pub constant : (f out : List ℕ) → length f ≡ 1 → length out ≡ 1 → set out 0 0 ≡ derivative F f
   unfolding derivative naiveDegree
   constant f [] e l = absurd (omega arith)

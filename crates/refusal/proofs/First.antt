@@ -3,7 +3,6 @@
 --     refuse test why next     refused where the test holds, else what comes after
 --     first rows               the first row that applies
 --     ascending rows           no row has a lower rank than the row before it: computed, since the numbers are known
---     or-else o next           the outcome of the first rows where they refuse, else that of the later ones
 -- Theorems:
 --     first-is                      of ascending rows the first that applies is the lowest
 --     first-then                    the same where one test answers several rows
@@ -19,6 +18,7 @@ use borrow.Author.Tests.{le-ltb}
 use mir.Facts.{and-yes, yes-and}
 use Rattle.refusal.specs.Rank.{rank}
 use Rattle.refusal.specs.Lowest.{Condition, lower, lowest}
+pub use Rattle.refusal.specs.Lowest.{or-else}
 use Rattle.refusal.specs.declared.Refusal.{Refusal}
 use Rattle.refusal.specs.declared.Outcome.{Outcome}
 use Rattle.refusal.specs.declared.Outcome.the-variants.{Done, Refused}
@@ -75,10 +75,6 @@ first-is [] t = refl
 first-is (c ∷ rows) t =
     ap (λ o. cond (c .applies) (lower (c .why) o) o) (first-is rows (rest c rows t))
     ∙ one-row (c .applies) (c .why) (first rows) (later c rows t)
-
-abbrev pub or-else : Outcome → Outcome → Outcome
-or-else Done next = next
-or-else (Refused why) next = Refused why
 
 first-append : (rows more : List Condition) → first (rows ++ more) ≡ or-else (first rows) (first more)
 first-append [] more = refl

@@ -6,6 +6,7 @@
 --     lowest rows             the refusal of the lowest rank among the rows that apply; Done where none does
 --     Applies why rows        the refusal stands in a row that applies
 --     IsLowest rows o         o is a refusal that applies, and none of a lower rank does; or it is Done, and none applies
+--     or-else o next          the outcome of the first tests where they refuse, else that of the later ones
 -- Theorem:
 --     lowest-is     `lowest` is the lowest
 -- Assumes nothing.
@@ -46,6 +47,10 @@ Applies why (c ∷ rows) = ((c .why ≡ why) × (c .applies ≡ true)) ⊎ Appli
 abbrev pub IsLowest : List Condition → Outcome → Type 0
 IsLowest rows Done = (why : Refusal) → Applies why rows → ⊥
 IsLowest rows (Refused why) = Applies why rows × ((other : Refusal) → Applies other rows → rank why ≤ rank other)
+
+abbrev pub or-else : Outcome → Outcome → Outcome
+or-else Done next = next
+or-else (Refused why) next = Refused why
 
 not-both : {b : Bool} → b ≡ false → b ≡ true → ⊥
 not-both e f = let z : _≡_ {A = ℕ} 0 1 = cc in omega arith

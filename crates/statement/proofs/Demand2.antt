@@ -9,7 +9,7 @@ use native.Mathlib.Nat.{le-of-lt, add-comm}
 use native.Mathlib.Omega.{arith}
 use lib.Dec.{eqb}
 use lib.ListN.{length}
-use borrow.Author.Tests.{eq-eqb, eqb-false}
+use borrow.Author.Tests.{eqb-false}
 use Rattle.algebra.specs.Ring.{CommRing}
 use Rattle.algebra.specs.Evaluation.{ValueAt, eval}
 use Rattle.algebra.proofs.Evaluation.{eval-more}
@@ -34,14 +34,15 @@ use Rattle.lists.proofs.Raises.{length-raise, coefficients-raise, raise-meaning
 use Rattle.lists.proofs.Sums.{length-sum, coefficients-sum, sum-meaning, length-difference, coefficients-difference, difference-meaning}
 use Rattle.lists.proofs.Extents.{extent-largest, after-significant}
 use Rattle.lists.proofs.Trims.{length-trim, coefficients-trim, trim-scaled}
-use Rattle.lists.proofs.Calculus.{length-derivative, coefficients-derivative, derivative-meaning, evaluate-lt, evaluate-meaning}
+use Rattle.lists.proofs.Calculus.{coefficients-derivative, derivative-meaning, evaluate-lt, evaluate-meaning}
 use Rattle.lists.proofs.Judged.{one-listed}
 use Rattle.list_product.specs.Calls.{productRows, raiseRows}
 use Rattle.list_product.proofs.Judged.{product-fits, raise-fits}
 use Rattle.list_sum.specs.Calls.{sumRows}
 use Rattle.list_sum.proofs.Judged.{sum-fits}
 use Rattle.list_extent.specs.Calls.{trimRows}
-use Rattle.list_derivative.specs.Calls.{derivativeWords, derivativeRows}
+use Rattle.list_derivative.specs.Calls.{derivativeRows}
+use Rattle.list_derivative.proofs.Derived.{derivative-length}
 use Rattle.ordinary_theory.proofs.Ordinary.{ordinary-so}
 use Rattle.list_ordinary_division.proofs.Judged.{ordinary-fits}
 use Rattle.album_layout.proofs.Written.{album-read, album-obeys, album-is-bytes}
@@ -147,18 +148,6 @@ module _ (F : PrimeField) where
         coefficients-listed F wide
         (one-listed (F .p) maxWords (positive F) f (or-else-done _ _ (sym (first-then (listRefusals (F .p) maxWords (f ∷ [])) _ tt) ∙ e) .0))
 
-    constant-length : (f : List ℕ) → naiveDegree f ≡ 0 → length (derivative F f) ≡ 1
-    unfolding derivative
-    constant-length f e = simp (eq-eqb (naiveDegree f) 0 e)
-
-    derivative-length : (f : List ℕ) → length (derivative F f) ≡ derivativeWords f
-    unfolding derivativeWords
-    derivative-length f = go (naiveDegree f) refl
-      where
-        go : (n : ℕ) → naiveDegree f ≡ n → length (derivative F f) ≡ max (naiveDegree f) 1
-        go zero e = constant-length f e ∙ omega (arith, e)
-        go (suc n) e = length-derivative F f n e ∙ omega (arith, e)
-
   pub demand2 : maxWords ≤ F .p → Demand2 F
   demand2 wide =
       record {
@@ -178,7 +167,7 @@ module _ (F : PrimeField) where
         of-trim = trim-is wide;
         of-derivative =
             λ f out e.
-            the-list wide _ _ _ (derivative-length wide f) (coefficients-derivative F f (derivative-listed wide f out e)) (derivative-meaning F f);
+            the-list wide _ _ _ (derivative-length F f) (coefficients-derivative F f (derivative-listed wide f out e)) (derivative-meaning F f);
         of-value = the-value;
         of-division = demand3 F wide .of-division;
         of-ordinary-division = λ g f q r e. ordinary-so F g f (ordinary-fits F maxWords wide g f q r (sym e) .dividable);

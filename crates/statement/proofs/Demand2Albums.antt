@@ -1,5 +1,6 @@
 -- The calls on an album: their contracts imply what demand 2 says of them.
 --     read-so, body-so     of read_list and body
+--     fine-passes          an album that obeys the layout and has no loose word is not refused
 --     held-fine            the album of lists without a loose word obeys the layout and reads as these lists
 --     contents-so          of contents, whose slice is of structs: the two clauses of its contract imply it
 -- Assumes nothing.
@@ -49,7 +50,7 @@ pub record Fine (s : List ℕ) : Type 0 where
   pub laid : brokenLayout s ≡ false
   pub tight : anyOf (hasLoose p) (listsOf s) ≡ false
 
-fine-passes : (s : List ℕ) → Fine s → Passed p s
+pub fine-passes : (s : List ℕ) → Fine s → Passed p s
 unfolding lowest albumRefusals
 fine-passes s f = simp (f .counted, f .laid, f .tight)
 

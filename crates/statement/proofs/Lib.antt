@@ -4,6 +4,7 @@ pub mod Demand2
 pub mod Demand2Calls
 pub mod Demand2Albums
 pub mod Demand2Writer
+pub mod Demand2Lines
 pub mod RoundTrip
 pub mod Demand3
 pub mod Demand3Calls

@@ -13,11 +13,17 @@
 --     WriteSo              the bytes that are written are such an album: of the lists that the degrees cut from the words, so that all their
 --                          words and degrees are those given; the bytes after it are what they were; and where the words and degrees are
 --                          those of such an album, that album is written, byte for byte
+--     meantBy              the polynomial that a tree says over some lists, by the operations on polynomials
+--     degreeBy             the naive degree that document 01's operations give it: of a sum the larger, of a product the sum, of a derivative
+--                          one less, and 0 of a constant's
+--     LineSo               of an album that holds some lists, a line reads as one tree, whose operands are among the lists; the slice holds the
+--                          one list of its naive degree, which is answered, that means its polynomial, and zeros after it
 --     HostProductSo        the bytes at exit are those of a list, and it is the one that means the product of the lists whose bytes were given
 -- Assumes nothing.
 use mathlib.Core.Path.{_≡_}
+use mathlib.Core.Bool.{false}
 use mathlib.Core.List.{List, [], _∷_, map}
-use Prim.Native.Nat.{ℕ, suc, _+_, _≤_, _<_, max}
+use Prim.Native.Nat.{ℕ, suc, _+_, _-_, _≤_, _<_, max}
 use lib.ListN.{length, getD, take, drop}
 use Rattle.algebra.specs.Ring.{CommRing}
 use Rattle.algebra.specs.Derivative as D
@@ -35,6 +41,8 @@ use Rattle.album_layout.specs.Written.{albumOf, Writable}
 use Rattle.album_writer.specs.Cut.{cutBy, joined}
 use Rattle.album_writer.specs.Calls.{overFront}
 use Rattle.album_contents.specs.declared.Entry.{Entry}
+use Rattle.lines.specs.Grammar.{tokens, Tree, list, sum, difference, product, derivative, expression, Reads}
+use Rattle.line_values.specs.Values.{lacks}
 use Rattle.statement.specs.Meant.{TheWord, TheValue, TheList, TheTrim, IsExtent}
 use Rattle.statement.specs.Contained.{none}
 
@@ -45,9 +53,16 @@ pub record ExtentSo (f : List ℕ) (r : Reply) : Type 0 where
   pub extent : (e : ℕ) → Answers r (e ∷ []) → IsExtent f e
   pub zero-list : Answers r [] → (k : ℕ) → getD f k 0 ≡ 0
 
+unfoldable pub degreeBy : List (List ℕ) → Tree → ℕ
+degreeBy lists (list n) = naiveDegree (getD lists n [])
+degreeBy lists (sum a b) = max (degreeBy lists a) (degreeBy lists b)
+degreeBy lists (difference a b) = max (degreeBy lists a) (degreeBy lists b)
+degreeBy lists (product a b) = degreeBy lists a + degreeBy lists b
+degreeBy lists (derivative a) = degreeBy lists a - 1
+
 module _ (F : PrimeField) where
   open CommRing (scalars F) using (Carrier as K, neg as ⊖_, add as _⊕_, mul as _⊗_)
-  open CommRing (F .series .ring) using (neg as -ˢ_, add as _+ˢ_, mul as _*ˢ_)
+  open CommRing (F .series .ring) using (Carrier as S, neg as -ˢ_, add as _+ˢ_, mul as _*ˢ_)
 
   infixl 65 _⊕_
   infixl 70 _⊗_
@@ -133,6 +148,28 @@ module _ (F : PrimeField) where
     pub writes : (n : ℕ) → Answers r (n ∷ []) → AlbumWritten words degrees old out n
     pub again : (s : List ℕ) (lists : List (List ℕ)) → Holds s lists → words ≡ joined lists → degrees ≡ map naiveDegree lists
         → maxBytes ≤ length old → Answers r (length s ∷ []) × (out ≡ overFront s old)
+
+  unfoldable pub meantBy : List (List ℕ) → Tree → S
+  meantBy lists (list n) = meaning F (getD lists n [])
+  meantBy lists (sum a b) = meantBy lists a +ˢ meantBy lists b
+  meantBy lists (difference a b) = meantBy lists a +ˢ -ˢ meantBy lists b
+  meantBy lists (product a b) = meantBy lists a *ˢ meantBy lists b
+  meantBy lists (derivative a) = D.derivative (F .series) (meantBy lists a)
+
+  pub record LineValue (s line out : List ℕ) (n : ℕ) : Type 0 where
+    pub lists : List (List ℕ)
+    pub album : Holds s lists
+    pub tree : Tree
+    pub reads : Reads expression (tokens line) tree
+    pub only : (other : Tree) → Reads expression (tokens line) other → other ≡ tree
+    pub has : lacks (length lists) tree ≡ false
+    pub degree : n ≡ degreeBy lists tree
+    pub result : List ℕ
+    pub is : TheList F (suc n) (meantBy lists tree) result
+    pub words : out ≡ padded maxWords result
+
+  abbrev pub LineSo : (s line out : List ℕ) → Reply → Type 0
+  LineSo s line out r = (n : ℕ) → Answers r (n ∷ []) → LineValue s line out n
 
   -- n is the number that a host is answered
   abbrev pub HostProductSo : (f g out : List ℕ) → ℕ → Type 0

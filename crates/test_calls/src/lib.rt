@@ -24,6 +24,7 @@ ghost use Rattle.album_reader.specs.Calls.{listedReply, readAnswer, readWritten
 ghost use Rattle.album_writer.specs.Calls.{writtenReply, writeAnswer, writeWritten};
 ghost use Rattle.album_contents.specs.Calls.{contentsAnswer, contentsWritten};
 ghost use Rattle.album_gcd.specs.Calls.{albumGcdAnswer, albumGcdWritten};
+ghost use Rattle.line_values.specs.Calls.{lineAnswer, lineWritten};
 ghost use Rattle.test_calls.specs.Lent.{fitted};
 use album_contents::Entry;
 use album_reader::Listed;
@@ -244,6 +245,21 @@ pub extern "C" fn test_read_list(
     ensures values { λ _. ⌜ now (answer .exit) ≡ fitted (readAnswer 0 (given album) i (given out) .values) (given answer) ⌝ }
 {
     note_listed(album_calls::read_list(album, i, out), answer)
+}
+
+// The value of a line of algebra over an album; the answer is its naive degree.
+#[no_mangle]
+pub extern "C" fn test_line_value(
+    album: &[u8],
+    line: &[u8],
+    out: &mut [u16],
+    answer: &mut [usize],
+) -> u8
+    ensures number { λ r. ⌜ r ≡ lineAnswer 0 (given album) (given line) (given out) .number ⌝ }
+    ensures writes { λ _. ⌜ now (out .exit) ≡ lineWritten 0 (given album) (given line) (given out) ⌝ }
+    ensures values { λ _. ⌜ now (answer .exit) ≡ fitted (lineAnswer 0 (given album) (given line) (given out) .values) (given answer) ⌝ }
+{
+    note_listed(album_calls::line_value(album, line, out), answer)
 }
 
 // The album of some lists; the answer is the number of its bytes.

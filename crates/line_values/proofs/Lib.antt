@@ -1,0 +1,9 @@
+pub mod Machine
+pub mod Programs
+pub mod Values
+pub mod Stacks
+pub mod Operations
+pub mod Steps
+pub mod Running
+pub mod Judging
+pub mod Answers

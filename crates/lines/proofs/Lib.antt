@@ -1,0 +1,10 @@
+pub mod Readings
+pub mod Lines
+pub mod Operands
+pub mod Height
+pub mod Peak
+pub mod Examples
+pub mod Scan
+pub mod Signs
+pub mod Turns
+pub mod Whole

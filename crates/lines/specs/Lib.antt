@@ -1,0 +1,6 @@
+pub mod Grammar
+pub mod Reader
+pub mod Program
+pub mod Height
+pub mod Lines
+pub mod Internal

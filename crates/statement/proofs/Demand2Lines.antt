@@ -16,6 +16,7 @@ use Rattle.algebra.specs.PrimeField.{PrimeField}
 use Rattle.refusal.specs.Limits.{maxLists, maxWords}
 use Rattle.refusal.specs.Refusal.{Reply, reply, written}
 use Rattle.refusal.specs.Lowest.{lowest, or-else}
+use Rattle.refusal.specs.declared.Refusal.the-variants.{Over}
 use Rattle.refusal.specs.declared.Outcome.the-variants.{Done}
 use Rattle.refusal.proofs.Answers.{done-reply}
 use Rattle.refusal.proofs.First.{first-is, refuse-done, or-else-done, or-false}
@@ -65,18 +66,18 @@ module _ (F : PrimeField) (most : ℕ) (wide : most ≤ F .p) where
   ValueMeans n s (value c) = Means n s c
   ValueMeans n s (refused why) = Unit {0}
 
-  of-both : (f : List ℕ → List ℕ → Valued) {n m k : ℕ} {s t u : S} → ((a b : List ℕ) → Means n s a → Means m t b → ValueMeans k u (f a b))
+  of-both : (f : List ℕ → List ℕ → Valued) (n m k : ℕ) (s t u : S) → ((a b : List ℕ) → Means n s a → Means m t b → ValueMeans k u (f a b))
       → (x y : Valued) → ValueMeans n s x → ValueMeans m t y → ValueMeans k u (both f x y)
   unfolding both
-  of-both f h (value a) (value b) l m = h a b l m
-  of-both f h (value a) (refused why) l m = tt
-  of-both f h (refused why) y l m = tt
+  of-both f n m k s t u h (value a) (value b) x y = h a b x y
+  of-both f n m k s t u h (value a) (refused why) x y = tt
+  of-both f n m k s t u h (refused why) v x y = tt
 
-  of-one : (f : List ℕ → Valued) {n k : ℕ} {s u : S} → ((a : List ℕ) → Means n s a → ValueMeans k u (f a))
+  of-one : (f : List ℕ → Valued) (n k : ℕ) (s u : S) → ((a : List ℕ) → Means n s a → ValueMeans k u (f a))
       → (x : Valued) → ValueMeans n s x → ValueMeans k u (one f x)
   unfolding one
-  of-one f h (value a) l = h a l
-  of-one f h (refused why) l = tt
+  of-one f n k s u h (value a) x = h a x
+  of-one f n k s u h (refused why) x = tt
 
   module _ {n m : ℕ} {s t : S} (a b : List ℕ) (l : Means n s a) (r : Means m t b) where
     degree-a : naiveDegree a ≡ n
@@ -112,7 +113,7 @@ module _ (F : PrimeField) (most : ℕ) (wide : most ≤ F .p) where
     means-product = go (ltb most (suc (naiveDegree a + naiveDegree b))) refl
       where
         go : (x : Bool) → ltb most (suc (naiveDegree a + naiveDegree b)) ≡ x
-            → ValueMeans (n + m) (s *ˢ t) (cond x (refused _) (value (of.product F a b)))
+            → ValueMeans (n + m) (s *ˢ t) (cond x (refused Over) (value (of.product F a b)))
         go true e = tt
         go false e =
             let h = ltb-false most (suc (naiveDegree a + naiveDegree b)) e in
@@ -133,21 +134,21 @@ module _ (F : PrimeField) (most : ℕ) (wide : most ≤ F .p) where
       }
 
   module _ (lists : List (List ℕ)) (each : (i : ℕ) → i < length lists → IsList (F .p) most (getD lists i [])) where
-    pub value-means : (e : Tree) → lacks (length lists) e ≡ false → ValueMeans (degreeBy lists e) (meantBy F lists e) (valueOf F most lists e)
+    value-means : (e : Tree) → lacks (length lists) e ≡ false → ValueMeans (degreeBy lists e) (meantBy F lists e) (valueOf F most lists e)
     unfolding valueOf lacks degreeBy meantBy
     value-means (list n) h =
         let l = each n (leb-false (length lists) n h) in
         record { listed = l; size = length-naive (getD lists n []) (l .some); means = refl }
     value-means (sum a b) h =
         let d = or-false (lacks (length lists) a) (lacks (length lists) b) h in
-        of-both (added F most) means-sum (valueOf F most lists a) (valueOf F most lists b) (value-means a (d .0)) (value-means b (d .1))
+        of-both (added F most) (degreeBy lists a) (degreeBy lists b) _ (meantBy F lists a) (meantBy F lists b) _ means-sum (valueOf F most lists a) (valueOf F most lists b) (value-means a (d .0)) (value-means b (d .1))
     value-means (difference a b) h =
         let d = or-false (lacks (length lists) a) (lacks (length lists) b) h in
-        of-both (subtracted F most) means-difference (valueOf F most lists a) (valueOf F most lists b) (value-means a (d .0)) (value-means b (d .1))
+        of-both (subtracted F most) (degreeBy lists a) (degreeBy lists b) _ (meantBy F lists a) (meantBy F lists b) _ means-difference (valueOf F most lists a) (valueOf F most lists b) (value-means a (d .0)) (value-means b (d .1))
     value-means (product a b) h =
         let d = or-false (lacks (length lists) a) (lacks (length lists) b) h in
-        of-both (multiplied F most) means-product (valueOf F most lists a) (valueOf F most lists b) (value-means a (d .0)) (value-means b (d .1))
-    value-means (derivative a) h = of-one (derived F most) means-derivative (valueOf F most lists a) (value-means a h)
+        of-both (multiplied F most) (degreeBy lists a) (degreeBy lists b) _ (meantBy F lists a) (meantBy F lists b) _ means-product (valueOf F most lists a) (valueOf F most lists b) (value-means a (d .0)) (value-means b (d .1))
+    value-means (derivative a) h = of-one (derived F most) (degreeBy lists a) _ (meantBy F lists a) _ means-derivative (valueOf F most lists a) (value-means a h)
 
 -- what a call knows to which no row applies
 record Accepted (s line : List ℕ) : Type 0 where

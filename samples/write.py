@@ -1,4 +1,4 @@
-"""Writes the albums and the texts of samples/ from the lists below: run `python3 samples/write.py`."""
+"""Writes the albums, the texts and the lines of samples/ from what stands below: run `python3 samples/write.py`."""
 from math import comb
 from pathlib import Path
 
@@ -68,6 +68,7 @@ SAMPLES = {
     "zero_lists": album(ZERO_LISTS),
     "all_zero": album([[0], [0, 0]]),
     "one_list": album([[5, 7, 0, 0]]),
+    "four_lists": album([[1, 2], [3, 4], [0, 1, 4], [5, 6]]),
     "largest": album(LARGEST),
     "seventeen_lists": bytes([17]) + EXAMPLE_BYTES[1:],
     "cut": EXAMPLE_BYTES[:-1],
@@ -88,7 +89,21 @@ TEXTS = {
     "word_too_large": text(LOOSE_WORD),
 }
 
+# samples/README.md names an album for each
+LINES = {
+    "example": "(0+1)*D 2-3",
+    "from_the_left": "0-1-2",
+    "derivative_first": "D 0*1",
+    "no_such_list": "0+4",
+    "over": "0*1",
+    "two_operators": "0+-1",
+    "parted_digits": "0 0+1",
+    "deep": 33 * "(" + "0" + 33 * ")",
+}
+
 for name, content in SAMPLES.items():
     Path(__file__).with_name(name + ".album").write_bytes(content)
 for name, content in TEXTS.items():
     Path(__file__).with_name(name + ".txt").write_bytes(content.encode())
+for name, content in LINES.items():
+    Path(__file__).with_name(name + ".line").write_bytes(content.encode() + b"\n")

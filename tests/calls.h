@@ -63,6 +63,10 @@ uint8_t test_contents(const uint8_t *album, size_t album_len, test_entry *out, s
 uint8_t test_read_list(const uint8_t *album, size_t album_len, size_t i, uint16_t *out, size_t out_len, size_t *answer, size_t answer_len);
 uint8_t test_gcd_of_album(const uint8_t *album, size_t album_len, uint16_t *h, size_t h_len, size_t *answer, size_t answer_len);
 
+/* The value of a line of algebra over an album; out has 1,024 words. answer: the naive degree. */
+uint8_t test_line_value(const uint8_t *album, size_t album_len, const uint8_t *line, size_t line_len, uint16_t *out, size_t out_len,
+                        size_t *answer, size_t answer_len);
+
 /* Writes the album of lists that stand one after the other in words, degrees being their naive degrees, to the front of out, which has at
    least 32,833 bytes; those after the album are left as they came. answer: the number of bytes of the album. */
 uint8_t test_write_album(const uint16_t *words, size_t words_len, const uint16_t *degrees, size_t degrees_len, uint8_t *out, size_t out_len,

@@ -48,13 +48,18 @@ fn laid_out(album: &[u8], degree: ReadDegree) -> Result<Vec<List>, u8> {
     Ok(lists)
 }
 
-fn any_loose(lists: &[List]) -> bool {
+pub fn any_loose(lists: &[List]) -> bool {
     lists.iter().any(|list| model::is_loose(list))
+}
+
+/// The lists, where the album obeys its layout; loose words are not looked for.
+pub fn lists(album: &[u8]) -> Result<Vec<List>, u8> {
+    laid_out(album, degree)
 }
 
 /// The lists; 5 for a loose word in any of them.
 pub fn read(album: &[u8]) -> Result<Vec<List>, u8> {
-    let lists = laid_out(album, degree)?;
+    let lists = lists(album)?;
     model::refuse(&[(5, any_loose(&lists))])?;
     Ok(lists)
 }

@@ -27,11 +27,12 @@ pub enum Name {
     Contents,
     GcdOfAlbum,
     WriteAlbum,
+    LineValue,
 }
 
 /// Each call with the numbers that document 01's table and the orders after it can give it, 0 for completed. 11 is not among them:
 /// every word that is not 0 has an inverse. The search for the extent is there twice: for the extent, and for the words it read.
-pub const CALLS: [(Name, &[u8]); 23] = [
+pub const CALLS: [(Name, &[u8]); 24] = [
     (Name::FieldSum, &[0, 5]),
     (Name::FieldDifference, &[0, 5]),
     (Name::FieldProduct, &[0, 5]),
@@ -55,15 +56,17 @@ pub const CALLS: [(Name, &[u8]); 23] = [
     (Name::Contents, &[0, 1, 2, 5, 10]),
     (Name::GcdOfAlbum, &[0, 1, 2, 5, 9, 10]),
     (Name::WriteAlbum, &[0, 1, 2, 4, 5, 10]),
+    (Name::LineValue, &[0, 1, 2, 3, 5, 6, 10, 12, 13]),
 ];
 
 /// What is handed over, before a call and after it. `part` is where the bytes of a body or of a written album go, `answer` the
-/// values. An album is written from one list, the words of all its lists, and from their naive degrees.
+/// values. An album is written from one list, the words of all its lists, and from their naive degrees. A line is one of algebra.
 #[derive(Clone, Debug, Default, PartialEq)]
 pub struct Memory {
     pub lists: Vec<Vec<u16>>,
     pub degrees: Vec<u16>,
     pub album: Vec<u8>,
+    pub line: Vec<u8>,
     pub results: Vec<Vec<u16>>,
     pub part: Vec<u8>,
     pub answer: Vec<usize>,
@@ -95,7 +98,7 @@ struct Entry {
 
 type List = *const u16;
 type Slice = *mut u16;
-type Album = *const u8;
+type Bytes = *const u8;
 type Values = *mut usize;
 
 #[link(name = "test_calls", kind = "static")]
@@ -131,10 +134,10 @@ unsafe extern "C" {
         answer: Values,
         answer_len: usize,
     ) -> u8;
-    fn test_check(album: Album, album_len: usize, i: usize) -> u8;
-    fn test_body(album: Album, album_len: usize, i: usize, out: *mut u8, out_len: usize) -> usize;
+    fn test_check(album: Bytes, album_len: usize, i: usize) -> u8;
+    fn test_body(album: Bytes, album_len: usize, i: usize, out: *mut u8, out_len: usize) -> usize;
     fn test_read_list(
-        album: Album,
+        album: Bytes,
         album_len: usize,
         i: usize,
         out: Slice,
@@ -142,8 +145,8 @@ unsafe extern "C" {
         answer: Values,
         answer_len: usize,
     ) -> u8;
-    fn test_contents(album: Album, album_len: usize, out: *mut Entry, out_len: usize) -> u8;
-    fn test_gcd_of_album(album: Album, album_len: usize, h: Slice, h_len: usize, answer: Values, answer_len: usize) -> u8;
+    fn test_contents(album: Bytes, album_len: usize, out: *mut Entry, out_len: usize) -> u8;
+    fn test_gcd_of_album(album: Bytes, album_len: usize, h: Slice, h_len: usize, answer: Values, answer_len: usize) -> u8;
     fn test_write_album(
         words: List,
         words_len: usize,
@@ -154,30 +157,68 @@ unsafe extern "C" {
         answer: Values,
         answer_len: usize,
     ) -> u8;
+    fn test_line_value(
+        album: Bytes,
+        album_len: usize,
+        line: Bytes,
+        line_len: usize,
+        out: Slice,
+        out_len: usize,
+        answer: Values,
+        answer_len: usize,
+    ) -> u8;
+}
+
+/// The slices of a call, each with its margins.
+struct Slices {
+    lists: Vec<Lent<u16>>,
+    degrees: Lent<u16>,
+    album: Lent<u8>,
+    line: Lent<u8>,
+    results: Vec<Lent<u16>>,
+    part: Lent<u8>,
+    answer: Lent<usize>,
+}
+
+impl Slices {
+    fn new(memory: &Memory) -> Slices {
+        let lent = |lists: &[Vec<u16>]| lists.iter().map(|list| Lent::new(list)).collect();
+        Slices {
+            lists: lent(&memory.lists),
+            degrees: Lent::new(&memory.degrees),
+            album: Lent::new(&memory.album),
+            line: Lent::new(&memory.line),
+            results: lent(&memory.results),
+            part: Lent::new(&memory.part),
+            answer: Lent::new(&memory.answer),
+        }
+    }
+
+    fn is_stray(&self) -> bool {
+        let words = self.lists.iter().chain(&self.results).chain([&self.degrees]).any(Lent::is_stray);
+        let bytes = [&self.album, &self.line, &self.part].into_iter().any(Lent::is_stray);
+        words || bytes || self.answer.is_stray()
+    }
+
+    fn memory(&mut self) -> Memory {
+        let words = |lists: &mut [Lent<u16>]| lists.iter_mut().map(|list| list.part().to_vec()).collect();
+        Memory {
+            lists: words(&mut self.lists),
+            degrees: self.degrees.part().to_vec(),
+            album: self.album.part().to_vec(),
+            line: self.line.part().to_vec(),
+            results: words(&mut self.results),
+            part: self.part.part().to_vec(),
+            answer: self.answer.part().to_vec(),
+        }
+    }
 }
 
 /// Runs a call on copies of its slices.
 pub fn run(call: &PublicCall) -> Answer {
-    let before = &call.memory;
-    let mut lists: Vec<Lent<u16>> = before.lists.iter().map(|list| Lent::new(list)).collect();
-    let mut degrees = Lent::new(&before.degrees);
-    let mut album = Lent::new(&before.album);
-    let mut results: Vec<Lent<u16>> = before.results.iter().map(|result| Lent::new(result)).collect();
-    let mut part = Lent::new(&before.part);
-    let mut answer = Lent::new(&before.answer);
-    let returned = call_engine(call, &mut lists, &mut degrees, &mut album, &mut results, &mut part, &mut answer);
-    let words_stray = lists.iter().chain(&results).chain([&degrees]).any(Lent::is_stray);
-    let bytes_stray = [&album, &part].into_iter().any(Lent::is_stray);
-    let stray = words_stray || bytes_stray || answer.is_stray();
-    let memory = Memory {
-        lists: lists.iter_mut().map(|list| list.part().to_vec()).collect(),
-        degrees: degrees.part().to_vec(),
-        album: album.part().to_vec(),
-        results: results.iter_mut().map(|result| result.part().to_vec()).collect(),
-        part: part.part().to_vec(),
-        answer: answer.part().to_vec(),
-    };
-    Answer { returned, memory, stray }
+    let mut slices = Slices::new(&call.memory);
+    let returned = call_engine(call, &mut slices);
+    Answer { returned, stray: slices.is_stray(), memory: slices.memory() }
 }
 
 /// What the engine takes for the degree in t of a list; nothing if it changes the list or what lies beside it.
@@ -189,25 +230,17 @@ pub fn degree_in_t(list: &[u16]) -> Option<usize> {
     (lent.part() == list && !lent.is_stray()).then_some(degree)
 }
 
-fn call_engine(
-    call: &PublicCall,
-    lists: &mut [Lent<u16>],
-    degrees: &mut Lent<u16>,
-    album: &mut Lent<u8>,
-    results: &mut [Lent<u16>],
-    part: &mut Lent<u8>,
-    answer: &mut Lent<usize>,
-) -> usize {
+fn call_engine(call: &PublicCall, slices: &mut Slices) -> usize {
     let word = |k: usize| call.numbers[k] as u16;
     let number = |k: usize| call.numbers[k];
-    let lists: Vec<(List, usize)> = lists.iter_mut().map(|list| (list.part().as_ptr(), list.part().len())).collect();
+    let lists: Vec<(List, usize)> = slices.lists.iter_mut().map(|list| (list.part().as_ptr(), list.part().len())).collect();
     let list = |k: usize| lists[k];
     let results: Vec<(Slice, usize)> =
-        results.iter_mut().map(|result| (result.part().as_mut_ptr(), result.part().len())).collect();
+        slices.results.iter_mut().map(|result| (result.part().as_mut_ptr(), result.part().len())).collect();
     let result = |k: usize| results[k];
-    let degrees = degrees.part();
-    let (s, n) = (album.part().as_ptr(), album.part().len());
-    let (values, room) = (answer.part().as_mut_ptr(), answer.part().len());
+    let (degrees, line, part) = (slices.degrees.part(), slices.line.part(), slices.part.part());
+    let (s, n) = (slices.album.part().as_ptr(), slices.album.part().len());
+    let (values, room) = (slices.answer.part().as_mut_ptr(), slices.answer.part().len());
     // SAFETY: each pointer goes with the length of a slice that is borrowed until the call returns, and no two overlap.
     let refusal = unsafe {
         match call.name {
@@ -244,13 +277,17 @@ fn call_engine(
                 test_cofactors(f, d, g, e, h, h_len, a, a_len, b, b_len, values, room)
             }
             Name::Check => test_check(s, n, number(0)),
-            Name::Body => return test_body(s, n, number(0), part.part().as_mut_ptr(), part.part().len()),
+            Name::Body => return test_body(s, n, number(0), part.as_mut_ptr(), part.len()),
             Name::ReadList => test_read_list(s, n, number(0), result(0).0, result(0).1, values, room),
             Name::Contents => test_contents(s, n, result(0).0.cast(), result(0).1 * size_of::<u16>() / size_of::<Entry>()),
             Name::GcdOfAlbum => test_gcd_of_album(s, n, result(0).0, result(0).1, values, room),
             Name::WriteAlbum => {
-                let ((words, count), out) = (list(0), part.part());
-                test_write_album(words, count, degrees.as_ptr(), degrees.len(), out.as_mut_ptr(), out.len(), values, room)
+                let (words, count) = list(0);
+                test_write_album(words, count, degrees.as_ptr(), degrees.len(), part.as_mut_ptr(), part.len(), values, room)
+            }
+            Name::LineValue => {
+                let (out, length) = result(0);
+                test_line_value(s, n, line.as_ptr(), line.len(), out, length, values, room)
             }
         }
     };

@@ -1,4 +1,4 @@
-//! The engine: its three functions for a C host, and the programs `report` and `bind`.
+//! The engine: its three functions for a C host, and the programs `report`, `bind` and `line`.
 
 use crate::album::bytes;
 use crate::lent::Lent;
@@ -88,7 +88,7 @@ fn call_host(operation: Operation, lists: [&mut [u8]; 2], mut results: Vec<&mut 
     }
 }
 
-/// The file that the environment variable REPORT or BIND names, to be taken for that program.
+/// The file that the environment variable REPORT, BIND or LINE names, to be taken for that program.
 pub fn stand_in(name: &str) -> Option<String> {
     env::var(name.to_uppercase()).ok().filter(|file| !file.is_empty())
 }
@@ -137,6 +137,11 @@ pub fn report_on(source: ChildStdout) -> Vec<u8> {
 /// What `bind` writes to standard output and to standard error on this text, written in pieces.
 pub fn bind_in_pieces(text: &[u8], size: usize) -> Result<[Vec<u8>; 2], String> {
     run_on("bind", text, size)
+}
+
+/// What `line` writes to standard output and to standard error on this input, written in pieces.
+pub fn line_in_pieces(input: &[u8], size: usize) -> Result<[Vec<u8>; 2], String> {
+    run_on("line", input, size)
 }
 
 /// What a program writes to standard output and to standard error on an input that is written in pieces, a moment apart, so that

@@ -140,6 +140,7 @@ fn compare_albums(tally: &mut Tally, random: &mut Random) {
         complete(tally, &public::writing(&lists));
         for i in 0..lists.len() {
             compare_public(tally, &public::fitting(Name::Body, &[], &album, &[i]));
+            complete(tally, &public::line(&album, i.to_string().as_bytes()));
         }
         if let Err(fault) = writing::round_trip(&lists) {
             tally.fault(&format!("the album of {lists:?}"), &fault);

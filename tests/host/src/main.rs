@@ -10,6 +10,10 @@ mod engine;
 mod field;
 mod lengths;
 mod lent;
+mod line;
+mod line_calls;
+mod line_runs;
+mod lines;
 mod model;
 mod ordinary;
 mod poly;
@@ -89,6 +93,8 @@ fn main() {
     compare_albums(&mut tally);
     compare_raised_albums(&mut tally);
     bind_runs::compare(&mut tally);
+    line_calls::compare(&mut tally);
+    line_runs::compare(&mut tally);
     compare_sums(&mut tally);
     compare_edges(&mut tally);
     compare_searches(&mut tally);
@@ -103,6 +109,8 @@ fn main() {
         reading::try_wrong_readers(&mut Random(14)),
         writing::try_broken_copies(&mut Random(8)),
         bind_runs::try_broken_copies(),
+        line_calls::try_wrong_models(&mut Random(19)),
+        line_runs::try_broken_copies(),
     ];
     for said in noticed {
         match said {
@@ -179,8 +187,8 @@ fn compare_printed(tally: &mut Tally, place: &str, call: &PublicCall, printed: R
 
 fn compare_public_calls(tally: &mut Tally) {
     let mut random = Random(3);
-    // ordinary::compare and writing::compare have these
-    let elsewhere = [Name::DivideOrdinary, Name::WriteAlbum];
+    // ordinary::compare, writing::compare and line_calls::compare have these
+    let elsewhere = [Name::DivideOrdinary, Name::WriteAlbum, Name::LineValue];
     for (name, numbers) in calls::CALLS.into_iter().filter(|(name, _)| !elsewhere.contains(name)) {
         let what = format!("{name:?}");
         for _ in 0..PUBLIC_CALLS {
@@ -566,6 +574,7 @@ fn compare_tables(tally: &mut Tally) {
             for name in [Name::Check, Name::Body, Name::ReadList] {
                 compare_public(tally, &public::fitting(name, &[], album, &[i]));
             }
+            compare_public(tally, &public::line(album, i.to_string().as_bytes()));
         }
         compare_public(tally, &public::fitting(Name::Contents, &[], album, &[]));
         compare_public(tally, &public::fitting(Name::GcdOfAlbum, &[], album, &[]));
@@ -656,6 +665,7 @@ fn compare_messages(tally: &mut Tally) {
     let programs = [
         ("report", "report <FILE ", "samples/example.album", 32_834),
         ("bind", "bind <TEXT >FILE ", "samples/example.txt", 262_145),
+        ("line", "line <", "samples/example.line", 33_091),
     ];
     for (name, usage, sample, most) in programs {
         for bytes in [0, 1, most - 1, most, most + 1, 2 * most] {
@@ -677,5 +687,5 @@ fn compare_messages(tally: &mut Tally) {
             tally.fault(&format!("{name} >/dev/full"), &format!("it says {:?}", String::from_utf8_lossy(&said)));
         }
     }
-    println!("report and bind: what they say to arguments, and where their output cannot be written; how much they read");
+    println!("report, bind and line: what they say to arguments, and where their output cannot be written; how much they read");
 }

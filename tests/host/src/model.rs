@@ -16,6 +16,14 @@ pub fn refuse(rows: &[(u8, bool)]) -> Result<(), u8> {
     }
 }
 
+/// The first number of a stated order whose condition holds, over all inputs. Such an order goes before the lowest number.
+pub fn refuse_in(order: &[u8], rows: &[(u8, bool)]) -> Result<(), u8> {
+    match order.iter().find(|&&number| rows.contains(&(number, true))) {
+        Some(&number) => Err(number),
+        None => Ok(()),
+    }
+}
+
 fn bad_length(list: &[u32]) -> bool {
     list.is_empty() || list.len() > MAX_WORDS
 }

@@ -3,6 +3,7 @@
 use crate::album;
 use crate::calls::{self, Answer, Memory, Name, PublicCall};
 use crate::field::{add, mul, sub};
+use crate::line;
 use crate::model::{self, Gcd, List, MAX_WORDS};
 use crate::poly::{of_list, one_minus_t, plus, times};
 use crate::random::Random;
@@ -23,6 +24,11 @@ impl Done {
 
     fn value(value: u32) -> Done {
         Done { values: vec![value as usize], ..Done::default() }
+    }
+
+    /// A list with zeros after it, and its naive degree.
+    pub fn listed(list: List) -> Done {
+        Done { values: vec![list.len() - 1], results: vec![padded(list)], ..Done::default() }
     }
 
     /// h with zeros after it; w, c and rounds.
@@ -49,7 +55,7 @@ pub fn list(words: &[u16]) -> List {
 pub fn values(name: Name) -> usize {
     match name {
         Name::FieldSum | Name::FieldDifference | Name::FieldProduct | Name::Inverse => 1,
-        Name::FindExtent | Name::Searched | Name::Evaluate | Name::ReadList | Name::WriteAlbum => 1,
+        Name::FindExtent | Name::Searched | Name::Evaluate | Name::ReadList | Name::WriteAlbum | Name::LineValue => 1,
         Name::Gcd | Name::Cofactors | Name::GcdOfAlbum => 3,
         _ => 0,
     }
@@ -66,7 +72,7 @@ pub fn fitting(name: Name, lists: &[List], album: &[u8], numbers: &[usize]) -> P
         Name::Derivative => vec![length(0).max(2) - 1],
         Name::Divide => vec![(length(0) + 1).saturating_sub(length(1)), length(1) - 1],
         Name::DivideOrdinary => vec![length(0); 2],
-        Name::Gcd | Name::ReadList | Name::GcdOfAlbum => vec![MAX_WORDS],
+        Name::Gcd | Name::ReadList | Name::GcdOfAlbum | Name::LineValue => vec![MAX_WORDS],
         Name::Contents => vec![2 * album::MAX_LISTS],
         Name::Cofactors => {
             let m = model::cofactor_degree(&lists[0], &lists[1]);
@@ -96,6 +102,13 @@ pub fn writing(lists: &[List]) -> PublicCall {
         ..Memory::default()
     };
     PublicCall { name: Name::WriteAlbum, numbers: vec![], memory }
+}
+
+/// The call for a line over an album, with slices that fit, full of zeros.
+pub fn line(album: &[u8], line: &[u8]) -> PublicCall {
+    let mut call = fitting(Name::LineValue, &[], album, &[]);
+    call.memory.line = line.to_vec();
+    call
 }
 
 /// What the call does, or the number of its refusal.
@@ -131,11 +144,7 @@ pub fn outcome(call: &PublicCall) -> Result<Done, u8> {
         }),
         Name::Check => album::check(album, number(0)).map(|_| Done::default()),
         Name::Body => album::body(album, number(0)).map(|part| Done { part, ..Done::default() }),
-        Name::ReadList => album::read_list(album, number(0), room(0)).map(|list| Done {
-            values: vec![list.len() - 1],
-            results: vec![padded(list)],
-            ..Done::default()
-        }),
+        Name::ReadList => album::read_list(album, number(0), room(0)).map(Done::listed),
         Name::Contents => album::contents(album, room(0) / 2).map(one),
         Name::GcdOfAlbum => album::gcd_of_album(album, room(0)).map(Done::gcd),
         Name::WriteAlbum => album::write(&lists[0], &call.memory.degrees, call.memory.part.len()).map(|part| Done {
@@ -143,14 +152,20 @@ pub fn outcome(call: &PublicCall) -> Result<Done, u8> {
             part,
             ..Done::default()
         }),
+        Name::LineValue => line::value(album, &call.memory.line, room(0)).map(Done::listed),
     }
 }
 
-/// The answer that the call has to give. Values are written where their slice has room for exactly them, and so is a body; an album
-/// is written to the front of its target.
+/// The answer that the call has to give.
 pub fn expected(call: &PublicCall) -> Answer {
+    answer(call, outcome(call))
+}
+
+/// The answer of a call that has this outcome. Values are written where their slice has room for exactly them, and so is a body; an
+/// album is written to the front of its target.
+pub fn answer(call: &PublicCall, outcome: Result<Done, u8>) -> Answer {
     let mut memory = call.memory.clone();
-    let returned = match outcome(call) {
+    let returned = match outcome {
         Ok(done) => {
             memory.results = done.results.iter().map(|result| words(result)).collect();
             if memory.answer.len() == done.values.len() {
@@ -182,13 +197,20 @@ pub fn fault(call: &PublicCall, answer: &Answer) -> Option<String> {
     }
 }
 
-/// The call; of one that writes an album, without what its target holds.
+/// The call; of one that writes an album or works out a line, without what its target or its slice holds.
 pub fn shown(call: &PublicCall) -> String {
-    if call.name != Name::WriteAlbum {
-        return format!("{call:?}");
+    let Memory { lists, degrees, album, line, results, part, answer } = &call.memory;
+    match call.name {
+        Name::WriteAlbum => {
+            let (words, target) = (&lists[0], part.len());
+            format!("WriteAlbum of {words:?}, degrees {degrees:?}, target of {target} bytes, answer of {}", answer.len())
+        }
+        Name::LineValue => {
+            let (line, slice) = (String::from_utf8_lossy(line), results[0].len());
+            format!("LineValue of {line:?} over {album:02X?}, slice of {slice} words, answer of {}", answer.len())
+        }
+        _ => format!("{call:?}"),
     }
-    let Memory { lists, degrees, part, answer, .. } = &call.memory;
-    format!("WriteAlbum of {:?}, degrees {degrees:?}, target of {} bytes, answer of {}", lists[0], part.len(), answer.len())
 }
 
 /// What is different; of a call that writes an album, the numbers and where the target differs first.
@@ -247,7 +269,7 @@ pub fn read_back_fault(memory: &Memory) -> Option<String> {
 /// A way to break a copy of an answer, where it can be broken so: true if it was.
 type Break = fn(&mut Answer) -> bool;
 
-const BREAKS: [(&str, Break); 6] = [
+const BREAKS: [(&str, Break); 7] = [
     ("another number", |answer| {
         answer.returned += 1;
         true
@@ -258,6 +280,7 @@ const BREAKS: [(&str, Break); 6] = [
     ("a value", |answer| answer.memory.answer.last_mut().map(|value| *value ^= 1).is_some()),
     ("one word of a list", |answer| answer.memory.lists.last_mut().and_then(|l| l.last_mut()).map(|word| *word ^= 1).is_some()),
     ("a byte of an album", |answer| answer.memory.album.last_mut().map(|byte| *byte ^= 1).is_some()),
+    ("a byte of a line", |answer| answer.memory.line.last_mut().map(|byte| *byte ^= 1).is_some()),
     ("a byte of a body or of a target", |answer| answer.memory.part.last_mut().map(|byte| *byte ^= 1).is_some()),
 ];
 

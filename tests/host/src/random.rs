@@ -6,7 +6,7 @@ use crate::engine::{Call, Operation};
 use crate::field::P;
 use crate::model::{List, MAX_WORDS, multiply};
 use crate::poly::{self, Poly};
-use crate::public;
+use crate::{lines, public};
 
 /// The generator splitmix64.
 pub struct Random(pub u64);
@@ -317,6 +317,7 @@ impl Random {
             }
             Name::Contents | Name::GcdOfAlbum => album = self.album(),
             Name::WriteAlbum => return self.fair_writing(),
+            Name::LineValue => return self.fair_line_call(),
         }
         public::fitting(name, &lists, &album, &numbers)
     }
@@ -434,10 +435,48 @@ impl Random {
         }
     }
 
+    /// The lists of an album for a line: mostly short ones; where they are long, products of two or three often pass the bound.
+    fn lists_for_a_line(&mut self) -> Vec<List> {
+        let count = 1 + self.below(album::MAX_LISTS);
+        let long = self.percent(20);
+        let length = |random: &mut Random| match random.below(6) {
+            0 | 1 if long => 300 + random.below(300),
+            2 if long => MAX_WORDS / 2 + random.below(2),
+            3 if long => MAX_WORDS - random.below(3),
+            4 => 1 + random.below(20),
+            _ => 1 + random.below(5),
+        };
+        let lengths: Vec<usize> = (0..count).map(|_| length(self)).collect();
+        lengths.into_iter().map(|length| self.list(length)).collect()
+    }
+
+    /// A line over an album, which seldom lacks an operand.
+    fn fair_line_call(&mut self) -> PublicCall {
+        let lists = self.lists_for_a_line();
+        let beyond = if self.percent(10) { [1, 1, 84][self.below(3)] } else { 0 };
+        let reading = lines::reading(self, lists.len() + beyond);
+        let line = lines::line(self, &reading);
+        public::line(&album::written(&lists), &line)
+    }
+
+    /// Damages anything but the line itself.
+    fn damage_line_call(&mut self, memory: &mut Memory) {
+        match self.below(10) {
+            0..=4 => {
+                let count = usize::from(*memory.album.first().unwrap_or(&1)).max(1);
+                self.damage_album(&mut memory.album, count);
+            }
+            5..=8 => self.damage_length(&mut memory.results[0]),
+            _ => self.damage_length(&mut memory.answer),
+        }
+    }
+
     fn damage_public_call(&mut self, call: &mut PublicCall) {
         let memory = &mut call.memory;
-        if call.name == Name::WriteAlbum {
-            return self.damage_writing(memory);
+        match call.name {
+            Name::WriteAlbum => return self.damage_writing(memory),
+            Name::LineValue => return self.damage_line_call(memory),
+            _ => {}
         }
         match self.below(10) {
             0..=4 if !memory.lists.is_empty() => {

@@ -55,6 +55,7 @@ pub fn compare(tally: &mut Tally) {
             for name in [Name::Check, Name::Body, Name::ReadList] {
                 compare_public(tally, &public::fitting(name, &[], album, &[i]));
             }
+            compare_public(tally, &public::line(album, i.to_string().as_bytes()));
         }
         for name in [Name::Contents, Name::GcdOfAlbum] {
             compare_public(tally, &public::fitting(name, &[], album, &[]));

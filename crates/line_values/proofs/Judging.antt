@@ -34,10 +34,11 @@ use Rattle.lines.specs.Lines.{outsideGrammar, tooDeep, lineRefusals, ProgramOf}
 use Rattle.lines.specs.declared.Judged.the-variants as judged
 use Rattle.lines.proofs.Height.{line-height}
 use Rattle.lines.proofs.Operands.{reading-small}
+use Rattle.lines.proofs.Readings.{reading-sound}
 use Rattle.line_values.specs.Values.{Valued, valueOf, lacks}
-use Rattle.line_values.specs.Calls.{lacksIn, lacksOperand, lineRows, valueIn, lineValue, lateOf, listIn, lineAnswer, lineWritten}
+use Rattle.line_values.specs.Calls.{lacksOperand, lineRows, valueIn, lineValue, lateOf, listIn, lineAnswer, lineWritten}
 use Rattle.line_values.specs.Internal.{lacksByte, Runs, Valuing, ValueSo}
-use Rattle.line_values.proofs.Programs.{lacks-program}
+use Rattle.line_values.proofs.Programs.{lacks-program, lacks-tokens}
 
 -- two tests, and what comes behind them
 two : (a b : Bool) (v w : Refusal) (next : Outcome) → refuse a v (refuse b w next) ≡ or-else (refuse a v (refuse b w Done)) next
@@ -114,7 +115,7 @@ module _ (s line code : List ℕ) {n : ℕ} (g : ProgramOf line code (judged.Pro
   lacks-is =
       ap (lacksByte (count s)) (g .3)
       ∙ lacks-program (count s) (g .0) (reading-small line (g .0) (g .1))
-      ∙ sym (ap (lacksIn (count s)) (g .1))
+      ∙ sym (lacks-tokens (count s) (reading-sound (g .1)))
 
   -- what the search was told and said
   pub lacks-found : {lists : ℕ} {b t : Bool} → lists ≡ count s → b ≡ lacksByte lists (take n code) → b ≡ t → lacksOperand s line ≡ t

@@ -7,3 +7,4 @@ pub mod Steps
 pub mod Running
 pub mod Judging
 pub mod Answers
+pub mod Examples

@@ -1,4 +1,5 @@
--- A tree lacks a list of an album exactly where its program does.
+-- A tree lacks a list of an album exactly where its tokens do, and where its program does.
+--     lacks-tokens      of tokens and the tree that they read as
 --     lacks-program     of a tree and its program
 --     lacks-not         a program that lacks none: each of its operands is the number of a list
 --     one-operand, one-operator             the tests of one byte
@@ -15,9 +16,13 @@ use lib.ListN.{length, getD, drop, drop-of-length-le}
 use lib.Seq.{drop-cons}
 use borrow.Author.Tests.{lt-ltb, le-ltb, leb-false}
 use Rattle.refusal.proofs.First.{or-false}
-use Rattle.lines.specs.Grammar.{Tree, list, sum, difference, product, derivative}
+use Rattle.lines.specs.declared.Token.{Token}
+use Rattle.lines.specs.declared.Token.the-variants.{Number, Plus, Minus, Times, Derive, Open, Close, Wrong}
+use Rattle.lines.specs.Grammar.{Tree, list, sum, difference, product, derivative, Part}
+use Rattle.lines.specs.Grammar.{Reads, lone-term, added, subtracted, lone-factor, multiplied, number, derived, in-parentheses}
 use Rattle.lines.specs.Program.{addByte, subtractByte, multiplyByte, deriveByte, firstOperator, postfix, Small}
 use Rattle.line_values.specs.Values.{lacks}
+use Rattle.line_values.specs.Calls.{lacksNumber}
 use Rattle.line_values.specs.Internal.{lacksOne, lacksByte}
 
 or-assoc : (a b c : Bool) → ((a || b) || c) ≡ (a || (b || c))
@@ -83,3 +88,33 @@ module _ (n : ℕ) where
     pub lacks-none : length code ≤ i → lacksByte n (drop i code) ≡ false
     unfolding lacksByte
     lacks-none l = ap (lacksByte n) (drop-of-length-le code l)
+
+-- the tokens that read as a tree
+module _ (n : ℕ) where
+  numbers-append : (s t : List Token) → lacksNumber n (s ++ t) ≡ (lacksNumber n s || lacksNumber n t)
+  unfolding lacksNumber
+  numbers-append [] t = refl
+  numbers-append (Number k ∷ s) t = ap (λ b. leb n k || b) (numbers-append s t) ∙ sym (or-assoc (leb n k) (lacksNumber n s) (lacksNumber n t))
+  numbers-append (Plus ∷ s) t = numbers-append s t
+  numbers-append (Minus ∷ s) t = numbers-append s t
+  numbers-append (Times ∷ s) t = numbers-append s t
+  numbers-append (Derive ∷ s) t = numbers-append s t
+  numbers-append (Open ∷ s) t = numbers-append s t
+  numbers-append (Close ∷ s) t = numbers-append s t
+  numbers-append (Wrong ∷ s) t = numbers-append s t
+
+  -- two operands
+  pair : (s t : List Token) (a b : Tree) → lacksNumber n s ≡ lacks n a → lacksNumber n t ≡ lacks n b
+      → lacksNumber n (s ++ t) ≡ (lacks n a || lacks n b)
+  pair s t a b e f = numbers-append s t ∙ ap₂ (λ c d. c || d) e f
+
+  pub lacks-tokens : {r : Part} {s : List Token} {a : Tree} → Reads r s a → lacksNumber n s ≡ lacks n a
+  unfolding lacksNumber lacks
+  lacks-tokens (lone-term x) = lacks-tokens x
+  lacks-tokens (added {s = s} {t = t} {a = a} {b = b} x y) = pair s (Plus ∷ t) a b (lacks-tokens x) (lacks-tokens y)
+  lacks-tokens (subtracted {s = s} {t = t} {a = a} {b = b} x y) = pair s (Minus ∷ t) a b (lacks-tokens x) (lacks-tokens y)
+  lacks-tokens (lone-factor x) = lacks-tokens x
+  lacks-tokens (multiplied {s = s} {t = t} {a = a} {b = b} x y) = pair s (Times ∷ t) a b (lacks-tokens x) (lacks-tokens y)
+  lacks-tokens (number {n = k}) = or-none (leb n k)
+  lacks-tokens (derived x) = lacks-tokens x
+  lacks-tokens (in-parentheses {s = s} x) = numbers-append s (Close ∷ []) ∙ or-none (lacksNumber n s) ∙ lacks-tokens x

@@ -1,6 +1,7 @@
 -- What the call on a line of algebra refuses, answers and writes; s is the album's bytes, line those of the line, out what the result slice
 -- holds on entry.
---     lacksOperand      an operand of the line's tree is the number of no list of the album
+--     lacksNumber       a number among tokens is that of no list of an album of so many
+--     lacksOperand      an operand of the line, reached or not, is the number of no list of the album
 --     lineRows          the refusals that the inputs alone decide, in their order: 12 and 13 go before 3
 --     lineValue         what the line's tree comes to over the album's lists
 --     lateOf            of a value: the refusal of its first refusing operation, or Done
@@ -9,10 +10,10 @@
 --     lineAnswer k      the naive degree of the list that the tree comes to
 --     lineWritten k     its words, zeros after them
 -- Assumes nothing.
-use mathlib.Core.Bool.{Bool, false, not}
+use mathlib.Core.Bool.{Bool, false, not, _||_}
 use mathlib.Core.List.{List, [], _∷_}
 use Prim.Native.Nat.{ℕ}
-use lib.Dec.{eqb}
+use lib.Dec.{eqb, leb}
 use lib.ListN.{length}
 use Rattle.algebra.specs.PrimeField.{PrimeField}
 use Rattle.refusal.specs.Limits.{maxLists}
@@ -26,18 +27,26 @@ use Rattle.lists.specs.Degrees.{naiveDegree}
 use Rattle.lists.specs.Refused.{hasLoose, anyOf}
 use Rattle.lists.specs.Padded.{padded}
 use Rattle.album_layout.specs.Layout.{count, wrongCount, brokenLayout, listsOf}
+use Rattle.lines.specs.declared.Token.{Token}
+use Rattle.lines.specs.declared.Token.the-variants.{Number, Plus, Minus, Times, Derive, Open, Close, Wrong}
 use Rattle.lines.specs.Grammar.{tokens}
 use Rattle.lines.specs.Reader.{Reading, reads, outside, readingOf}
 use Rattle.lines.specs.Lines.{outsideGrammar, tooDeep}
-use Rattle.line_values.specs.Values.{Valued, value, refused, valueOf, lacks}
+use Rattle.line_values.specs.Values.{Valued, value, refused, valueOf}
 
--- of a reading
-abbrev pub lacksIn : ℕ → Reading → Bool
-lacksIn lists (reads e) = lacks lists e
-lacksIn lists outside = false
+unfoldable pub lacksNumber : ℕ → List Token → Bool
+lacksNumber lists [] = false
+lacksNumber lists (Number n ∷ ts) = leb lists n || lacksNumber lists ts
+lacksNumber lists (Plus ∷ ts) = lacksNumber lists ts
+lacksNumber lists (Minus ∷ ts) = lacksNumber lists ts
+lacksNumber lists (Times ∷ ts) = lacksNumber lists ts
+lacksNumber lists (Derive ∷ ts) = lacksNumber lists ts
+lacksNumber lists (Open ∷ ts) = lacksNumber lists ts
+lacksNumber lists (Close ∷ ts) = lacksNumber lists ts
+lacksNumber lists (Wrong ∷ ts) = lacksNumber lists ts
 
 unfoldable pub lacksOperand : (s line : List ℕ) → Bool
-lacksOperand s line = lacksIn (count s) (readingOf (tokens line))
+lacksOperand s line = lacksNumber (count s) (tokens line)
 
 unfoldable pub lineRows : (p most : ℕ) → (s line out : List ℕ) → List Condition
 lineRows p most s line out =
@@ -50,7 +59,7 @@ lineRows p most s line out =
     Misfit given-when not (eqb (length out) most) ∷
     []
 
--- of a reading; the empty list where there is none
+-- of a reading; the empty list where there is none, which 12 goes before
 abbrev pub valueIn : (F : PrimeField) (most : ℕ) → List (List ℕ) → Reading → Valued
 valueIn F most lists (reads e) = valueOf F most lists e
 valueIn F most lists outside = value []

@@ -5,10 +5,11 @@
 --     added, subtracted, multiplied, derived       the operations: a product of more words than the longest list is refused with 6, over;
 --                                                  no other can be refused
 --     valueOf                                      the value of a tree; a number names a list of the album
---     lacks                                        the tree has an operand that an album of so many lists lacks, reached or not
+--     lacks                                        the tree has an operand that an album of so many lists lacks
 -- Theorems (proofs/Values):
 --     value-listed      over lists that no call refuses, a value is such a list
 --     only-over         the refusal of a tree is 6
+--     lacks-tokens      (proofs/Programs) a tree lacks a list exactly where the tokens do that read as it
 -- Assumes nothing.
 use mathlib.Core.Bool.{Bool, cond, _||_}
 use mathlib.Core.List.{List, []}

@@ -23,7 +23,7 @@ abbrev pub nested : ℕ → List ℕ
 nested n = replicate n 40 ++ 48 ∷ replicate n 41
 
 -- the definitions that the computation opens
-unfoldable computes : Bool
+unfoldable pub computes : Bool
 unfolding isDigit signOf lone tokens openBehind deepest readingOf want closed ended termPlace termTree sumPlace sumTree postfix
     outsideGrammar tooDeep lineRefusals lower lowest
 computes = true

@@ -1,6 +1,7 @@
 -- Document 01's order of its refusals, as a part of the whole order.
 --     upTo most ns             the numbers among some that are at most so large
 --     order-of-document-01     up to 11 they are 1 to 11, ascending
+--     order-of-order-6         up to 13, 12 and 13 stand between 2 and 3
 --     rank-number              of two refusals of document 01, the one of the lower rank has the lower number
 --     lowest-number            the same of the one that is given among such rows
 -- Assumes nothing.
@@ -24,6 +25,9 @@ upTo most (n ∷ rest) = cond (leb n most) (n ∷ upTo most rest) (upTo most res
 
 pub order-of-document-01 : upTo 11 order ≡ 1 ∷ 2 ∷ 3 ∷ 4 ∷ 5 ∷ 6 ∷ 7 ∷ 8 ∷ 9 ∷ 10 ∷ 11 ∷ []
 order-of-document-01 = refl
+
+pub order-of-order-6 : upTo 13 order ≡ 1 ∷ 2 ∷ 12 ∷ 13 ∷ 3 ∷ 4 ∷ 5 ∷ 6 ∷ 7 ∷ 8 ∷ 9 ∷ 10 ∷ 11 ∷ []
+order-of-order-6 = refl
 
 -- 1 above k, else 0
 unfoldable above : (k n : ℕ) → ℕ

@@ -5,6 +5,7 @@
 --     rank why      the place of a refusal's number in the order
 -- Theorems (proofs/Rank):
 --     order-of-document-01     the numbers of the order up to 11 are 1 to 11, ascending: document 01's order is this part
+--     order-of-order-6         order 6 puts 12 and 13 between 2 and 3
 --     rank-number              so of two refusals of document 01 the one with the lower number goes first
 --     lowest-number            and where a call's rows are of document 01, the refusal of the lowest rank has the lowest number
 -- Assumes nothing.

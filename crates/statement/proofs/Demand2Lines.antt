@@ -44,7 +44,8 @@ use Rattle.lines.specs.Lines.{outsideGrammar, tooDeep}
 use Rattle.lines.proofs.Lines.{OneTree, inside-is}
 use Rattle.lines.proofs.Readings.{reading-complete}
 use Rattle.line_values.specs.Values.{Valued, value, refused, both, one, added, subtracted, multiplied, derived, valueOf, lacks}
-use Rattle.line_values.specs.Calls.{lacksIn, lacksOperand, lineRows, valueIn, lineValue, lateOf, listIn, lineAnswer, lineWritten}
+use Rattle.line_values.specs.Calls.{lacksOperand, lineRows, valueIn, lineValue, lateOf, listIn, lineAnswer, lineWritten}
+use Rattle.line_values.proofs.Programs.{lacks-tokens}
 use Rattle.line_values.proofs.Values.{sum-listed, difference-listed, product-listed, derivative-listed}
 use Rattle.statement.specs.Meant.{TheList}
 use Rattle.statement.specs.Demand2Calls.{degreeBy, meantBy, LineValue, LineSo}
@@ -184,7 +185,7 @@ module _ (s line old : List ℕ) (bytes : Bytes s) {out : List ℕ} {r : Reply}
       let one = inside-is line (ok .inside) .1 in
       let tree = one .tree in
       let read = reading-complete (one .is) in
-      let has : lacks (length (listsOf s)) tree ≡ false = ap (λ k. lacks k tree) (length-lists s) ∙ sym (ap (lacksIn (count s)) read) ∙ ok .has in
+      let has : lacks (length (listsOf s)) tree ≡ false = ap (λ k. lacks k tree) (length-lists s) ∙ sym (lacks-tokens (count s) (one .is)) ∙ ok .has in
       let is : valueOf F65521 maxWords (listsOf s) tree ≡ value (listIn v) = sym (ap (valueIn F65521 maxWords (listsOf s)) read) ∙ valued v (o .1) in
       let m = subst (ValueMeans F65521 maxWords (longest-in 0) _ _) is
               (value-means F65521 maxWords (longest-in 0) (listsOf s) (passed-each p s (fine-passes s (ok .fine)) maxWords (omega arith)) tree has) in

@@ -119,7 +119,7 @@ pub fn judge_layout(album: &[u8]) -> Outcome
 }
 
 // Whether a list of the album has a loose word: the bodies' words stand one after the other up to the end.
-pub fn has_loose_word(field: u8, album: &[u8]) -> bool
+fn has_loose_word(field: u8, album: &[u8]) -> bool
     requires { ⌜ Obeys (now album) ⌝ }
     ensures { λ r. ⌜ r ≡ anyOf (hasLoose (modulus field)) (listsOf (given album)) ⌝ }
 {

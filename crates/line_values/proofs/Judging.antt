@@ -1,5 +1,5 @@
 -- What the call refuses, as the chain of tests that the code makes, and what it knows where nothing is refused.
---     judged-layout, -line, -index, -loose, -misfit, -done     what the tests find, one after the other
+--     judged-layout, -line, -index, -album, -misfit, -done     what the tests find, one after the other
 --     lacks-found      the search of the program finds what the line's tree lacks
 --     accepted-runs    where nothing is refused, the program can be run
 --     answered, refused-early     what the call then answers and writes, and where it is refused
@@ -11,10 +11,11 @@ use Prim.Native.Nat.{ℕ, _≤_, _<_}
 use native.Mathlib.Omega.{arith}
 use lib.Dec.{eqb, ltb}
 use lib.ListN.{length, take}
-use borrow.Author.Tests.{eq-eqb, ne-eqb, eqb-true, ltb-false, not-false}
-use Rattle.refusal.specs.Limits.{maxLists, maxOpen}
+use borrow.Author.Tests.{eq-eqb, ne-eqb, eqb-true, le-ltb, ltb-false, not-false}
+use Rattle.refusal.specs.Limits.{maxLine, maxOpen}
 use Rattle.refusal.specs.Lowest.{Condition, _given-when_, lowest, or-else}
-use Rattle.refusal.specs.Refusal.{Reply, number, reply, written}
+use Rattle.refusal.specs.Refusal.{Reply, number, outcomeNumber, reply, written}
+use Rattle.refusal.proofs.Answers.{number-range}
 use Rattle.refusal.specs.declared.Refusal.{Refusal}
 use Rattle.refusal.specs.declared.Refusal.the-variants.{Line, Nesting, Index, LooseWord, Misfit}
 use Rattle.refusal.specs.declared.Outcome.{Outcome}
@@ -26,11 +27,12 @@ use Rattle.lists.specs.Padded.{padded}
 use Rattle.lists.specs.Refused.{hasLoose, anyOf}
 use Rattle.album_layout.specs.Layout.{count, wrongCount, brokenLayout, listsOf}
 use Rattle.album_layout.specs.Internal.{layoutRefusals, Passed}
-use Rattle.album_layout.proofs.Judged.{album-done}
+use Rattle.album_layout.specs.Calls.{albumRefusals}
+use Rattle.album_layout.proofs.Judged.{album-loose, album-done, album-fine}
 use Rattle.lines.specs.Grammar.{tokens, deepest, Tree}
 use Rattle.lines.specs.Reader.{reads, readingOf}
 use Rattle.lines.specs.Program.{postfix, Small}
-use Rattle.lines.specs.Lines.{outsideGrammar, tooDeep, lineRefusals, ProgramOf}
+use Rattle.lines.specs.Lines.{outsideGrammar, tooDeep, lineRefusals, readOutcome, ProgramOf}
 use Rattle.lines.specs.declared.Judged.the-variants as judged
 use Rattle.lines.proofs.Height.{line-height}
 use Rattle.lines.proofs.Operands.{reading-small}
@@ -39,6 +41,10 @@ use Rattle.line_values.specs.Values.{Valued, valueOf, lacks}
 use Rattle.line_values.specs.Calls.{lacksOperand, lineRows, valueIn, lineValue, lateOf, listIn, lineAnswer, lineWritten}
 use Rattle.line_values.specs.Internal.{lacksByte, Runs, Valuing, ValueSo}
 use Rattle.line_values.proofs.Programs.{lacks-program, lacks-tokens}
+
+-- an outcome is one or the other
+never : {why : Refusal} → Done ≡ Refused why → ⊥
+never {why} e = let n : 0 ≡ number why = ap outcomeNumber e in omega (arith, number-range why)
 
 -- two tests, and what comes behind them
 two : (a b : Bool) (v w : Refusal) (next : Outcome) → refuse a v (refuse b w next) ≡ or-else (refuse a v (refuse b w Done)) next
@@ -74,10 +80,18 @@ module _ (p most : ℕ) (s line out : List ℕ) where
       judged-index t = sym (rows-judged ∙ simp (e, f, t))
 
       module _ (has : lacksOperand s line ≡ false) where
-        pub judged-loose : anyOf (hasLoose p) (listsOf s) ≡ true → Refused LooseWord ≡ lowest (lineRows p most s line out)
-        judged-loose t = sym (rows-judged ∙ simp (e, f, has, t))
+        -- what every call on the album refuses
+        pub judged-album : {why : Refusal} → lowest (albumRefusals p s) ≡ Refused why → Refused why ≡ lowest (lineRows p most s line out)
+        judged-album {why} a = go (anyOf (hasLoose p) (listsOf s)) refl
+          where
+            go : (b : Bool) → anyOf (hasLoose p) (listsOf s) ≡ b → Refused why ≡ lowest (lineRows p most s line out)
+            go true t = sym a ∙ sym (album-loose p s e t) ∙ sym (rows-judged ∙ simp (e, f, has, t))
+            go false t = absurd (never (album-done p s e t ∙ a))
 
-        module _ (tight : anyOf (hasLoose p) (listsOf s) ≡ false) where
+        module _ (passed : Passed p s) where
+          tight : anyOf (hasLoose p) (listsOf s) ≡ false
+          tight = album-fine p s passed .1
+
           pub judged-misfit : ¬ (length out ≡ most) → Refused Misfit ≡ lowest (lineRows p most s line out)
           judged-misfit t = sym (rows-judged ∙ simp (e, f, has, tight, ne-eqb (length out) most t))
 
@@ -107,6 +121,10 @@ module _ (p most : ℕ) (s line out : List ℕ) where
         has = i .0;
         fits = eqb-true (length out) most (not-false _ (m .0));
       }
+
+-- what reading the line finds, in a slice with room for every program
+pub read-found : (line code : List ℕ) {o : Outcome} → maxLine ≤ length code → o ≡ readOutcome line code → o ≡ lowest (lineRefusals line)
+read-found line code l e = e ∙ rw (le-ltb (length code) maxLine l)
 
 -- the program of a line
 module _ (s line code : List ℕ) {n : ℕ} (g : ProgramOf line code (judged.Program n)) where

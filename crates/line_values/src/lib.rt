@@ -73,8 +73,8 @@ fn judge(field: u8, album: &[u8], line: &[u8], out: &[u16], code: &mut [u8]) -> 
     if lacks_list(words::byte_at(album, 0), &code[..n]) {
         return Judged::Refused(Refusal::Index);
     }
-    if album_layout::has_loose_word(field, album) {
-        return Judged::Refused(Refusal::LooseWord);
+    if let Outcome::Refused(why) = album_layout::judge_album(field, album) {
+        return Judged::Refused(why);
     }
     if out.len() != field::longest_of(field) {
         return Judged::Refused(Refusal::Misfit);

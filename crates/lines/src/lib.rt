@@ -9,7 +9,7 @@ ghost use Rattle.refusal.specs.Limits.{maxLine};
 ghost use Rattle.refusal.specs.Contract.{given};
 ghost use Rattle.refusal.specs.Lowest.{lowest};
 ghost use Rattle.lines.specs.Grammar.{isDigit, signOf, openBehind, deepest};
-ghost use Rattle.lines.specs.Lines.{lineRefusals, judgedOutcome, ProgramOf};
+ghost use Rattle.lines.specs.Lines.{lineRefusals, readOutcome, judgedOutcome, ProgramOf};
 ghost use Rattle.lines.specs.Internal.{Skipped, Begins, SumSign, ProductSign, Room, saidExpression, saidTerm, saidFactor};
 use refusal::Refusal;
 
@@ -60,8 +60,20 @@ enum Parsed {
     Nothing,
 }
 
-// Reads a line. Its program goes to the start of `code`; what follows there, and all of it where the line is refused, is scratch.
+// Reads a line. Its program goes to the start of `code`; what follows there, and all of it where the line is refused, is scratch. A slice
+// of fewer bytes than the longest line has is refused first.
 pub fn read_line(line: &[u8], code: &mut [u8]) -> Judged
+    ensures refusal { λ r. ⌜ judgedOutcome r ≡ readOutcome (given line) (given code) ⌝ }
+    ensures program { λ r. ⌜ ProgramOf (given line) (now (code .exit)) r ⌝ }
+{
+    if code.len() < refusal::MAX_LINE {
+        return Judged::Refused(Refusal::Misfit);
+    }
+    read_into(line, code)
+}
+
+// The same where there is room for every program.
+fn read_into(line: &[u8], code: &mut [u8]) -> Judged
     requires { ⌜ maxLine ≤ length (now code) ⌝ }
     ensures refusal { λ r. ⌜ judgedOutcome r ≡ lowest (lineRefusals (given line)) ⌝ }
     ensures program { λ r. ⌜ ProgramOf (given line) (now (code .exit)) r ⌝ }

@@ -20,7 +20,7 @@ use Rattle.lines.specs.Grammar.{Tree}
 use Rattle.lines.specs.Program.{postfix, Small}
 use Rattle.line_values.specs.declared.Sized.the-variants as sized
 use Rattle.line_values.specs.Values.{Valued, value, refused, valueOf}
-use Rattle.line_values.specs.Internal.{Stack, State, stack, halted, stuck, onto, run, packed, Lists, RunSo, Runs, ValueSo}
+use Rattle.line_values.specs.Internal.{Stack, State, stack, halted, stuck, onto, run, packed, Lists, RunSo, ValueSo}
 use Rattle.line_values.proofs.Machine.{run-program}
 
 -- of a state: its stack, or that it has none

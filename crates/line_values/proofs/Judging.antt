@@ -7,9 +7,9 @@
 use mathlib.Core.Path.{_≡_, refl, sym, _∙_, ap, ap₂}
 use mathlib.Core.Bool.{Bool, true, false, not}
 use mathlib.Core.List.{List, [], _∷_}
-use Prim.Native.Nat.{ℕ, _≤_, _<_}
+use Prim.Native.Nat.{ℕ, _≤_}
 use native.Mathlib.Omega.{arith}
-use lib.Dec.{eqb, ltb}
+use lib.Dec.{eqb}
 use lib.ListN.{length, take}
 use borrow.Author.Tests.{eq-eqb, ne-eqb, eqb-true, le-ltb, ltb-false, not-false}
 use Rattle.refusal.specs.Limits.{maxLine, maxOpen}
@@ -25,21 +25,19 @@ use Rattle.field.specs.Fields.{modulus, fieldAt, longest}
 use Rattle.lists.specs.Degrees.{naiveDegree}
 use Rattle.lists.specs.Padded.{padded}
 use Rattle.lists.specs.Refused.{hasLoose, anyOf}
-use Rattle.album_layout.specs.Layout.{count, wrongCount, brokenLayout, listsOf}
+use Rattle.album_layout.specs.Layout.{count, listsOf}
 use Rattle.album_layout.specs.Internal.{layoutRefusals, Passed}
 use Rattle.album_layout.specs.Calls.{albumRefusals}
 use Rattle.album_layout.proofs.Judged.{album-loose, album-done, album-fine}
-use Rattle.lines.specs.Grammar.{tokens, deepest, Tree}
-use Rattle.lines.specs.Reader.{reads, readingOf}
-use Rattle.lines.specs.Program.{postfix, Small}
+use Rattle.lines.specs.Grammar.{deepest}
 use Rattle.lines.specs.Lines.{outsideGrammar, tooDeep, lineRefusals, readOutcome, ProgramOf}
 use Rattle.lines.specs.declared.Judged.the-variants as judged
 use Rattle.lines.proofs.Height.{line-height}
 use Rattle.lines.proofs.Operands.{reading-small}
 use Rattle.lines.proofs.Readings.{reading-sound}
-use Rattle.line_values.specs.Values.{Valued, valueOf, lacks}
+use Rattle.line_values.specs.Values.{valueOf}
 use Rattle.line_values.specs.Calls.{lacksOperand, lineRows, valueIn, lineValue, lateOf, listIn, lineAnswer, lineWritten}
-use Rattle.line_values.specs.Internal.{lacksByte, Runs, Valuing, ValueSo}
+use Rattle.line_values.specs.Internal.{lacksByte, Runs, ValueSo}
 use Rattle.line_values.proofs.Programs.{lacks-program, lacks-tokens}
 
 -- an outcome is one or the other

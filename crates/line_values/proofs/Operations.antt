@@ -7,8 +7,7 @@ use mathlib.Core.Path.{_≡_, refl, sym, _∙_, ap}
 use mathlib.Core.List.{List, [], _∷_, _++_}
 use Prim.Native.Nat.{ℕ, suc, _+_, _-_, _≤_, _<_, max}
 use native.Mathlib.Omega.{arith}
-use lib.Dec.{eqb, ltb}
-use lib.ListN.{length, take, drop, length-take}
+use lib.ListN.{length, take, drop}
 use lib.Seq.{take-at}
 use borrow.Author.Tests.{eq-eqb, ne-eqb, lt-ltb, le-ltb}
 use Rattle.algebra.specs.PrimeField.{PrimeField}
@@ -38,7 +37,7 @@ use Rattle.list_derivative.proofs.Judged.{derivative-done}
 use Rattle.list_derivative.proofs.Derived.{derivative-length}
 use Rattle.lines.specs.Program.{addByte, subtractByte}
 use Rattle.line_values.specs.declared.Sized.the-variants as sized
-use Rattle.line_values.specs.Values.{value, refused, added, subtracted, multiplied, derived}
+use Rattle.line_values.specs.Values.{added, subtracted, multiplied, derived}
 use Rattle.line_values.specs.Internal.{operation, Came}
 use Rattle.line_values.proofs.Values.{larger-is, sum-listed, difference-listed, product-listed, derivative-listed}
 

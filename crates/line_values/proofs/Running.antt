@@ -10,11 +10,11 @@
 use mathlib.Core.Path.{_≡_, refl, sym, _∙_, ap, subst}
 use mathlib.Core.Bool.{Bool, true, false, cond}
 use mathlib.Core.List.{List, [], _∷_}
-use Prim.Native.Nat.{ℕ, suc, _+_, _-_, _*_, _≤_, _<_, max}
+use Prim.Native.Nat.{ℕ, suc, _+_, _-_, _*_, _≤_, _<_}
 use native.Mathlib.Numerals.{add-one}
 use native.Mathlib.Omega.{arith}
 use lib.Dec.{eqb, ltb}
-use lib.ListN.{length, getD, take, drop, drop-of-length-le}
+use lib.ListN.{length, getD, drop, drop-of-length-le}
 use lib.Seq.{drop-cons}
 use Rattle.algebra.specs.PrimeField.{PrimeField}
 use Rattle.refusal.specs.Limits.{maxWords}
@@ -22,13 +22,13 @@ use Rattle.refusal.specs.declared.Refusal.{Refusal}
 use Rattle.field.specs.Fields.{modulus, fieldAt, longest}
 use Rattle.album_layout.specs.Layout.{count, listsOf}
 use Rattle.album_layout.specs.Internal.{Passed}
-use Rattle.lines.specs.Program.{deriveByte, firstOperator, postfix}
+use Rattle.lines.specs.Program.{deriveByte, firstOperator}
 use Rattle.lines.specs.Height.{heightBehind, peak}
 use Rattle.lines.proofs.Peak.{peak-least, peak-program}
 use Rattle.line_values.specs.declared.Sized.the-variants as sized
 use Rattle.line_values.specs.declared.Stepped.the-variants as stepped
 use Rattle.line_values.specs.Values.{Valued, value, refused, derived}
-use Rattle.line_values.specs.Internal.{maxHeight, Stack, State, stack, halted, stuck, onto, unary, binary, then, operation, operate, step, run, Stacked, Lying, Ready, Made, RunSo, Runs}
+use Rattle.line_values.specs.Internal.{maxHeight, Stack, State, stack, halted, stuck, onto, unary, binary, then, operation, operate, step, run, Stacked, Ready, Made, RunSo, Runs}
 use Rattle.line_values.proofs.Machine.{enough}
 use Rattle.line_values.proofs.Programs.{lacks-not}
 
@@ -89,9 +89,9 @@ pub record Running (k : ℕ) (s code words sizes : List ℕ) (top filled i : ℕ
   pub same : run (fieldAt k) (longest k) (listsOf s) (drop i code) st ≡ run (fieldAt k) (longest k) (listsOf s) code []
   pub high : peak top (drop i code) ≤ maxHeight
 
-module _ (k : ℕ) (s code : List ℕ) (runs : Runs s code) where
-  pub run-start : (words sizes : List ℕ) → Running k s code words sizes 0 0 0
-  run-start words sizes =
+module _ {s code : List ℕ} (runs : Runs s code) where
+  pub run-start : (k : ℕ) (words sizes : List ℕ) → Running k s code words sizes 0 0 0
+  run-start k words sizes =
       record {
         st = [];
         stacked = record { height = refl; size = refl; held = refl; lengths = refl; lists = tt };
@@ -99,7 +99,7 @@ module _ (k : ℕ) (s code : List ℕ) (runs : Runs s code) where
         high = omega (arith, runs .low, ap (peak 0) (runs .is), peak-program (runs .tree) (runs .small));
       }
 
-  module _ (words sizes : List ℕ) (top filled i : ℕ) (r : Running k s code words sizes top filled i) where
+  module _ {k : ℕ} {words sizes : List ℕ} {top filled i : ℕ} (r : Running k s code words sizes top filled i) where
     module _ (l : i < length code) where
       next : drop i code ≡ getD code i 0 ∷ drop (i + 1) code
       next = drop-cons code i 0 l ∙ ap (λ j. getD code i 0 ∷ drop j code) (sym (add-one i))

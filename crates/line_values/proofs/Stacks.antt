@@ -18,7 +18,7 @@ use lib.Seq.{getD-take, getD-at, take-suc-set}
 use Rattle.refusal.specs.Limits.{maxWords}
 use Rattle.lists.specs.Refused.{IsList}
 use Rattle.lists.proofs.Parts.{part-filled, front-of, part-of}
-use Rattle.line_values.specs.Internal.{maxHeight, Stack, packed, sizesOf, Lists, Stacked, Lying}
+use Rattle.line_values.specs.Internal.{Stack, packed, sizesOf, Lists, Stacked}
 
 sizes-length : (s : Stack) → length (sizesOf s) ≡ length s
 sizes-length [] = refl

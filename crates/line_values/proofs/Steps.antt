@@ -7,10 +7,10 @@
 -- Assumes nothing.
 use mathlib.Core.Path.{_≡_, refl, sym, _∙_, ap, ap₂, subst}
 use mathlib.Core.List.{List, [], _∷_, _++_, append-assoc}
-use Prim.Native.Nat.{ℕ, suc, _+_, _-_, _*_, _≤_, _<_, max}
+use Prim.Native.Nat.{ℕ, _+_, _-_, _*_, _≤_, _<_, max}
 use native.Mathlib.Omega.{arith}
 use lib.ListN.{length, getD, set, take, drop, replicate, length-take, length-drop}
-use borrow.Author.Tests.{lt-ltb, le-ltb, eq-eqb, ne-eqb}
+use borrow.Author.Tests.{lt-ltb, le-ltb, ne-eqb}
 use Rattle.algebra.specs.PrimeField.{PrimeField}
 use Rattle.refusal.specs.Limits.{maxWords}
 use Rattle.refusal.specs.declared.Refusal.{Refusal}
@@ -32,7 +32,7 @@ use Rattle.lines.specs.Height.{heightBehind}
 use Rattle.line_values.specs.declared.Sized.the-variants as sized
 use Rattle.line_values.specs.declared.Stepped.the-variants as stepped
 use Rattle.line_values.specs.Values.{Valued, value, refused, derived}
-use Rattle.line_values.specs.Internal.{maxHeight, Stack, State, stack, halted, onto, unary, binary, operation, operate, step, Stacked, operandsNeeded, Lying, Came, Made, StepSo}
+use Rattle.line_values.specs.Internal.{maxHeight, Stack, stack, halted, onto, unary, binary, operation, operate, step, Stacked, operandsNeeded, Lying, Came, StepSo}
 use Rattle.line_values.proofs.Stacks.{filled-low, top-size, top-words, taken, put-on, recount, reword, twos}
 use Rattle.line_values.proofs.Operations.{came-derivative}
 

@@ -27,7 +27,7 @@ use Rattle.algebra.specs.PrimeField.{PrimeField}
 use Rattle.refusal.specs.Limits.{maxOpen, maxWords}
 use Rattle.refusal.specs.Refusal.{Reply, reply, written}
 use Rattle.refusal.specs.declared.Refusal.{Refusal}
-use Rattle.field.specs.Fields.{modulus, fieldAt, longest}
+use Rattle.field.specs.Fields.{fieldAt, longest}
 use Rattle.lists.specs.Degrees.{naiveDegree}
 use Rattle.lists.specs.Padded.{padded}
 use Rattle.lists.specs.Refused.{IsList}

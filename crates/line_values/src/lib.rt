@@ -1,25 +1,21 @@
 // The value of a line of algebra over the lists of an album. The line's program (crate `lines`) is run on a stack of lists, which lies in
 // one array: the lists' words one behind the other, the lowest list first. What an operation makes of the lists on top takes their place.
 ghost use mathlib.Core.Path.{_≡_};
-ghost use mathlib.Core.Bool.{false};
-ghost use mathlib.Core.List.{[], _∷_};
-ghost use Prim.Native.Nat.{_*_, _≤_, _<_};
+ghost use mathlib.Core.List.{[]};
+ghost use Prim.Native.Nat.{_*_, _≤_};
 ghost use lib.ListN.{length, getD};
 ghost use Rattle.refusal.specs.Contract.{given};
 ghost use Rattle.refusal.specs.Limits.{maxLine, maxWords};
 ghost use Rattle.refusal.specs.Lowest.{lowest};
-ghost use Rattle.refusal.specs.Refusal.{reply, written};
 ghost use Rattle.field.specs.Fields.{modulus, fieldAt, longest};
-ghost use Rattle.lists.specs.Degrees.{naiveDegree};
 ghost use Rattle.lists.specs.Padded.{padded};
 ghost use Rattle.lists.specs.Refused.{IsList};
 ghost use Rattle.album_layout.specs.Layout.{listsOf};
 ghost use Rattle.album_layout.specs.Internal.{Passed};
 ghost use Rattle.album_reader.specs.Calls.{listedReply};
 ghost use Rattle.lines.specs.Lines.{judgedOutcome, ProgramOf};
-ghost use Rattle.lines.specs.Program.{postfix};
-ghost use Rattle.line_values.specs.Values.{multiplied, derived, valueOf};
-ghost use Rattle.line_values.specs.Calls.{lineRows, lateOf, listIn, lineAnswer, lineWritten};
+ghost use Rattle.line_values.specs.Values.{multiplied, derived};
+ghost use Rattle.line_values.specs.Calls.{lineRows, lineAnswer, lineWritten};
 ghost use Rattle.line_values.specs.Internal.{maxHeight, operation, unary, binary, Ready, Lying, Came, StepSo, RunSo, lacksOne, lacksByte, Runs, ValueSo};
 ghost use Rattle.line_values.specs.Internal as machine;
 use album_reader::Listed;
@@ -29,18 +25,18 @@ use refusal::Outcome;
 use refusal::Refusal;
 
 // The most lists on the stack: three, and two for each parenthesis that is open.
-pub const MAX_HEIGHT: usize = 2 * refusal::MAX_OPEN + 3;
+const MAX_HEIGHT: usize = 2 * refusal::MAX_OPEN + 3;
 
 const STACK_WORDS: usize = MAX_HEIGHT * refusal::MAX_WORDS;
 
 // What an operation comes to: the number of words of its result, or its refusal.
-pub enum Sized {
+enum Sized {
     Words(usize),
     Refused(Refusal),
 }
 
 // What a byte of the program makes of the stack: its number of lists and of words, or the refusal of an operation.
-pub enum Stepped {
+enum Stepped {
     To(usize, usize),
     Refused(Refusal),
 }
@@ -57,7 +53,8 @@ pub fn line_value_over(field: u8, album: &[u8], line: &[u8], out: &mut [u16]) ->
     }
 }
 
-// What the call refuses by its inputs alone; the line's program goes to `code`.
+// What the call refuses by its inputs alone; the line's program goes to `code`. 12, 13 and 3 go between an album's 2 and its 5, so that the
+// layout is judged first, and the album with its words after the line.
 fn judge(field: u8, album: &[u8], line: &[u8], out: &[u16], code: &mut [u8]) -> Judged
     requires { ⌜ maxLine ≤ length (now code) ⌝ }
     ensures { λ r. ⌜ judgedOutcome r ≡ lowest (lineRows (modulus field) (longest field) (given album) (given line) (given out)) ⌝ }

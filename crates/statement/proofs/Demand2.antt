@@ -2,9 +2,9 @@
 --     demand2      over every prime field with more elements than a list has words
 --     of-engine    over the field of 65,521 elements
 -- Assumes nothing.
-use mathlib.Core.Path.{_≡_, refl, sym, _∙_, ap}
+use mathlib.Core.Path.{_≡_, sym, _∙_, ap}
 use mathlib.Core.List.{List, [], _∷_}
-use Prim.Native.Nat.{ℕ, zero, suc, _+_, _≤_, _<_, max}
+use Prim.Native.Nat.{ℕ, suc, _+_, _≤_, _<_, max}
 use native.Mathlib.Nat.{le-of-lt, add-comm}
 use native.Mathlib.Omega.{arith}
 use lib.Dec.{eqb}
@@ -26,7 +26,7 @@ use Rattle.lists.proofs.Bytes.{words-of-bytes, bytes-words}
 use Rattle.lists.specs.Degrees.{naiveDegree, significant}
 use Rattle.lists.specs.Refused.{listRefusals}
 use Rattle.lists.specs.Lists.{Coefficients, meaning}
-use Rattle.lists.specs.Operations.{product, raise, largerDegree, sumOf, differenceOf, trim, derivative, evaluate}
+use Rattle.lists.specs.Operations.{product, raise, largerDegree, sumOf, differenceOf, trim, evaluate}
 use Rattle.lists.proofs.Scaled.{length-naive, coefficients-listed}
 use Rattle.lists.proofs.Unscaled.{scaled-injective, meaning-injective}
 use Rattle.lists.proofs.Products.{length-product, coefficients-product, product-meaning}

@@ -3,19 +3,19 @@
 --     line-so         of line_value
 -- Assumes nothing.
 use mathlib.Core.Path.{_≡_, refl, sym, _∙_, ap, ap₂, subst}
-use mathlib.Core.Bool.{Bool, true, false, not, cond, _||_}
+use mathlib.Core.Bool.{Bool, true, false, cond}
 use mathlib.Core.List.{List, [], _∷_}
 use Prim.Native.Nat.{ℕ, suc, _+_, _-_, _≤_, _<_, max}
 use native.Mathlib.Omega.{arith}
-use lib.Dec.{leb, ltb}
+use lib.Dec.{ltb}
 use lib.ListN.{length, getD}
 use borrow.Author.Tests.{leb-false, ltb-false}
 use Rattle.algebra.specs.Ring.{CommRing}
 use Rattle.algebra.specs.Derivative as D
 use Rattle.algebra.specs.PrimeField.{PrimeField}
 use Rattle.refusal.specs.Limits.{maxLists, maxWords}
-use Rattle.refusal.specs.Refusal.{Reply, reply, written}
-use Rattle.refusal.specs.Lowest.{lowest, or-else}
+use Rattle.refusal.specs.Refusal.{Reply, written}
+use Rattle.refusal.specs.Lowest.{lowest}
 use Rattle.refusal.specs.declared.Refusal.the-variants.{Over}
 use Rattle.refusal.specs.declared.Outcome.the-variants.{Done}
 use Rattle.refusal.proofs.Answers.{done-reply}
@@ -38,17 +38,16 @@ use Rattle.list_derivative.proofs.Derived.{derivative-length}
 use Rattle.album_layout.specs.Layout.{count, wrongCount, brokenLayout, listsOf}
 use Rattle.album_layout.proofs.Places.{length-lists}
 use Rattle.album_layout.proofs.Passed.{passed-each}
-use Rattle.lines.specs.Grammar.{tokens, Tree, list, sum, difference, product, derivative}
-use Rattle.lines.specs.Reader.{Reading, reads, outside, readingOf}
+use Rattle.lines.specs.Grammar.{Tree, list, sum, difference, product, derivative}
+use Rattle.lines.specs.Reader.{reads}
 use Rattle.lines.specs.Lines.{outsideGrammar, tooDeep}
-use Rattle.lines.proofs.Lines.{OneTree, inside-is}
+use Rattle.lines.proofs.Lines.{inside-is}
 use Rattle.lines.proofs.Readings.{reading-complete}
 use Rattle.line_values.specs.Values.{Valued, value, refused, both, one, added, subtracted, multiplied, derived, valueOf, lacks}
 use Rattle.line_values.specs.Calls.{lacksOperand, lineRows, valueIn, lineValue, lateOf, listIn, lineAnswer, lineWritten}
 use Rattle.line_values.proofs.Programs.{lacks-tokens}
 use Rattle.line_values.proofs.Values.{sum-listed, difference-listed, product-listed, derivative-listed}
-use Rattle.statement.specs.Meant.{TheList}
-use Rattle.statement.specs.Demand2Calls.{degreeBy, meantBy, LineValue, LineSo}
+use Rattle.statement.specs.Demand2Calls.{degreeBy, meantBy, LineSo}
 use Rattle.statement.proofs.Demand2Albums.{Fine, fine-passes, holds}
 
 module _ (F : PrimeField) (most : ℕ) (wide : most ≤ F .p) where

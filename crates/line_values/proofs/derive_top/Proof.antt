@@ -21,16 +21,35 @@ slice-read-k : tie.Need-slice-read-k
 slice-read-k c = search needs
 
 sub-from : tie.Need-sub-from
-sub-from c = let y = c .before .before .before .before .pre .0 in let low = y .low in let t = tops (longest-room (c .before .before .before .before .args .field)) (y .st) (y .stacked) (c .before .before .before .before .pre .1) in let most = longest-room (c .before .before .before .before .args .field) in omega (arith, y .words-room, y .sizes-room, y .out-room)
+sub-from c =
+    let start = c .before .before .before .before in
+    let y = start .pre .0 in
+    let low = y .low in
+    let t = tops (longest-room (start .args .field)) (y .st) (y .stacked) (start .pre .1) in
+    let most = longest-room (start .args .field) in
+    omega (arith, y .words-room, y .sizes-room, y .out-room)
 
 sub-larger : tie.Need-sub-larger
-sub-larger c = let y = c .before .before .before .before .pre .0 in let low = y .low in let t = tops (longest-room (c .before .before .before .before .args .field)) (y .st) (y .stacked) (c .before .before .before .before .pre .1) in let most = longest-room (c .before .before .before .before .args .field) in omega (arith, y .words-room, y .sizes-room, y .out-room)
+sub-larger c =
+    let start = c .before .before .before .before in
+    let y = start .pre .0 in
+    let low = y .low in
+    let t = tops (longest-room (start .args .field)) (y .st) (y .stacked) (start .pre .1) in
+    let most = longest-room (start .args .field) in
+    omega (arith, y .words-room, y .sizes-room, y .out-room)
 
 larger-requires : tie.Need-larger-requires
 larger-requires c κs = search needs
 
 mul-derivative-over : tie.Need-mul-derivative-over
-mul-derivative-over c = let y = c .before .before .before .before .before .pre .0 in let low = y .low in let t = tops (longest-room (c .before .before .before .before .before .args .field)) (y .st) (y .stacked) (c .before .before .before .before .before .pre .1) in let most = longest-room (c .before .before .before .before .before .args .field) in let n = c .larger .ensures in omega (arith, y .words-room, y .sizes-room, y .out-room)
+mul-derivative-over c =
+    let start = c .before .before .before .before .before in
+    let y = start .pre .0 in
+    let low = y .low in
+    let t = tops (longest-room (start .args .field)) (y .st) (y .stacked) (start .pre .1) in
+    let most = longest-room (start .args .field) in
+    let n = c .larger .ensures in
+    omega (arith, y .words-room, y .sizes-room, y .out-room)
 
 sub-derivative-over : tie.Need-sub-derivative-over
 sub-derivative-over c = search needs
@@ -39,28 +58,77 @@ part-derivative-over-start : tie.Need-part-derivative-over-start
 part-derivative-over-start c = search needs
 
 part-derivative-over-end : tie.Need-part-derivative-over-end
-part-derivative-over-end c = let y = c .before .before .before .before .before .before .pre .0 in let low = y .low in let t = tops (longest-room (c .before .before .before .before .before .before .args .field)) (y .st) (y .stacked) (c .before .before .before .before .before .before .pre .1) in let most = longest-room (c .before .before .before .before .before .before .args .field) in let n = c .before .larger .ensures in omega (arith, y .words-room, y .sizes-room, y .out-room)
+part-derivative-over-end c =
+    let start = c .before .before .before .before .before .before in
+    let y = start .pre .0 in
+    let low = y .low in
+    let t = tops (longest-room (start .args .field)) (y .st) (y .stacked) (start .pre .1) in
+    let most = longest-room (start .args .field) in
+    let n = c .before .larger .ensures in
+    omega (arith, y .words-room, y .sizes-room, y .out-room)
 
 slice-relend-prefix-derivative-over : tie.Need-slice-relend-prefix-derivative-over
-slice-relend-prefix-derivative-over c = let y = c .before .before .before .before .before .before .before .pre .0 in let low = y .low in let t = tops (longest-room (c .before .before .before .before .before .before .before .args .field)) (y .st) (y .stacked) (c .before .before .before .before .before .before .before .pre .1) in let most = longest-room (c .before .before .before .before .before .before .before .args .field) in let n = c .before .before .larger .ensures in omega (arith, y .words-room, y .sizes-room, y .out-room)
+slice-relend-prefix-derivative-over c =
+    let start = c .before .before .before .before .before .before .before in
+    let y = start .pre .0 in
+    let low = y .low in
+    let t = tops (longest-room (start .args .field)) (y .st) (y .stacked) (start .pre .1) in
+    let most = longest-room (start .args .field) in
+    let n = c .before .before .larger .ensures in
+    omega (arith, y .words-room, y .sizes-room, y .out-room)
 
 slice-aggregate-derivative-over : tie.Need-slice-aggregate-derivative-over
-slice-aggregate-derivative-over c = let y = c .before .before .before .before .before .before .before .before .pre .0 in let low = y .low in let t = tops (longest-room (c .before .before .before .before .before .before .before .before .args .field)) (y .st) (y .stacked) (c .before .before .before .before .before .before .before .before .pre .1) in let most = longest-room (c .before .before .before .before .before .before .before .before .args .field) in let n = c .before .before .before .larger .ensures in simp length-take (omega (arith, y .words-room, y .sizes-room, y .out-room))
+slice-aggregate-derivative-over c =
+    let start = c .before .before .before .before .before .before .before .before in
+    let y = start .pre .0 in
+    let low = y .low in
+    let t = tops (longest-room (start .args .field)) (y .st) (y .stacked) (start .pre .1) in
+    let most = longest-room (start .args .field) in
+    let n = c .before .before .before .larger .ensures in
+    simp length-take (omega (arith, y .words-room, y .sizes-room, y .out-room))
 
 derivative-over-requires : tie.Need-derivative-over-requires
 derivative-over-requires c κs = search needs
 
 slice-reshare-prefix-copy : tie.Need-slice-reshare-prefix-copy
-slice-reshare-prefix-copy c = let y = c .before .before .before .before .before .before .before .before .before .before .before .pre .0 in let low = y .low in let t = tops (longest-room (c .before .before .before .before .before .before .before .before .before .before .before .args .field)) (y .st) (y .stacked) (c .before .before .before .before .before .before .before .before .before .before .before .pre .1) in let most = longest-room (c .before .before .before .before .before .before .before .before .before .before .before .args .field) in let n = c .before .before .before .before .before .before .larger .ensures in omega (arith, y .words-room, y .sizes-room, y .out-room)
+slice-reshare-prefix-copy c =
+    let start = c .before .before .before .before .before .before .before .before .before .before .before in
+    let y = start .pre .0 in
+    let low = y .low in
+    let t = tops (longest-room (start .args .field)) (y .st) (y .stacked) (start .pre .1) in
+    let most = longest-room (start .args .field) in
+    let n = c .before .before .before .before .before .before .larger .ensures in
+    omega (arith, y .words-room, y .sizes-room, y .out-room)
 
 slice-aggregate-copy : tie.Need-slice-aggregate-copy
-slice-aggregate-copy c = let y = c .before .before .before .before .before .before .before .before .before .before .before .before .pre .0 in let low = y .low in let t = tops (longest-room (c .before .before .before .before .before .before .before .before .before .before .before .before .args .field)) (y .st) (y .stacked) (c .before .before .before .before .before .before .before .before .before .before .before .before .pre .1) in let most = longest-room (c .before .before .before .before .before .before .before .before .before .before .before .before .args .field) in let n = c .before .before .before .before .before .before .before .larger .ensures in sym (length-take-le _ _ (omega (arith, y .words-room, y .sizes-room, y .out-room)))
+slice-aggregate-copy c =
+    let start = c .before .before .before .before .before .before .before .before .before .before .before .before in
+    let y = start .pre .0 in
+    let low = y .low in
+    let t = tops (longest-room (start .args .field)) (y .st) (y .stacked) (start .pre .1) in
+    let most = longest-room (start .args .field) in
+    let n = c .before .before .before .before .before .before .before .larger .ensures in
+    sym (length-take-le _ _ (omega (arith, y .words-room, y .sizes-room, y .out-room)))
 
 add-copy : tie.Need-add-copy
-add-copy c = let y = c .before .before .before .before .before .before .before .before .before .before .before .before .pre .0 in let low = y .low in let t = tops (longest-room (c .before .before .before .before .before .before .before .before .before .before .before .before .args .field)) (y .st) (y .stacked) (c .before .before .before .before .before .before .before .before .before .before .before .before .pre .1) in let most = longest-room (c .before .before .before .before .before .before .before .before .before .before .before .before .args .field) in let n = c .before .before .before .before .before .before .before .larger .ensures in omega (arith, y .words-room, y .sizes-room, y .out-room)
+add-copy c =
+    let start = c .before .before .before .before .before .before .before .before .before .before .before .before in
+    let y = start .pre .0 in
+    let low = y .low in
+    let t = tops (longest-room (start .args .field)) (y .st) (y .stacked) (start .pre .1) in
+    let most = longest-room (start .args .field) in
+    let n = c .before .before .before .before .before .before .before .larger .ensures in
+    omega (arith, y .words-room, y .sizes-room, y .out-room)
 
 mul-copy : tie.Need-mul-copy
-mul-copy c = let y = c .before .before .before .before .before .before .before .before .before .before .before .before .pre .0 in let low = y .low in let t = tops (longest-room (c .before .before .before .before .before .before .before .before .before .before .before .before .args .field)) (y .st) (y .stacked) (c .before .before .before .before .before .before .before .before .before .before .before .before .pre .1) in let most = longest-room (c .before .before .before .before .before .before .before .before .before .before .before .before .args .field) in let n = c .before .before .before .before .before .before .before .larger .ensures in omega (arith, y .words-room, y .sizes-room, y .out-room)
+mul-copy c =
+    let start = c .before .before .before .before .before .before .before .before .before .before .before .before in
+    let y = start .pre .0 in
+    let low = y .low in
+    let t = tops (longest-room (start .args .field)) (y .st) (y .stacked) (start .pre .1) in
+    let most = longest-room (start .args .field) in
+    let n = c .before .before .before .before .before .before .before .larger .ensures in
+    omega (arith, y .words-room, y .sizes-room, y .out-room)
 
 sub-copy : tie.Need-sub-copy
 sub-copy c = search needs
@@ -69,7 +137,14 @@ part-copy-start : tie.Need-part-copy-start
 part-copy-start c = search needs
 
 part-copy-end : tie.Need-part-copy-end
-part-copy-end c = let y = c .before .before .before .before .before .before .before .before .before .before .before .before .pre .0 in let low = y .low in let t = tops (longest-room (c .before .before .before .before .before .before .before .before .before .before .before .before .args .field)) (y .st) (y .stacked) (c .before .before .before .before .before .before .before .before .before .before .before .before .pre .1) in let most = longest-room (c .before .before .before .before .before .before .before .before .before .before .before .before .args .field) in let n = c .before .before .before .before .before .before .before .larger .ensures in omega (arith, y .words-room, y .sizes-room, y .out-room)
+part-copy-end c =
+    let start = c .before .before .before .before .before .before .before .before .before .before .before .before in
+    let y = start .pre .0 in
+    let low = y .low in
+    let t = tops (longest-room (start .args .field)) (y .st) (y .stacked) (start .pre .1) in
+    let most = longest-room (start .args .field) in
+    let n = c .before .before .before .before .before .before .before .larger .ensures in
+    omega (arith, y .words-room, y .sizes-room, y .out-room)
 
 copy-requires : tie.Need-copy-requires
 copy-requires c κs = search needs
@@ -84,7 +159,14 @@ slice-write-sizes : tie.Need-slice-write-sizes
 slice-write-sizes c = search needs
 
 add-t10 : tie.Need-add-t10
-add-t10 c = let y = c .before .before .before .before .before .before .before .before .before .before .before .before .before .before .before .before .pre .0 in let low = y .low in let t = tops (longest-room (c .before .before .before .before .before .before .before .before .before .before .before .before .before .before .before .before .args .field)) (y .st) (y .stacked) (c .before .before .before .before .before .before .before .before .before .before .before .before .before .before .before .before .pre .1) in let most = longest-room (c .before .before .before .before .before .before .before .before .before .before .before .before .before .before .before .before .args .field) in let n = c .before .before .before .before .before .before .before .before .before .before .before .larger .ensures in omega (arith, y .words-room, y .sizes-room, y .out-room)
+add-t10 c =
+    let start = c .before .before .before .before .before .before .before .before .before .before .before .before .before .before .before .before in
+    let y = start .pre .0 in
+    let low = y .low in
+    let t = tops (longest-room (start .args .field)) (y .st) (y .stacked) (start .pre .1) in
+    let most = longest-room (start .args .field) in
+    let n = c .before .before .before .before .before .before .before .before .before .before .before .larger .ensures in
+    omega (arith, y .words-room, y .sizes-room, y .out-room)
 
 same-length : tie.Need-same-length
 same-length c = search needs
@@ -96,7 +178,9 @@ same-length-3 : tie.Need-same-length-3
 same-length-3 c = search needs
 
 returns : tie.Need-returns
-returns c = derive-so (c .before .before .before .before .before .before .before .before .before .before .before .before .before .before .before .before .args .field) (c .before .before .before .before .before .before .before .before .before .before .before .before .before .before .before .before .args .stack .now) (c .before .before .before .before .before .before .before .before .before .before .before .before .before .before .before .before .args .sizes .now) (c .before .before .before .before .before .before .before .before .before .before .before .before .before .before .before .before .args .top) (c .before .before .before .before .before .before .before .before .before .before .before .before .before .before .before .before .args .filled) (c .before .before .before .before .before .before .before .before .before .before .before .before .before .before .before .before .args .room .now) (c .before .before .before .before .before .before .before .before .before .before .before .before .before .before .before .before .pre .0) (c .before .before .before .before .before .before .before .before .before .before .before .before .before .before .before .before .pre .1) refl _ (c .before .before .before .before .before .before .before .before .before .before .before .larger .ensures) (c .before .before .before .before .before .before .before .derivative-over .ensures .1) (c .before .before .copy .ensures)
+returns c =
+    let start = c .before .before .before .before .before .before .before .before .before .before .before .before .before .before .before .before in
+    derive-so (start .args .field) (start .args .stack .now) (start .args .sizes .now) (start .args .top) (start .args .filled) (start .args .room .now) (start .pre .0) (start .pre .1) refl _ (c .before .before .before .before .before .before .before .before .before .before .before .larger .ensures) (c .before .before .before .before .before .before .before .derivative-over .ensures .1) (c .before .before .copy .ensures)
 
 pub derive-top-spec : {M : Type 1} → statement M
 derive-top-spec =

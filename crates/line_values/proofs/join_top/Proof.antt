@@ -20,7 +20,14 @@ slice-read-between : tie.Need-slice-read-between
 slice-read-between c = search needs
 
 sub-between-2 : tie.Need-sub-between-2
-sub-between-2 c = let y = c .before .before .before .before .pre .0 in let low = y .low in let t = twos (longest-room (c .before .before .before .before .args .field)) (y .st) (y .stacked) (c .before .before .before .before .pre .1) in let first = t .first in let most = longest-room (c .before .before .before .before .args .field) in omega (arith, y .words-room, y .sizes-room, y .out-room)
+sub-between-2 c =
+    let start = c .before .before .before .before in
+    let y = start .pre .0 in
+    let low = y .low in
+    let t = twos (longest-room (start .args .field)) (y .st) (y .stacked) (start .pre .1) in
+    let first = t .first in
+    let most = longest-room (start .args .field) in
+    omega (arith, y .words-room, y .sizes-room, y .out-room)
 
 sub-from : tie.Need-sub-from
 sub-from c = search needs
@@ -32,10 +39,24 @@ slice-read-from : tie.Need-slice-read-from
 slice-read-from c = search needs
 
 sub-from-2 : tie.Need-sub-from-2
-sub-from-2 c = let y = c .before .before .before .before .before .pre .0 in let low = y .low in let t = twos (longest-room (c .before .before .before .before .before .args .field)) (y .st) (y .stacked) (c .before .before .before .before .before .pre .1) in let first = t .first in let most = longest-room (c .before .before .before .before .before .args .field) in omega (arith, y .words-room, y .sizes-room, y .out-room)
+sub-from-2 c =
+    let start = c .before .before .before .before .before in
+    let y = start .pre .0 in
+    let low = y .low in
+    let t = twos (longest-room (start .args .field)) (y .st) (y .stacked) (start .pre .1) in
+    let first = t .first in
+    let most = longest-room (start .args .field) in
+    omega (arith, y .words-room, y .sizes-room, y .out-room)
 
 mul-operate : tie.Need-mul-operate
-mul-operate c = let y = c .before .before .before .before .before .pre .0 in let low = y .low in let t = twos (longest-room (c .before .before .before .before .before .args .field)) (y .st) (y .stacked) (c .before .before .before .before .before .pre .1) in let first = t .first in let most = longest-room (c .before .before .before .before .before .args .field) in omega (arith, y .words-room, y .sizes-room, y .out-room)
+mul-operate c =
+    let start = c .before .before .before .before .before in
+    let y = start .pre .0 in
+    let low = y .low in
+    let t = twos (longest-room (start .args .field)) (y .st) (y .stacked) (start .pre .1) in
+    let first = t .first in
+    let most = longest-room (start .args .field) in
+    omega (arith, y .words-room, y .sizes-room, y .out-room)
 
 sub-operate : tie.Need-sub-operate
 sub-operate c = search needs
@@ -44,10 +65,24 @@ part-operate-start : tie.Need-part-operate-start
 part-operate-start c = search needs
 
 part-operate-end : tie.Need-part-operate-end
-part-operate-end c = let y = c .before .before .before .before .before .before .pre .0 in let low = y .low in let t = twos (longest-room (c .before .before .before .before .before .before .args .field)) (y .st) (y .stacked) (c .before .before .before .before .before .before .pre .1) in let first = t .first in let most = longest-room (c .before .before .before .before .before .before .args .field) in omega (arith, y .words-room, y .sizes-room, y .out-room)
+part-operate-end c =
+    let start = c .before .before .before .before .before .before in
+    let y = start .pre .0 in
+    let low = y .low in
+    let t = twos (longest-room (start .args .field)) (y .st) (y .stacked) (start .pre .1) in
+    let first = t .first in
+    let most = longest-room (start .args .field) in
+    omega (arith, y .words-room, y .sizes-room, y .out-room)
 
 mul-operate-2 : tie.Need-mul-operate-2
-mul-operate-2 c = let y = c .before .before .before .before .before .before .before .pre .0 in let low = y .low in let t = twos (longest-room (c .before .before .before .before .before .before .before .args .field)) (y .st) (y .stacked) (c .before .before .before .before .before .before .before .pre .1) in let first = t .first in let most = longest-room (c .before .before .before .before .before .before .before .args .field) in omega (arith, y .words-room, y .sizes-room, y .out-room)
+mul-operate-2 c =
+    let start = c .before .before .before .before .before .before .before in
+    let y = start .pre .0 in
+    let low = y .low in
+    let t = twos (longest-room (start .args .field)) (y .st) (y .stacked) (start .pre .1) in
+    let first = t .first in
+    let most = longest-room (start .args .field) in
+    omega (arith, y .words-room, y .sizes-room, y .out-room)
 
 sub-operate-2 : tie.Need-sub-operate-2
 sub-operate-2 c = search needs
@@ -56,25 +91,76 @@ part-operate-start-2 : tie.Need-part-operate-start-2
 part-operate-start-2 c = search needs
 
 part-operate-end-2 : tie.Need-part-operate-end-2
-part-operate-end-2 c = let y = c .before .before .before .before .before .before .before .pre .0 in let low = y .low in let t = twos (longest-room (c .before .before .before .before .before .before .before .args .field)) (y .st) (y .stacked) (c .before .before .before .before .before .before .before .pre .1) in let first = t .first in let most = longest-room (c .before .before .before .before .before .before .before .args .field) in omega (arith, y .words-room, y .sizes-room, y .out-room)
+part-operate-end-2 c =
+    let start = c .before .before .before .before .before .before .before in
+    let y = start .pre .0 in
+    let low = y .low in
+    let t = twos (longest-room (start .args .field)) (y .st) (y .stacked) (start .pre .1) in
+    let first = t .first in
+    let most = longest-room (start .args .field) in
+    omega (arith, y .words-room, y .sizes-room, y .out-room)
 
 operate-requires : tie.Need-operate-requires
-operate-requires c κs = let y = c .before .before .before .before .before .before .before .before .before .pre .0 in let two = join-lists (y .st) (y .stacked) (c .before .before .before .before .before .before .before .before .before .pre .1) refl refl in (two .0, two .1, y .out-room)
+operate-requires c κs =
+    let start = c .before .before .before .before .before .before .before .before .before in
+    let y = start .pre .0 in
+    let two = join-lists (y .st) (y .stacked) (start .pre .1) refl refl in
+    (two .0, two .1, y .out-room)
 
 enum-known-n : tie.Need-enum-known-n
 enum-known-n c = search needs
 
 slice-reshare-prefix-copy : tie.Need-slice-reshare-prefix-copy
-slice-reshare-prefix-copy c = let y = c .before .before .before .before .before .before .before .before .before .before .before .before .before .before .before .pre .0 in let low = y .low in let t = twos (longest-room (c .before .before .before .before .before .before .before .before .before .before .before .before .before .before .before .args .field)) (y .st) (y .stacked) (c .before .before .before .before .before .before .before .before .before .before .before .before .before .before .before .pre .1) in let first = t .first in let most = longest-room (c .before .before .before .before .before .before .before .before .before .before .before .before .before .before .before .args .field) in let came = rw (c .before .n .given .1) at (c .before .before .before .before .before .operate .ensures) in let short = came .4 .short in let size = came .2 in omega (arith, y .words-room, y .sizes-room, y .out-room)
+slice-reshare-prefix-copy c =
+    let start = c .before .before .before .before .before .before .before .before .before .before .before .before .before .before .before in
+    let y = start .pre .0 in
+    let low = y .low in
+    let t = twos (longest-room (start .args .field)) (y .st) (y .stacked) (start .pre .1) in
+    let first = t .first in
+    let most = longest-room (start .args .field) in
+    let came = rw (c .before .n .given .1) at (c .before .before .before .before .before .operate .ensures) in
+    let short = came .4 .short in
+    let size = came .2 in
+    omega (arith, y .words-room, y .sizes-room, y .out-room)
 
 slice-aggregate-copy : tie.Need-slice-aggregate-copy
-slice-aggregate-copy c = let y = c .before .before .before .before .before .before .before .before .before .before .before .before .before .before .before .before .pre .0 in let low = y .low in let t = twos (longest-room (c .before .before .before .before .before .before .before .before .before .before .before .before .before .before .before .before .args .field)) (y .st) (y .stacked) (c .before .before .before .before .before .before .before .before .before .before .before .before .before .before .before .before .pre .1) in let first = t .first in let most = longest-room (c .before .before .before .before .before .before .before .before .before .before .before .before .before .before .before .before .args .field) in let came = rw (c .before .before .n .given .1) at (c .before .before .before .before .before .before .operate .ensures) in let short = came .4 .short in let size = came .2 in sym (length-take-le _ _ (omega (arith, y .words-room, y .sizes-room, y .out-room)))
+slice-aggregate-copy c =
+    let start = c .before .before .before .before .before .before .before .before .before .before .before .before .before .before .before .before in
+    let y = start .pre .0 in
+    let low = y .low in
+    let t = twos (longest-room (start .args .field)) (y .st) (y .stacked) (start .pre .1) in
+    let first = t .first in
+    let most = longest-room (start .args .field) in
+    let came = rw (c .before .before .n .given .1) at (c .before .before .before .before .before .before .operate .ensures) in
+    let short = came .4 .short in
+    let size = came .2 in
+    sym (length-take-le _ _ (omega (arith, y .words-room, y .sizes-room, y .out-room)))
 
 add-copy : tie.Need-add-copy
-add-copy c = let y = c .before .before .before .before .before .before .before .before .before .before .before .before .before .before .before .before .pre .0 in let low = y .low in let t = twos (longest-room (c .before .before .before .before .before .before .before .before .before .before .before .before .before .before .before .before .args .field)) (y .st) (y .stacked) (c .before .before .before .before .before .before .before .before .before .before .before .before .before .before .before .before .pre .1) in let first = t .first in let most = longest-room (c .before .before .before .before .before .before .before .before .before .before .before .before .before .before .before .before .args .field) in let came = rw (c .before .before .n .given .1) at (c .before .before .before .before .before .before .operate .ensures) in let short = came .4 .short in let size = came .2 in omega (arith, y .words-room, y .sizes-room, y .out-room)
+add-copy c =
+    let start = c .before .before .before .before .before .before .before .before .before .before .before .before .before .before .before .before in
+    let y = start .pre .0 in
+    let low = y .low in
+    let t = twos (longest-room (start .args .field)) (y .st) (y .stacked) (start .pre .1) in
+    let first = t .first in
+    let most = longest-room (start .args .field) in
+    let came = rw (c .before .before .n .given .1) at (c .before .before .before .before .before .before .operate .ensures) in
+    let short = came .4 .short in
+    let size = came .2 in
+    omega (arith, y .words-room, y .sizes-room, y .out-room)
 
 mul-copy : tie.Need-mul-copy
-mul-copy c = let y = c .before .before .before .before .before .before .before .before .before .before .before .before .before .before .before .before .pre .0 in let low = y .low in let t = twos (longest-room (c .before .before .before .before .before .before .before .before .before .before .before .before .before .before .before .before .args .field)) (y .st) (y .stacked) (c .before .before .before .before .before .before .before .before .before .before .before .before .before .before .before .before .pre .1) in let first = t .first in let most = longest-room (c .before .before .before .before .before .before .before .before .before .before .before .before .before .before .before .before .args .field) in let came = rw (c .before .before .n .given .1) at (c .before .before .before .before .before .before .operate .ensures) in let short = came .4 .short in let size = came .2 in omega (arith, y .words-room, y .sizes-room, y .out-room)
+mul-copy c =
+    let start = c .before .before .before .before .before .before .before .before .before .before .before .before .before .before .before .before in
+    let y = start .pre .0 in
+    let low = y .low in
+    let t = twos (longest-room (start .args .field)) (y .st) (y .stacked) (start .pre .1) in
+    let first = t .first in
+    let most = longest-room (start .args .field) in
+    let came = rw (c .before .before .n .given .1) at (c .before .before .before .before .before .before .operate .ensures) in
+    let short = came .4 .short in
+    let size = came .2 in
+    omega (arith, y .words-room, y .sizes-room, y .out-room)
 
 sub-copy : tie.Need-sub-copy
 sub-copy c = search needs
@@ -83,7 +169,17 @@ part-copy-start : tie.Need-part-copy-start
 part-copy-start c = search needs
 
 part-copy-end : tie.Need-part-copy-end
-part-copy-end c = let y = c .before .before .before .before .before .before .before .before .before .before .before .before .before .before .before .before .pre .0 in let low = y .low in let t = twos (longest-room (c .before .before .before .before .before .before .before .before .before .before .before .before .before .before .before .before .args .field)) (y .st) (y .stacked) (c .before .before .before .before .before .before .before .before .before .before .before .before .before .before .before .before .pre .1) in let first = t .first in let most = longest-room (c .before .before .before .before .before .before .before .before .before .before .before .before .before .before .before .before .args .field) in let came = rw (c .before .before .n .given .1) at (c .before .before .before .before .before .before .operate .ensures) in let short = came .4 .short in let size = came .2 in omega (arith, y .words-room, y .sizes-room, y .out-room)
+part-copy-end c =
+    let start = c .before .before .before .before .before .before .before .before .before .before .before .before .before .before .before .before in
+    let y = start .pre .0 in
+    let low = y .low in
+    let t = twos (longest-room (start .args .field)) (y .st) (y .stacked) (start .pre .1) in
+    let first = t .first in
+    let most = longest-room (start .args .field) in
+    let came = rw (c .before .before .n .given .1) at (c .before .before .before .before .before .before .operate .ensures) in
+    let short = came .4 .short in
+    let size = came .2 in
+    omega (arith, y .words-room, y .sizes-room, y .out-room)
 
 copy-requires : tie.Need-copy-requires
 copy-requires c κs = search needs
@@ -101,7 +197,11 @@ sub-t32 : tie.Need-sub-t32
 sub-t32 c = search needs
 
 add-t34 : tie.Need-add-t34
-add-t34 c = let came = rw (c .before .before .before .before .before .before .n .given .1) at (c .before .before .before .before .before .before .before .before .before .before .operate .ensures) in let fits = join-room (c .before .before .before .before .before .before .before .before .before .before .before .before .before .before .before .before .before .before .before .before .args .field) (c .before .before .before .before .before .before .before .before .before .before .before .before .before .before .before .before .before .before .before .before .args .stack .now) (c .before .before .before .before .before .before .before .before .before .before .before .before .before .before .before .before .before .before .before .before .args .sizes .now) (c .before .before .before .before .before .before .before .before .before .before .before .before .before .before .before .before .before .before .before .before .args .top) (c .before .before .before .before .before .before .before .before .before .before .before .before .before .before .before .before .before .before .before .before .args .filled) (c .before .before .before .before .before .before .before .before .before .before .before .before .before .before .before .before .before .before .before .before .args .room .now) (c .before .before .before .before .before .before .before .before .before .before .before .before .before .before .before .before .before .before .before .before .pre .0) (c .before .before .before .before .before .before .before .before .before .before .before .before .before .before .before .before .before .before .before .before .pre .1) _ (came .4 .short) in omega (arith, came .2, c .before .before .before .before .before .before .before .before .before .before .before .before .before .before .before .before .before .before .before .before .pre .0 .words-room)
+add-t34 c =
+    let start = c .before .before .before .before .before .before .before .before .before .before .before .before .before .before .before .before .before .before .before .before in
+    let came = rw (c .before .before .before .before .before .before .n .given .1) at (c .before .before .before .before .before .before .before .before .before .before .operate .ensures) in
+    let fits = join-room (start .args .field) (start .args .stack .now) (start .args .sizes .now) (start .args .top) (start .args .filled) (start .args .room .now) (start .pre .0) (start .pre .1) _ (came .4 .short) in
+    omega (arith, came .2, start .pre .0 .words-room)
 
 enum-known-why : tie.Need-enum-known-why
 enum-known-why c = search needs
@@ -116,7 +216,10 @@ same-length-3 : tie.Need-same-length-3
 same-length-3 c = search needs
 
 returns : tie.Need-returns
-returns c = let came = rw (c .before .before .before .before .before .before .n .given .1) at (c .before .before .before .before .before .before .before .before .before .before .operate .ensures) in join-so (c .before .before .before .before .before .before .before .before .before .before .before .before .before .before .before .before .before .before .before .before .args .field) (c .before .before .before .before .before .before .before .before .before .before .before .before .before .before .before .before .before .before .before .before .args .stack .now) (c .before .before .before .before .before .before .before .before .before .before .before .before .before .before .before .before .before .before .before .before .args .sizes .now) (c .before .before .before .before .before .before .before .before .before .before .before .before .before .before .before .before .before .before .before .before .args .top) (c .before .before .before .before .before .before .before .before .before .before .before .before .before .before .before .before .before .before .before .before .args .filled) (c .before .before .before .before .before .before .before .before .before .before .before .before .before .before .before .before .before .before .before .before .args .room .now) (c .before .before .before .before .before .before .before .before .before .before .before .before .before .before .before .before .before .before .before .before .pre .0) (c .before .before .before .before .before .before .before .before .before .before .before .before .before .before .before .before .before .before .before .before .pre .1) refl refl (c .before .before .before .before .before .before .before .before .before .before .before .before .before .before .before .before .before .before .before .before .args .x) _ _ _ came (c .before .before .copy .ensures)
+returns c =
+    let start = c .before .before .before .before .before .before .before .before .before .before .before .before .before .before .before .before .before .before .before .before in
+    let came = rw (c .before .before .before .before .before .before .n .given .1) at (c .before .before .before .before .before .before .before .before .before .before .operate .ensures) in
+    join-so (start .args .field) (start .args .stack .now) (start .args .sizes .now) (start .args .top) (start .args .filled) (start .args .room .now) (start .pre .0) (start .pre .1) refl refl (start .args .x) _ _ _ came (c .before .before .copy .ensures)
 
 same-length-4 : tie.Need-same-length-4
 same-length-4 c = search needs
@@ -125,7 +228,10 @@ same-length-5 : tie.Need-same-length-5
 same-length-5 c = search needs
 
 returns-2 : tie.Need-returns-2
-returns-2 c = let came = rw (c .before .why .given .1) at (c .before .before .before .before .before .operate .ensures) in join-refused (c .before .before .before .before .before .before .before .before .before .before .before .before .before .before .before .args .field) (c .before .before .before .before .before .before .before .before .before .before .before .before .before .before .before .args .stack .now) (c .before .before .before .before .before .before .before .before .before .before .before .before .before .before .before .args .sizes .now) (c .before .before .before .before .before .before .before .before .before .before .before .before .before .before .before .args .top) (c .before .before .before .before .before .before .before .before .before .before .before .before .before .before .before .args .filled) (c .before .before .before .before .before .before .before .before .before .before .before .before .before .before .before .args .room .now) (c .before .before .before .before .before .before .before .before .before .before .before .before .before .before .before .pre .0) (c .before .before .before .before .before .before .before .before .before .before .before .before .before .before .before .pre .1) refl refl (c .before .before .before .before .before .before .before .before .before .before .before .before .before .before .before .args .x) (c .before .before .before .before .before .before .before .before .before .before .before .before .before .before .before .args .stack .now) (c .before .before .before .before .before .before .before .before .before .before .before .before .before .before .before .args .sizes .now) came
+returns-2 c =
+    let start = c .before .before .before .before .before .before .before .before .before .before .before .before .before .before .before in
+    let came = rw (c .before .why .given .1) at (c .before .before .before .before .before .operate .ensures) in
+    join-refused (start .args .field) (start .args .stack .now) (start .args .sizes .now) (start .args .top) (start .args .filled) (start .args .room .now) (start .pre .0) (start .pre .1) refl refl (start .args .x) (start .args .stack .now) (start .args .sizes .now) came
 
 pub join-top-spec : {M : Type 1} → statement M
 join-top-spec =

@@ -1,9 +1,7 @@
 -- `line_values::lacks` meets its contract.
 -- Assumes nothing.
 use mathlib.Core.Path.{sym}
-use native.Mathlib.Omega.{arith}
 use Rattle.line_values.proofs.Programs.{one-operand, one-operator}
-use borrow.Author.Needs.{needs}
 use Rattle.line_values.proofs.lacks.Statement.{statement}
 use Rattle.line_values.proofs.lacks.Tie as tie
 

@@ -24,7 +24,10 @@ slice-aggregate-value-into : tie.Need-slice-aggregate-value-into
 slice-aggregate-value-into c = let program = rw (c .before .before .n .given .1) at (c .before .before .before .before .before .judge .ensures .1) in sym (length-take-le _ _ (omega (arith, program .2)))
 
 value-into-requires : tie.Need-value-into-requires
-value-into-requires c κs = let program = rw (c .before .before .before .n .given .1) at (c .before .before .before .before .before .before .judge .ensures .1) in accepted-runs (c .before .before .before .before .before .before .before .before .before .before .before .before .args .album .now) (c .before .before .before .before .before .before .before .before .before .before .before .before .args .line .now) _ program (c .before .before .before .before .before .before .before .before .before .before .before .before .args .field) (c .before .before .before .before .before .before .before .before .before .before .before .before .args .out .now) (rw (c .before .before .before .n .given .1) at (c .before .before .before .before .before .before .judge .ensures .0))
+value-into-requires c κs =
+    let start = c .before .before .before .before .before .before .before .before .before .before .before .before in
+    let program = rw (c .before .before .before .n .given .1) at (c .before .before .before .before .before .before .judge .ensures .1) in
+    accepted-runs (start .args .album .now) (start .args .line .now) _ program (start .args .field) (start .args .out .now) (rw (c .before .before .before .n .given .1) at (c .before .before .before .before .before .before .judge .ensures .0))
 
 enum-known-why : tie.Need-enum-known-why
 enum-known-why c = search needs
@@ -33,13 +36,18 @@ same-length : tie.Need-same-length
 same-length c = search needs
 
 returns : tie.Need-returns
-returns c = let program = rw (c .before .before .before .before .before .before .n .given .1) at (c .before .before .before .before .before .before .before .before .before .judge .ensures .1) in answered (c .before .before .before .before .before .before .before .before .before .before .before .before .before .before .before .args .album .now) (c .before .before .before .before .before .before .before .before .before .before .before .before .before .before .before .args .line .now) _ program (c .before .before .before .before .before .before .before .before .before .before .before .before .before .before .before .args .field) (c .before .before .before .before .before .before .before .before .before .before .before .before .before .before .before .args .out .now) (rw (c .before .before .before .before .before .before .n .given .1) at (c .before .before .before .before .before .before .before .before .before .judge .ensures .0)) (c .before .before .value-into .ensures)
+returns c =
+    let start = c .before .before .before .before .before .before .before .before .before .before .before .before .before .before .before in
+    let program = rw (c .before .before .before .before .before .before .n .given .1) at (c .before .before .before .before .before .before .before .before .before .judge .ensures .1) in
+    answered (start .args .album .now) (start .args .line .now) _ program (start .args .field) (start .args .out .now) (rw (c .before .before .before .before .before .before .n .given .1) at (c .before .before .before .before .before .before .before .before .before .judge .ensures .0)) (c .before .before .value-into .ensures)
 
 same-length-2 : tie.Need-same-length-2
 same-length-2 c = search needs
 
 returns-2 : tie.Need-returns-2
-returns-2 c = refused-early (c .before .before .before .before .before .before .before .before .before .before .args .field) (c .before .before .before .before .before .before .before .before .before .before .args .album .now) (c .before .before .before .before .before .before .before .before .before .before .args .line .now) (c .before .before .before .before .before .before .before .before .before .before .args .out .now) (rw (c .before .why .given .1) at (c .before .before .before .before .judge .ensures .0))
+returns-2 c =
+    let start = c .before .before .before .before .before .before .before .before .before .before in
+    refused-early (start .args .field) (start .args .album .now) (start .args .line .now) (start .args .out .now) (rw (c .before .why .given .1) at (c .before .before .before .before .judge .ensures .0))
 
 pub line-value-over-spec : {M : Type 1} → statement M
 line-value-over-spec =

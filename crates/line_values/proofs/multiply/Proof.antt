@@ -18,13 +18,19 @@ longest-of-requires : tie.Need-longest-of-requires
 longest-of-requires c κs = search needs
 
 returns : tie.Need-returns
-returns c = over (c .before .before .before .before .before .args .field) (c .before .before .before .before .before .args .a .now) (c .before .before .before .before .before .args .b .now) (c .before .before .before .before .before .pre .0) (c .before .before .before .before .before .pre .1) (c .before .before .before .before .before .args .room .now) (c .before .before .before .before .before .pre .2) refl (omega arith)
+returns c =
+    let start = c .before .before .before .before .before in
+    over (start .args .field) (start .args .a .now) (start .args .b .now) (start .pre .0) (start .pre .1) (start .args .room .now) (start .pre .2) refl (omega arith)
 
 slice-relend-prefix-product-over : tie.Need-slice-relend-prefix-product-over
-slice-relend-prefix-product-over c = product-fits-room (c .before .before .before .before .before .args .field) (c .before .before .before .before .before .args .a .now) (c .before .before .before .before .before .args .b .now) (c .before .before .before .before .before .pre .0) (c .before .before .before .before .before .pre .1) (c .before .before .before .before .before .args .room .now) (c .before .before .before .before .before .pre .2) refl (omega arith)
+slice-relend-prefix-product-over c =
+    let start = c .before .before .before .before .before in
+    product-fits-room (start .args .field) (start .args .a .now) (start .args .b .now) (start .pre .0) (start .pre .1) (start .args .room .now) (start .pre .2) refl (omega arith)
 
 slice-aggregate-product-over : tie.Need-slice-aggregate-product-over
-slice-aggregate-product-over c = simp length-take (omega (arith, product-fits-room (c .before .before .before .before .before .before .args .field) (c .before .before .before .before .before .before .args .a .now) (c .before .before .before .before .before .before .args .b .now) (c .before .before .before .before .before .before .pre .0) (c .before .before .before .before .before .before .pre .1) (c .before .before .before .before .before .before .args .room .now) (c .before .before .before .before .before .before .pre .2) refl (omega arith)))
+slice-aggregate-product-over c =
+    let start = c .before .before .before .before .before .before in
+    simp length-take (omega (arith, product-fits-room (start .args .field) (start .args .a .now) (start .args .b .now) (start .pre .0) (start .pre .1) (start .args .room .now) (start .pre .2) refl (omega arith)))
 
 product-over-requires : tie.Need-product-over-requires
 product-over-requires c κs = search needs
@@ -33,7 +39,9 @@ same-length : tie.Need-same-length
 same-length c = search needs
 
 returns-2 : tie.Need-returns-2
-returns-2 c = came-product (c .before .before .before .before .before .before .before .before .before .args .field) (c .before .before .before .before .before .before .before .before .before .args .a .now) (c .before .before .before .before .before .before .before .before .before .args .b .now) (c .before .before .before .before .before .before .before .before .before .pre .0) (c .before .before .before .before .before .before .before .before .before .pre .1) (c .before .before .before .before .before .before .before .before .before .args .room .now) (c .before .before .before .before .before .before .before .before .before .pre .2) refl (omega arith) (c .before .before .product-over .ensures .1)
+returns-2 c =
+    let start = c .before .before .before .before .before .before .before .before .before in
+    came-product (start .args .field) (start .args .a .now) (start .args .b .now) (start .pre .0) (start .pre .1) (start .args .room .now) (start .pre .2) refl (omega arith) (c .before .before .product-over .ensures .1)
 
 pub multiply-spec : {M : Type 1} → statement M
 multiply-spec =

@@ -11,10 +11,14 @@ larger-requires : tie.Need-larger-requires
 larger-requires c κs = search needs
 
 slice-relend-prefix-sum-over : tie.Need-slice-relend-prefix-sum-over
-slice-relend-prefix-sum-over c = larger-fits (c .before .before .before .before .before .args .field) (c .before .before .before .before .before .args .a .now) (c .before .before .before .before .before .args .b .now) (c .before .before .before .before .before .pre .0) (c .before .before .before .before .before .pre .1) (c .before .before .before .before .before .args .room .now) (c .before .before .before .before .before .pre .2) (c .before .larger .ensures)
+slice-relend-prefix-sum-over c =
+    let start = c .before .before .before .before .before in
+    larger-fits (start .args .field) (start .args .a .now) (start .args .b .now) (start .pre .0) (start .pre .1) (start .args .room .now) (start .pre .2) (c .before .larger .ensures)
 
 slice-aggregate-sum-over : tie.Need-slice-aggregate-sum-over
-slice-aggregate-sum-over c = simp length-take (omega (arith, larger-fits (c .before .before .before .before .before .before .args .field) (c .before .before .before .before .before .before .args .a .now) (c .before .before .before .before .before .before .args .b .now) (c .before .before .before .before .before .before .pre .0) (c .before .before .before .before .before .before .pre .1) (c .before .before .before .before .before .before .args .room .now) (c .before .before .before .before .before .before .pre .2) (c .before .before .larger .ensures)))
+slice-aggregate-sum-over c =
+    let start = c .before .before .before .before .before .before in
+    simp length-take (omega (arith, larger-fits (start .args .field) (start .args .a .now) (start .args .b .now) (start .pre .0) (start .pre .1) (start .args .room .now) (start .pre .2) (c .before .before .larger .ensures)))
 
 sum-over-requires : tie.Need-sum-over-requires
 sum-over-requires c κs = search needs
@@ -23,13 +27,19 @@ same-length : tie.Need-same-length
 same-length c = search needs
 
 returns : tie.Need-returns
-returns c = rw (operation-add _ _ _ _ _ (c .before .before .before .before .if1 .taken)) (came-sum (c .before .before .before .before .before .before .before .before .before .args .field) (c .before .before .before .before .before .before .before .before .before .args .a .now) (c .before .before .before .before .before .before .before .before .before .args .b .now) (c .before .before .before .before .before .before .before .before .before .pre .0) (c .before .before .before .before .before .before .before .before .before .pre .1) (c .before .before .before .before .before .before .before .before .before .args .room .now) (c .before .before .before .before .before .before .before .before .before .pre .2) (c .before .before .before .before .before .larger .ensures) (c .before .before .sum-over .ensures .1))
+returns c =
+    let start = c .before .before .before .before .before .before .before .before .before in
+    rw (operation-add _ _ _ _ _ (c .before .before .before .before .if1 .taken)) (came-sum (start .args .field) (start .args .a .now) (start .args .b .now) (start .pre .0) (start .pre .1) (start .args .room .now) (start .pre .2) (c .before .before .before .before .before .larger .ensures) (c .before .before .sum-over .ensures .1))
 
 slice-relend-prefix-difference-over : tie.Need-slice-relend-prefix-difference-over
-slice-relend-prefix-difference-over c = larger-fits (c .before .before .before .before .before .before .args .field) (c .before .before .before .before .before .before .args .a .now) (c .before .before .before .before .before .before .args .b .now) (c .before .before .before .before .before .before .pre .0) (c .before .before .before .before .before .before .pre .1) (c .before .before .before .before .before .before .args .room .now) (c .before .before .before .before .before .before .pre .2) (c .before .before .larger .ensures)
+slice-relend-prefix-difference-over c =
+    let start = c .before .before .before .before .before .before in
+    larger-fits (start .args .field) (start .args .a .now) (start .args .b .now) (start .pre .0) (start .pre .1) (start .args .room .now) (start .pre .2) (c .before .before .larger .ensures)
 
 slice-aggregate-difference-over : tie.Need-slice-aggregate-difference-over
-slice-aggregate-difference-over c = simp length-take (omega (arith, larger-fits (c .before .before .before .before .before .before .before .args .field) (c .before .before .before .before .before .before .before .args .a .now) (c .before .before .before .before .before .before .before .args .b .now) (c .before .before .before .before .before .before .before .pre .0) (c .before .before .before .before .before .before .before .pre .1) (c .before .before .before .before .before .before .before .args .room .now) (c .before .before .before .before .before .before .before .pre .2) (c .before .before .before .larger .ensures)))
+slice-aggregate-difference-over c =
+    let start = c .before .before .before .before .before .before .before in
+    simp length-take (omega (arith, larger-fits (start .args .field) (start .args .a .now) (start .args .b .now) (start .pre .0) (start .pre .1) (start .args .room .now) (start .pre .2) (c .before .before .before .larger .ensures)))
 
 difference-over-requires : tie.Need-difference-over-requires
 difference-over-requires c κs = search needs
@@ -38,7 +48,9 @@ same-length-2 : tie.Need-same-length-2
 same-length-2 c = search needs
 
 returns-2 : tie.Need-returns-2
-returns-2 c = rw (operation-subtract _ _ _ _ _ (c .before .before .before .before .before .if1 .left) (c .before .before .before .before .if2 .taken)) (came-difference (c .before .before .before .before .before .before .before .before .before .before .args .field) (c .before .before .before .before .before .before .before .before .before .before .args .a .now) (c .before .before .before .before .before .before .before .before .before .before .args .b .now) (c .before .before .before .before .before .before .before .before .before .before .pre .0) (c .before .before .before .before .before .before .before .before .before .before .pre .1) (c .before .before .before .before .before .before .before .before .before .before .args .room .now) (c .before .before .before .before .before .before .before .before .before .before .pre .2) (c .before .before .before .before .before .before .larger .ensures) (c .before .before .difference-over .ensures .1))
+returns-2 c =
+    let start = c .before .before .before .before .before .before .before .before .before .before in
+    rw (operation-subtract _ _ _ _ _ (c .before .before .before .before .before .if1 .left) (c .before .before .before .before .if2 .taken)) (came-difference (start .args .field) (start .args .a .now) (start .args .b .now) (start .pre .0) (start .pre .1) (start .args .room .now) (start .pre .2) (c .before .before .before .before .before .before .larger .ensures) (c .before .before .difference-over .ensures .1))
 
 multiply-requires : tie.Need-multiply-requires
 multiply-requires c κs = search needs

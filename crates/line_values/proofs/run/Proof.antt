@@ -21,13 +21,15 @@ abbrev μ-loop : tie.MeasureT-loop
 μ-loop field album code stack₀ sizes₀ room₀ top₀ filled₀ i₀ stack sizes room top filled i = length code - i
 
 loop-holds : tie.Need-loop-holds Inv-loop μ-loop
-loop-holds c = (search needs, search needs, search needs, search needs, run-start (c .before .before .before .before .before .args .field) (c .before .before .before .before .before .args .album .now) (c .before .before .before .before .before .args .code .now) (c .before .before .before .before .before .pre .0 .1) _ _)
+loop-holds c = (search needs, search needs, search needs, search needs, run-start (c .before .before .before .before .before .pre .0 .1) (c .before .before .before .before .before .args .field) _ _)
 
 shared-slice-read-step : tie.Need-shared-slice-read-step Inv-loop μ-loop
 shared-slice-read-step c = search needs
 
 step-requires : tie.Need-step-requires Inv-loop μ-loop
-step-requires c κs = run-ready (c .before .before .before .before .before .before .before .before .before .before .before .args .field) (c .before .before .before .before .before .before .before .before .before .before .before .args .album .now) (c .before .before .before .before .before .before .before .before .before .before .before .args .code .now) (c .before .before .before .before .before .before .before .before .before .before .before .pre .0 .1) (c .before .before .before .before .before .loop .stack) (c .before .before .before .before .before .loop .sizes) (c .before .before .before .before .before .loop .top) (c .before .before .before .before .before .loop .filled) (c .before .before .before .before .before .loop .i) (c .before .before .before .before .before .loop .inv .4) (c .before .before .before .before .loop-test .taken) (c .before .before .before .before .before .loop .room) (c .before .before .before .before .before .before .before .before .before .before .before .pre .0 .0) (c .before .before .before .before .before .loop .inv .1) (c .before .before .before .before .before .loop .inv .2) (c .before .before .before .before .before .loop .inv .3)
+step-requires c κs =
+    let loop = c .before .before .before .before .before .loop in
+    run-ready (c .before .before .before .before .before .before .before .before .before .before .before .pre .0 .1) (loop .inv .4) (c .before .before .before .before .loop-test .taken) (loop .room) (c .before .before .before .before .before .before .before .before .before .before .before .pre .0 .0) (loop .inv .1) (loop .inv .2) (loop .inv .3)
 
 enum-known-lists : tie.Need-enum-known-lists Inv-loop μ-loop
 enum-known-lists c = search needs
@@ -46,8 +48,9 @@ same-length-3 c = search needs
 
 returns : tie.Need-returns Inv-loop μ-loop
 returns c =
-    let made = rw (c .before .why .given .1) at (c .before .before .before .before .before .before .before .before .before .step .ensures (c .before .before .before .before .before .before .before .before .before .before .before .before .before .before .before .loop .inv .4 .st) (c .before .before .before .before .before .before .before .before .before .before .before .before .before .before .before .loop .inv .4 .stacked)) in
-    run-halts (c .before .before .before .before .before .before .before .before .before .before .before .before .before .before .before .before .before .before .before .before .before .args .field) (c .before .before .before .before .before .before .before .before .before .before .before .before .before .before .before .before .before .before .before .before .before .args .album .now) (c .before .before .before .before .before .before .before .before .before .before .before .before .before .before .before .before .before .before .before .before .before .args .code .now) (c .before .before .before .before .before .before .before .before .before .before .before .before .before .before .before .before .before .before .before .before .before .pre .0 .1) (c .before .before .before .before .before .before .before .before .before .before .before .before .before .before .before .loop .stack) (c .before .before .before .before .before .before .before .before .before .before .before .before .before .before .before .loop .sizes) (c .before .before .before .before .before .before .before .before .before .before .before .before .before .before .before .loop .top) (c .before .before .before .before .before .before .before .before .before .before .before .before .before .before .before .loop .filled) (c .before .before .before .before .before .before .before .before .before .before .before .before .before .before .before .loop .i) (c .before .before .before .before .before .before .before .before .before .before .before .before .before .before .before .loop .inv .4) (c .before .before .before .before .before .before .before .before .before .before .before .before .before .before .loop-test .taken) made
+    let running = c .before .before .before .before .before .before .before .before .before .before .before .before .before .before .before .loop .inv .4 in
+    let made = rw (c .before .why .given .1) at (c .before .before .before .before .before .before .before .before .before .step .ensures (running .st) (running .stacked)) in
+    run-halts (c .before .before .before .before .before .before .before .before .before .before .before .before .before .before .before .before .before .before .before .before .before .pre .0 .1) running (c .before .before .before .before .before .before .before .before .before .before .before .before .before .before .loop-test .taken) made
 
 add-i : tie.Need-add-i Inv-loop μ-loop
 add-i c = search needs
@@ -57,8 +60,9 @@ loop-less c = search needs
 
 loop-again : tie.Need-loop-again Inv-loop μ-loop
 loop-again c =
-    let made = rw (c .before .lists .given .1) at (c .before .before .before .before .before .before .before .before .before .step .ensures (c .before .before .before .before .before .before .before .before .before .before .before .before .before .before .before .loop .inv .4 .st) (c .before .before .before .before .before .before .before .before .before .before .before .before .before .before .before .loop .inv .4 .stacked)) in
-    (omega arith, omega arith, omega arith, omega arith, run-next (c .before .before .before .before .before .before .before .before .before .before .before .before .before .before .before .before .before .before .before .before .before .args .field) (c .before .before .before .before .before .before .before .before .before .before .before .before .before .before .before .before .before .before .before .before .before .args .album .now) (c .before .before .before .before .before .before .before .before .before .before .before .before .before .before .before .before .before .before .before .before .before .args .code .now) (c .before .before .before .before .before .before .before .before .before .before .before .before .before .before .before .before .before .before .before .before .before .pre .0 .1) (c .before .before .before .before .before .before .before .before .before .before .before .before .before .before .before .loop .stack) (c .before .before .before .before .before .before .before .before .before .before .before .before .before .before .before .loop .sizes) (c .before .before .before .before .before .before .before .before .before .before .before .before .before .before .before .loop .top) (c .before .before .before .before .before .before .before .before .before .before .before .before .before .before .before .loop .filled) (c .before .before .before .before .before .before .before .before .before .before .before .before .before .before .before .loop .i) (c .before .before .before .before .before .before .before .before .before .before .before .before .before .before .before .loop .inv .4) (c .before .before .before .before .before .before .before .before .before .before .before .before .before .before .loop-test .taken) made)
+    let running = c .before .before .before .before .before .before .before .before .before .before .before .before .before .before .before .loop .inv .4 in
+    let made = rw (c .before .lists .given .1) at (c .before .before .before .before .before .before .before .before .before .step .ensures (running .st) (running .stacked)) in
+    (omega arith, omega arith, omega arith, omega arith, run-next (c .before .before .before .before .before .before .before .before .before .before .before .before .before .before .before .before .before .before .before .before .before .pre .0 .1) running (c .before .before .before .before .before .before .before .before .before .before .before .before .before .before .loop-test .taken) made)
 
 same-length-4 : tie.Need-same-length-4 Inv-loop μ-loop
 same-length-4 c = search needs
@@ -70,7 +74,7 @@ same-length-6 : tie.Need-same-length-6 Inv-loop μ-loop
 same-length-6 c = search needs
 
 returns-2 : tie.Need-returns-2 Inv-loop μ-loop
-returns-2 c = run-end (c .before .before .before .before .before .before .before .args .field) (c .before .before .before .before .before .before .before .args .album .now) (c .before .before .before .before .before .before .before .args .code .now) (c .before .before .before .before .before .before .before .pre .0 .1) (c .before .loop .stack) (c .before .loop .sizes) (c .before .loop .top) (c .before .loop .filled) (c .before .loop .i) (c .before .loop .inv .4) (omega arith)
+returns-2 c = run-end (c .before .before .before .before .before .before .before .pre .0 .1) (c .before .loop .inv .4) (omega arith)
 
 pub run-spec : {M : Type 1} → statement M
 run-spec =

@@ -19,22 +19,48 @@ slice-aggregate-run-3 : tie.Need-slice-aggregate-run-3
 slice-aggregate-run-3 c = search needs
 
 run-requires : tie.Need-run-requires
-run-requires c κs = ((c .before .before .before .before .before .before .pre .0, c .before .before .before .before .before .before .pre .1), (search needs, search needs, search needs))
+run-requires c κs =
+    let start = c .before .before .before .before .before .before in
+    ((start .pre .0, start .pre .1), (search needs, search needs, search needs))
 
 enum-known-n : tie.Need-enum-known-n
 enum-known-n c = search needs
 
 array-share-prefix-stack : tie.Need-array-share-prefix-stack
-array-share-prefix-stack c = let runs = c .before .before .before .before .before .before .before .before .before .before .before .before .before .pre .1 in let end = rw (c .before .n .given .1) at (c .before .before .before .before .before .before .run .ensures) in let d = ended (c .before .before .before .before .before .before .before .before .before .before .before .before .before .args .field) (c .before .before .before .before .before .before .before .before .before .before .before .before .before .args .album .now) (c .before .before .before .before .before .before .before .before .before .before .before .before .before .args .code .now) (runs .tree) (runs .is) (runs .small) _ _ end in let numbers = ended-numbers (c .before .before .before .before .before .before .before .before .before .before .before .before .before .args .field) (c .before .before .before .before .before .before .before .before .before .before .before .before .before .args .album .now) (runs .tree) _ _ d in numbers .2
+array-share-prefix-stack c =
+    let start = c .before .before .before .before .before .before .before .before .before .before .before .before .before in
+    let runs = start .pre .1 in
+    let end = rw (c .before .n .given .1) at (c .before .before .before .before .before .before .run .ensures) in
+    let d = ended (start .args .field) (start .args .album .now) (start .args .code .now) (runs .tree) (runs .is) (runs .small) _ _ end in
+    let numbers = ended-numbers (start .args .field) (start .args .album .now) (runs .tree) _ _ d in
+    numbers .2
 
 slice-aggregate-pad : tie.Need-slice-aggregate-pad
-slice-aggregate-pad c = let runs = c .before .before .before .before .before .before .before .before .before .before .before .before .before .before .pre .1 in let end = rw (c .before .before .n .given .1) at (c .before .before .before .before .before .before .before .run .ensures) in let d = ended (c .before .before .before .before .before .before .before .before .before .before .before .before .before .before .args .field) (c .before .before .before .before .before .before .before .before .before .before .before .before .before .before .args .album .now) (c .before .before .before .before .before .before .before .before .before .before .before .before .before .before .args .code .now) (runs .tree) (runs .is) (runs .small) _ _ end in let numbers = ended-numbers (c .before .before .before .before .before .before .before .before .before .before .before .before .before .before .args .field) (c .before .before .before .before .before .before .before .before .before .before .before .before .before .before .args .album .now) (runs .tree) _ _ d in sym (length-take-le _ _ (numbers .2))
+slice-aggregate-pad c =
+    let start = c .before .before .before .before .before .before .before .before .before .before .before .before .before .before in
+    let runs = start .pre .1 in
+    let end = rw (c .before .before .n .given .1) at (c .before .before .before .before .before .before .before .run .ensures) in
+    let d = ended (start .args .field) (start .args .album .now) (start .args .code .now) (runs .tree) (runs .is) (runs .small) _ _ end in
+    let numbers = ended-numbers (start .args .field) (start .args .album .now) (runs .tree) _ _ d in
+    sym (length-take-le _ _ (numbers .2))
 
 pad-requires : tie.Need-pad-requires
-pad-requires c κs = let runs = c .before .before .before .before .before .before .before .before .before .before .before .before .before .before .before .pre .1 in let end = rw (c .before .before .before .n .given .1) at (c .before .before .before .before .before .before .before .before .run .ensures) in let d = ended (c .before .before .before .before .before .before .before .before .before .before .before .before .before .before .before .args .field) (c .before .before .before .before .before .before .before .before .before .before .before .before .before .before .before .args .album .now) (c .before .before .before .before .before .before .before .before .before .before .before .before .before .before .before .args .code .now) (runs .tree) (runs .is) (runs .small) _ _ end in let numbers = ended-numbers (c .before .before .before .before .before .before .before .before .before .before .before .before .before .before .before .args .field) (c .before .before .before .before .before .before .before .before .before .before .before .before .before .before .before .args .album .now) (runs .tree) _ _ d in simp length-take (omega (arith, c .before .before .before .before .before .before .before .before .before .before .before .before .before .before .before .pre .2, numbers .1, numbers .2))
+pad-requires c κs =
+    let start = c .before .before .before .before .before .before .before .before .before .before .before .before .before .before .before in
+    let runs = start .pre .1 in
+    let end = rw (c .before .before .before .n .given .1) at (c .before .before .before .before .before .before .before .before .run .ensures) in
+    let d = ended (start .args .field) (start .args .album .now) (start .args .code .now) (runs .tree) (runs .is) (runs .small) _ _ end in
+    let numbers = ended-numbers (start .args .field) (start .args .album .now) (runs .tree) _ _ d in
+    simp length-take (omega (arith, start .pre .2, numbers .1, numbers .2))
 
 sub-t23 : tie.Need-sub-t23
-sub-t23 c = let runs = c .before .before .before .before .before .before .before .before .before .before .before .before .before .before .before .before .before .before .pre .1 in let end = rw (c .before .before .before .before .before .before .n .given .1) at (c .before .before .before .before .before .before .before .before .before .before .before .run .ensures) in let d = ended (c .before .before .before .before .before .before .before .before .before .before .before .before .before .before .before .before .before .before .args .field) (c .before .before .before .before .before .before .before .before .before .before .before .before .before .before .before .before .before .before .args .album .now) (c .before .before .before .before .before .before .before .before .before .before .before .before .before .before .before .before .before .before .args .code .now) (runs .tree) (runs .is) (runs .small) _ _ end in let numbers = ended-numbers (c .before .before .before .before .before .before .before .before .before .before .before .before .before .before .before .before .before .before .args .field) (c .before .before .before .before .before .before .before .before .before .before .before .before .before .before .before .before .before .before .args .album .now) (runs .tree) _ _ d in omega (arith, numbers .0)
+sub-t23 c =
+    let start = c .before .before .before .before .before .before .before .before .before .before .before .before .before .before .before .before .before .before in
+    let runs = start .pre .1 in
+    let end = rw (c .before .before .before .before .before .before .n .given .1) at (c .before .before .before .before .before .before .before .before .before .before .before .run .ensures) in
+    let d = ended (start .args .field) (start .args .album .now) (start .args .code .now) (runs .tree) (runs .is) (runs .small) _ _ end in
+    let numbers = ended-numbers (start .args .field) (start .args .album .now) (runs .tree) _ _ d in
+    omega (arith, numbers .0)
 
 enum-known-why : tie.Need-enum-known-why
 enum-known-why c = search needs
@@ -43,10 +69,16 @@ same-length : tie.Need-same-length
 same-length c = search needs
 
 returns : tie.Need-returns
-returns c = let end = rw (c .before .before .before .before .before .before .n .given .1) at (c .before .before .before .before .before .before .before .before .before .before .before .run .ensures) in value-done (c .before .before .before .before .before .before .before .before .before .before .before .before .before .before .before .before .before .before .args .field) (c .before .before .before .before .before .before .before .before .before .before .before .before .before .before .before .before .before .before .args .album .now) (c .before .before .before .before .before .before .before .before .before .before .before .before .before .before .before .before .before .before .args .code .now) (c .before .before .before .before .before .before .before .before .before .before .before .before .before .before .before .before .before .before .args .out .now) (c .before .before .before .before .before .before .before .before .before .before .before .before .before .before .before .before .before .before .pre .2) _ _ end (c .before .before .pad .ensures)
+returns c =
+    let start = c .before .before .before .before .before .before .before .before .before .before .before .before .before .before .before .before .before .before in
+    let end = rw (c .before .before .before .before .before .before .n .given .1) at (c .before .before .before .before .before .before .before .before .before .before .before .run .ensures) in
+    value-done (start .args .field) (start .args .album .now) (start .args .code .now) (start .args .out .now) (start .pre .2) _ _ end (c .before .before .pad .ensures)
 
 returns-2 : tie.Need-returns-2
-returns-2 c = let end = rw (c .before .why .given .1) at (c .before .before .before .before .before .before .run .ensures) in value-refused (c .before .before .before .before .before .before .before .before .before .before .before .before .before .args .field) (c .before .before .before .before .before .before .before .before .before .before .before .before .before .args .album .now) (c .before .before .before .before .before .before .before .before .before .before .before .before .before .args .code .now) (c .before .before .before .before .before .before .before .before .before .before .before .before .before .args .out .now) (c .before .before .before .before .before .before .before .before .before .before .before .before .before .pre .2) end
+returns-2 c =
+    let start = c .before .before .before .before .before .before .before .before .before .before .before .before .before in
+    let end = rw (c .before .why .given .1) at (c .before .before .before .before .before .before .run .ensures) in
+    value-refused (start .args .field) (start .args .album .now) (start .args .code .now) (start .args .out .now) (start .pre .2) end
 
 pub value-into-spec : {M : Type 1} → statement M
 value-into-spec =

@@ -62,7 +62,7 @@ fields-fit (x ∷ h) small =
     let rest = fields-fit h (λ k. small (suc k)) in
     simp length-append (omega arith)
 
-words-fit : (h : List ℕ) → 0 < length h → ((k : ℕ) → getD h k 0 < 65536) → length (line (map decimal h)) ≤ 6 * length h
+pub words-fit : (h : List ℕ) → 0 < length h → ((k : ℕ) → getD h k 0 < 65536) → length (line (map decimal h)) ≤ 6 * length h
 words-fit [] some small = absurd (omega arith)
 words-fit (x ∷ h) some small =
     let first = digits x (small 0) in

@@ -44,7 +44,7 @@ pub fn report_over(field: u8, album: &[u8], out: &mut [u8]) -> Text
 }
 
 // Zeros from a place on.
-fn clear(from: usize, out: &mut [u8])
+pub fn clear(from: usize, out: &mut [u8])
     requires { ⌜ from ≤ length (now out) ⌝ }
     ensures { λ _. ⌜ now (out .exit) ≡ padded (length (given out)) (take from (given out)) ⌝ }
 {
@@ -152,7 +152,7 @@ fn put_named(name: &[u8], n: usize, at: usize, out: &mut [u8]) -> usize
 }
 
 // The line of a refusal.
-fn put_refused(why: Refusal, at: usize, out: &mut [u8]) -> usize
+pub fn put_refused(why: Refusal, at: usize, out: &mut [u8]) -> usize
     requires { ⌜ Room (refusedLine why) at (now out) ⌝ }
     ensures { λ r. ⌜ Put (refusedLine why) at (given out) (now (out .exit)) r ⌝ }
 {
@@ -186,7 +186,7 @@ fn put_list(i: usize, list: &[u16], at: usize, out: &mut [u8]) -> usize
 }
 
 // The words of h, one space between them.
-fn put_words(h: &[u16], at: usize, out: &mut [u8]) -> usize
+pub fn put_words(h: &[u16], at: usize, out: &mut [u8]) -> usize
     requires { ⌜ (0 < length (now h)) × (Room (line (map decimal (now h))) at (now out)) ⌝ }
     ensures { λ r. ⌜ Put (line (map decimal (given h))) at (given out) (now (out .exit)) r ⌝ }
 {

@@ -64,7 +64,7 @@ module _ (p most : ℕ) (s line out : List ℕ) where
   rows-judged =
       first-then (layoutRefusals s) (Line given-when outsideGrammar line ∷ Nesting given-when tooDeep line ∷ rest) tt
       ∙ ap (or-else (lowest (layoutRefusals s)))
-        (two (outsideGrammar line) (tooDeep line) Line Nesting (first rest) ∙ ap (λ o. or-else o (first rest)) (sym (first-is (lineRefusals line) tt)))
+      (two (outsideGrammar line) (tooDeep line) Line Nesting (first rest) ∙ ap (λ o. or-else o (first rest)) (sym (first-is (lineRefusals line) tt)))
 
   pub judged-layout : {why : Refusal} → lowest (layoutRefusals s) ≡ Refused why → Refused why ≡ lowest (lineRows p most s line out)
   judged-layout e = sym (rows-judged ∙ simp e)
@@ -143,18 +143,17 @@ module _ (s line code : List ℕ) {n : ℕ} (g : ProgramOf line code (judged.Pro
 
     pub accepted-runs : (Passed (modulus k) s) × (Runs s (take n code)) × (length out ≡ longest k)
     unfolding tooDeep
-    accepted-runs =
-        (
-          known .passed,
-          record {
-            tree = g .0;
-            is = g .3;
-            small = reading-small line (g .0) (g .1);
-            low = line-height line (g .0) (g .1) (ltb-false maxOpen (deepest 0 line) (known .shallow));
-            has = lacks-is ∙ known .has;
-          },
-          known .fits,
-        )
+    accepted-runs = (
+      known .passed,
+      record {
+        tree = g .0;
+        is = g .3;
+        small = reading-small line (g .0) (g .1);
+        low = line-height line (g .0) (g .1) (ltb-false maxOpen (deepest 0 line) (known .shallow));
+        has = lacks-is ∙ known .has;
+      },
+      known .fits,
+    )
 
     pub answered : {out′ : List ℕ} {r : Reply} → ValueSo k s (take n code) out out′ r
         → (r ≡ lineAnswer k s line out) × (out′ ≡ lineWritten k s line out)
@@ -162,8 +161,7 @@ module _ (s line code : List ℕ) {n : ℕ} (g : ProgramOf line code (judged.Pro
     answered v =
         let h = v (g .0) (g .3) (reading-small line (g .0) (g .1)) in
         let same : valueOf (fieldAt k) (longest k) (listsOf s) (g .0) ≡ lineValue (fieldAt k) (longest k) s line = sym (ap (valueIn (fieldAt k) (longest k) (listsOf s)) (g .1)) in
-        let outcome = ap₂ or-else d (ap lateOf same) in
-        (
+        let outcome = ap₂ or-else d (ap lateOf same) in (
           h .0 ∙ ap₂ (λ o u. reply o (naiveDegree (listIn u) ∷ [])) outcome same,
           h .1 ∙ ap₂ (λ o u. written o (padded (longest k) (listIn u)) out) outcome same,
         )

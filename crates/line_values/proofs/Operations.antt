@@ -61,7 +61,6 @@ in-front o c old rest {part} n d e q =
     ap (λ l. take n (l ++ rest)) (e ∙ ap (λ x. written x c old) d) ∙ take-at c rest n (sym q)
 
 module _ (k : ℕ) where
-
   module _ (a b : List ℕ) (l : IsList (modulus k) (longest k) a) (m : IsList (modulus k) (longest k) b)
       (room : List ℕ) (full : length room ≡ maxWords) where
     passes : lowest (listRefusals (modulus k) (longest k) (a ∷ b ∷ [])) ≡ Done

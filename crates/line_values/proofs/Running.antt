@@ -118,7 +118,7 @@ module _ {s code : List ℕ} (runs : Runs s code) where
           → Ready (modulus k) (longest k) s (getD code i 0) words sizes top filled room
       run-ready room passed a b c =
           let needs = enough (fieldAt k) (longest k) (listsOf s) (runs .tree) (runs .small) (getD code i 0) (drop (i + 1) code) (r .st)
-                  (same-next ∙ ap (λ c. run (fieldAt k) (longest k) (listsOf s) c []) (runs .is)) in
+          (same-next ∙ ap (λ c. run (fieldAt k) (longest k) (listsOf s) c []) (runs .is)) in
           record {
             passed = passed;
             there = lacks-not (count s) code (runs .has) i l;
@@ -132,7 +132,7 @@ module _ {s code : List ℕ} (runs : Runs s code) where
           → Running k s code words′ sizes′ top′ filled′ (i + 1)
       run-next m =
           let height = m .2 .height ∙ step-height (fieldAt k) (longest k) (listsOf s) (getD code i 0) (r .st) (m .0) (m .1)
-                  ∙ ap (λ h. heightBehind h (getD code i 0)) (sym (r .stacked .height)) in
+          ∙ ap (λ h. heightBehind h (getD code i 0)) (sym (r .stacked .height)) in
           record {
             st = m .0;
             stacked = m .2;

@@ -82,7 +82,7 @@ module _ (k : ℕ) (words sizes : List ℕ) (top filled : ℕ) (room : List ℕ)
         → part ≡ derivativeWritten k (take (filled - from) (drop from words)) (take n room)
         → new ≡ copiedInto (take n (part ++ drop n room)) (take (from + n - from) (drop from words))
         → StepSo (modulus k) (longest k) (unary (derived (fieldAt k) (longest k))) words sizes top filled
-          (take from words ++ (new ++ rest)) (set sizes (top - 1) n) (stepped.To top (from + n))
+        (take from words ++ (new ++ rest)) (set sizes (top - 1) n) (stepped.To top (from + n))
     unfolding unary
     derive-so rest q f g [] h = absurd (let t = h .height in omega arith)
     derive-so {n} {part} {new} rest q f g (c ∷ s) h =
@@ -106,8 +106,7 @@ module _ (k : ℕ) (words sizes : List ℕ) (top filled : ℕ) (room : List ℕ)
     joins b a s h =
         let under = taken b (a ∷ s) h in
         let size = ap (λ i. getD sizes i 0) lower-size in
-        let start : from ≡ filled - getD sizes (top - 1) 0 - getD sizes (top - 1 - 1) 0 = omega arith in
-        (
+        let start : from ≡ filled - getD sizes (top - 1) 0 - getD sizes (top - 1 - 1) 0 = omega arith in (
           top-words b (a ∷ s) h e refl,
           top-words a s under start (ap (λ i. i - from) e),
           recount lower-size (sym start) (taken a s under),
@@ -117,7 +116,7 @@ module _ (k : ℕ) (words sizes : List ℕ) (top filled : ℕ) (room : List ℕ)
         → Came (modulus k) (longest k) (operation (fieldAt k) (longest k) x (take (between - from) (drop from words)) (take (filled - between) (drop between words))) after (sized.Words n)
         → new ≡ copiedInto (take n after) (take (from + n - from) (drop from words))
         → StepSo (modulus k) (longest k) (binary (operation (fieldAt k) (longest k) x)) words sizes top filled
-          (take from words ++ (new ++ rest)) (set sizes (top - 2) n) (stepped.To (top - 1) (from + n))
+        (take from words ++ (new ++ rest)) (set sizes (top - 2) n) (stepped.To (top - 1) (from + n))
     unfolding binary
     join-so n after rest f g [] h = absurd (let t = h .height in omega arith)
     join-so n after rest f g (b ∷ []) h = absurd (let t = h .height in omega arith)
@@ -157,7 +156,7 @@ module _ (k : ℕ) (words sizes : List ℕ) (top filled : ℕ) (room : List ℕ)
         → n ≡ wordsRead s x (take (filled + maxWords - filled) (drop filled words))
         → new ≡ leftAt s x (take (filled + maxWords - filled) (drop filled words))
         → StepSo (modulus k) (longest k) (step (fieldAt k) (longest k) (listsOf s) x) words sizes top filled
-          (take filled words ++ (new ++ rest)) (set sizes top n) (stepped.To (top + 1) (filled + n))
+        (take filled words ++ (new ++ rest)) (set sizes top n) (stepped.To (top + 1) (filled + n))
     unfolding padded
     push-so {n} {new} rest f g st h =
         let low = filled-low (longest-room k) h in
@@ -165,9 +164,11 @@ module _ (k : ℕ) (words sizes : List ℕ) (top filled : ℕ) (room : List ℕ)
         let c = listAt s x in
         let zeros = replicate {A = ℕ} (longest k - length c) 0 in
         let on = put-on h c (zeros ++ rest) (held .listed) (held .words) (omega (arith, y .words-room)) (omega (arith, y .sizes-room)) in
-        let same : new ++ rest ≡ c ++ (zeros ++ rest) = ap (λ w. w ++ rest) (held .slice) ∙ append-assoc c zeros rest in
-        (c ∷ st, step-push (fieldAt k) (longest k) (listsOf s) x st l ∙ ap (λ a. stack (a ∷ st)) (list-at s x there),
-          reword (ap (λ w. take filled words ++ w) (sym same)) on)
+        let same : new ++ rest ≡ c ++ (zeros ++ rest) = ap (λ w. w ++ rest) (held .slice) ∙ append-assoc c zeros rest in (
+          c ∷ st,
+          step-push (fieldAt k) (longest k) (listsOf s) x st l ∙ ap (λ a. stack (a ∷ st)) (list-at s x there),
+          reword (ap (λ w. take filled words ++ w) (sym same)) on,
+        )
 
 -- the lists that an operation is handed
 pub join-lists : {p most : ℕ} {words sizes : List ℕ} {top filled : ℕ} (st : Stack) → Stacked p most words sizes top filled st → 2 ≤ top

@@ -140,7 +140,14 @@ fn pad(list: &[u16], out: &mut [u16])
 }
 
 // Runs the program: the number of words of what is then on the stack, or the refusal of the first operation that refuses.
-fn run(field: u8, album: &[u8], code: &[u8], stack: &mut [u16], sizes: &mut [usize], room: &mut [u16]) -> Sized
+fn run(
+    field: u8,
+    album: &[u8],
+    code: &[u8],
+    stack: &mut [u16],
+    sizes: &mut [usize],
+    room: &mut [u16],
+) -> Sized
     requires { ⌜ (Passed (modulus field) (now album)) × (Runs (now album) (now code)) ⌝ }
     requires { ⌜ (length (now stack) ≡ maxHeight * maxWords) × (length (now sizes) ≡ maxHeight) × (length (now room) ≡ maxWords) ⌝ }
     ensures { λ r. ⌜ RunSo (modulus field) (longest field) (machine.run (fieldAt field) (longest field) (listsOf (given album)) (given code) []) (now (stack .exit)) r ⌝ }
@@ -176,7 +183,11 @@ fn step(
     ensures { λ r. ⌜ StepSo (modulus field) (longest field) (machine.step (fieldAt field) (longest field) (listsOf (given album)) x) (given stack) (given sizes) top filled (now (stack .exit)) (now (sizes .exit)) r ⌝ }
 {
     if x < lines::FIRST_OPERATOR {
-        let n = album_reader::read_at(album, x as usize, &mut stack[filled..filled + refusal::MAX_WORDS]);
+        let n = album_reader::read_at(
+            album,
+            x as usize,
+            &mut stack[filled..filled + refusal::MAX_WORDS],
+        );
         sizes[top] = n;
         return Stepped::To(top + 1, filled + n);
     }
@@ -187,7 +198,14 @@ fn step(
 }
 
 // The derivative of the list on top takes its place.
-fn derive_top(field: u8, stack: &mut [u16], sizes: &mut [usize], top: usize, filled: usize, room: &mut [u16]) -> Stepped
+fn derive_top(
+    field: u8,
+    stack: &mut [u16],
+    sizes: &mut [usize],
+    top: usize,
+    filled: usize,
+    room: &mut [u16],
+) -> Stepped
     requires { ⌜ Lying (modulus field) (longest field) (now stack) (now sizes) top filled (now room) × (1 ≤ top) ⌝ }
     ensures { λ r. ⌜ StepSo (modulus field) (longest field) (unary (derived (fieldAt field) (longest field))) (given stack) (given sizes) top filled (now (stack .exit)) (now (sizes .exit)) r ⌝ }
 {
@@ -201,13 +219,27 @@ fn derive_top(field: u8, stack: &mut [u16], sizes: &mut [usize], top: usize, fil
 }
 
 // What an operator makes of the two lists on top takes their place.
-fn join_top(field: u8, x: u8, stack: &mut [u16], sizes: &mut [usize], top: usize, filled: usize, room: &mut [u16]) -> Stepped
+fn join_top(
+    field: u8,
+    x: u8,
+    stack: &mut [u16],
+    sizes: &mut [usize],
+    top: usize,
+    filled: usize,
+    room: &mut [u16],
+) -> Stepped
     requires { ⌜ Lying (modulus field) (longest field) (now stack) (now sizes) top filled (now room) × (2 ≤ top) ⌝ }
     ensures { λ r. ⌜ StepSo (modulus field) (longest field) (binary (operation (fieldAt field) (longest field) x)) (given stack) (given sizes) top filled (now (stack .exit)) (now (sizes .exit)) r ⌝ }
 {
     let between = filled - sizes[top - 1];
     let from = between - sizes[top - 2];
-    match operate(field, x, &stack[from..between], &stack[between..filled], room) {
+    match operate(
+        field,
+        x,
+        &stack[from..between],
+        &stack[between..filled],
+        room,
+    ) {
         Sized::Words(n) => {
             words::copy(&room[..n], &mut stack[from..from + n]);
             sizes[top - 2] = n;

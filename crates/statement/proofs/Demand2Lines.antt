@@ -187,7 +187,7 @@ module _ (s line old : List ℕ) (bytes : Bytes s) {out : List ℕ} {r : Reply}
       let has : lacks (length (listsOf s)) tree ≡ false = ap (λ k. lacks k tree) (length-lists s) ∙ sym (lacks-tokens (count s) (one .is)) ∙ ok .has in
       let is : valueOf F65521 maxWords (listsOf s) tree ≡ value (listIn v) = sym (ap (valueIn F65521 maxWords (listsOf s)) read) ∙ valued v (o .1) in
       let m = subst (ValueMeans F65521 maxWords (longest-in 0) _ _) is
-              (value-means F65521 maxWords (longest-in 0) (listsOf s) (passed-each p s (fine-passes s (ok .fine)) maxWords (omega arith)) tree has) in
+      (value-means F65521 maxWords (longest-in 0) (listsOf s) (passed-each p s (fine-passes s (ok .fine)) maxWords (omega arith)) tree has) in
       let g = coefficients-listed F65521 (longest-in 0) (m .listed) in
       let degree : n ≡ naiveDegree (listIn v) = ap (λ (l : List ℕ). getD l 0 0) (d .1) in
       let size : length (listIn v) ≡ suc n = omega (arith, length-naive (listIn v) (m .listed .some)) in

@@ -22,8 +22,8 @@ use Rattle.album_layout.specs.Layout.{startAt, offsetsAgree, degreesFit, wrongC
 use Rattle.lines.specs.Grammar.{isDigit, signOf, lone, tokens, openBehind, deepest}
 use Rattle.lines.specs.Reader.{readingOf, want, closed, ended, termPlace, termTree, sumPlace, sumTree}
 use Rattle.lines.specs.Lines.{outsideGrammar, tooDeep}
-use Rattle.line_values.specs.Values.{both, one, valueOf, lacks}
-use Rattle.line_values.specs.Calls.{lacksOperand, lineRows, lineValue}
+use Rattle.line_values.specs.Values.{both, one, valueOf}
+use Rattle.line_values.specs.Calls.{lacksNumber, lacksOperand, lineRows, lineValue}
 use Rattle.report_text.specs.Text.{decimalIn, decimal, line}
 use Rattle.report_text.specs.Report.{refusedLine}
 use Rattle.line_text.specs.Calls.{lineOf, albumIn, valueText, lineText}
@@ -42,7 +42,7 @@ unfoldable computes : Bool
 unfolding A.computes longest lower lowest wordsAt naiveDegree word binomial productAt product raiseAt raise largerDegree sumOf differenceOf
     derivativeAt derivative hasLoose tabulate startAt offsetsAgree degreesFit wrongCount brokenLayout listAt listsFrom listsOf isDigit signOf
     lone tokens openBehind deepest readingOf want closed ended termPlace termTree sumPlace sumTree outsideGrammar tooDeep both one valueOf
-    lacks lacksOperand lineRows lineValue decimalIn decimal line refusedLine lineOf albumIn valueText lineText
+    lacksNumber lacksOperand lineRows lineValue decimalIn decimal line refusedLine lineOf albumIn valueText lineText
 computes = true
 
 pub of-the-line : lineText 0 (⟨line⟩ ++ (10 ∷ ⟨album⟩)) ≡ 51 ∷ 32 ∷ 51 ∷ 50 ∷ 55 ∷ 55 ∷ 51 ∷ 32 ∷ 51 ∷ 48 ∷ 10 ∷ []

@@ -1,7 +1,9 @@
 -- What the call refuses, as the chain of tests that the code makes, and what it knows where nothing is refused.
 --     judged-layout, -line, -index, -album, -misfit, -done     what the tests find, one after the other
 --     lacks-found      the search of the program finds what the line's tree lacks
---     accepted-runs    where nothing is refused, the program can be run
+--     Accepted, accepted, accepted-passed     what is known where no row applies
+--     valued, line-listed     a value that is not refused: a list that no call refuses
+--     accepted-runs    where no row applies, the program can be run
 --     answered, refused-early     what the call then answers and writes, and where it is refused
 -- Assumes nothing.
 use mathlib.Core.Path.{_≡_, refl, sym, _∙_, ap, ap₂}
@@ -12,7 +14,7 @@ use native.Mathlib.Omega.{arith}
 use lib.Dec.{eqb}
 use lib.ListN.{length, take}
 use borrow.Author.Tests.{eq-eqb, ne-eqb, eqb-true, le-ltb, ltb-false, not-false}
-use Rattle.refusal.specs.Limits.{maxLine, maxOpen}
+use Rattle.refusal.specs.Limits.{maxLists, maxLine, maxOpen}
 use Rattle.refusal.specs.Lowest.{Condition, _given-when_, lowest, or-else}
 use Rattle.refusal.specs.Refusal.{Reply, number, outcomeNumber, reply, written}
 use Rattle.refusal.proofs.Answers.{number-range}
@@ -22,22 +24,27 @@ use Rattle.refusal.specs.declared.Outcome.{Outcome}
 use Rattle.refusal.specs.declared.Outcome.the-variants.{Done, Refused}
 use Rattle.refusal.proofs.First.{refuse, first, first-is, first-then, refuse-done, or-else-done}
 use Rattle.field.specs.Fields.{modulus, fieldAt, longest}
+use Rattle.field.proofs.Fields.{longest-in, longest-full}
 use Rattle.lists.specs.Degrees.{naiveDegree}
 use Rattle.lists.specs.Padded.{padded}
-use Rattle.lists.specs.Refused.{hasLoose, anyOf}
-use Rattle.album_layout.specs.Layout.{count, listsOf}
+use Rattle.lists.specs.Refused.{hasLoose, anyOf, IsList}
+use Rattle.album_layout.specs.Layout.{count, wrongCount, brokenLayout, listsOf}
 use Rattle.album_layout.specs.Internal.{layoutRefusals, Passed}
 use Rattle.album_layout.specs.Calls.{albumRefusals}
 use Rattle.album_layout.proofs.Judged.{album-loose, album-done, album-fine}
+use Rattle.album_layout.proofs.Passed.{passed-each}
+use Rattle.album_layout.proofs.Places.{length-lists}
 use Rattle.lines.specs.Grammar.{deepest}
 use Rattle.lines.specs.Lines.{outsideGrammar, tooDeep, lineRefusals, readOutcome, ProgramOf}
 use Rattle.lines.specs.declared.Judged.the-variants as judged
 use Rattle.lines.proofs.Height.{line-height}
 use Rattle.lines.proofs.Operands.{reading-small}
-use Rattle.lines.proofs.Readings.{reading-sound}
-use Rattle.line_values.specs.Values.{valueOf}
-use Rattle.line_values.specs.Calls.{lacksOperand, lineRows, valueIn, lineValue, lateOf, listIn, lineAnswer, lineWritten}
+use Rattle.lines.proofs.Lines.{inside-is}
+use Rattle.lines.proofs.Readings.{reading-sound, reading-complete}
+use Rattle.line_values.specs.Values.{Valued, value, refused, valueOf, lacks}
+use Rattle.line_values.specs.Calls.{lacksOperand, lineRows, valueIn, lineValue, lateOf, listIn, lineOutcome, lineAnswer, lineWritten}
 use Rattle.line_values.specs.Internal.{lacksByte, Runs, ValueSo}
+use Rattle.line_values.proofs.Values.{value-listed}
 use Rattle.line_values.proofs.Programs.{lacks-program, lacks-tokens}
 
 -- an outcome is one or the other
@@ -96,29 +103,58 @@ module _ (p most : ℕ) (s line out : List ℕ) where
           pub judged-done : length out ≡ most → Done ≡ lowest (lineRows p most s line out)
           judged-done t = sym (rows-judged ∙ simp (e, f, has, tight, eq-eqb (length out) most t))
 
-  -- what is known where nothing is refused
-  record Accepted : Type 0 where
-    pub passed : Passed p s
+  -- what is known where no row applies
+  pub record Accepted : Type 0 where
+    pub counted : wrongCount maxLists s ≡ false
+    pub laid : brokenLayout s ≡ false
+    pub inside : outsideGrammar line ≡ false
     pub shallow : tooDeep line ≡ false
     pub has : lacksOperand s line ≡ false
+    pub tight : anyOf (hasLoose p) (listsOf s) ≡ false
     pub fits : length out ≡ most
 
-  accepted : Done ≡ lowest (lineRows p most s line out) → Accepted
-  unfolding lineRefusals
+  pub accepted : lowest (lineRows p most s line out) ≡ Done → Accepted
+  unfolding lineRows
   accepted d =
-      let a = or-else-done (lowest (layoutRefusals s)) _ (sym rows-judged ∙ sym d) in
-      let b = or-else-done (lowest (lineRefusals line)) (first rest) (a .1) in
-      let c = refuse-done (outsideGrammar line) _ _ (sym (first-is (lineRefusals line) tt) ∙ b .0) in
+      let a = refuse-done (wrongCount maxLists s) _ _ (sym (first-is (lineRows p most s line out) tt) ∙ d) in
+      let b = refuse-done (brokenLayout s) _ _ (a .1) in
+      let c = refuse-done (outsideGrammar line) _ _ (b .1) in
       let n = refuse-done (tooDeep line) _ _ (c .1) in
-      let i = refuse-done (lacksOperand s line) _ _ (b .1) in
+      let i = refuse-done (lacksOperand s line) _ _ (n .1) in
       let w = refuse-done (anyOf (hasLoose p) (listsOf s)) _ _ (i .1) in
       let m = refuse-done (not (eqb (length out) most)) _ _ (w .1) in
       record {
-        passed = sym (album-done p s (a .0) (w .0));
+        counted = a .0;
+        laid = b .0;
+        inside = c .0;
         shallow = n .0;
         has = i .0;
+        tight = w .0;
         fits = eqb-true (length out) most (not-false _ (m .0));
       }
+
+  pub accepted-passed : Accepted → Passed p s
+  unfolding layoutRefusals
+  accepted-passed h = sym (album-done p s (first-is (layoutRefusals s) tt ∙ simp (h .counted, h .laid)) (h .tight))
+
+-- a value that is not refused
+pub valued : (v : Valued) → lateOf v ≡ Done → v ≡ value (listIn v)
+valued (value c) e = refl
+valued (refused why) e = cc
+
+-- the value of a line that is not refused is a list that no call refuses
+pub line-listed : (k : ℕ) (s line out : List ℕ) → lineOutcome k s line out ≡ Done
+    → IsList (modulus k) (longest k) (listIn (lineValue (fieldAt k) (longest k) s line))
+unfolding fieldAt lineValue lacksOperand
+line-listed k s line out e =
+    let v = lineValue (fieldAt k) (longest k) s line in
+    let o = or-else-done (lowest (lineRows (modulus k) (longest k) s line out)) (lateOf v) e in
+    let a = accepted (modulus k) (longest k) s line out (o .0) in
+    let passed = accepted-passed (modulus k) (longest k) s line out a in
+    let one = inside-is line (a .inside) .1 in
+    let has : lacks (length (listsOf s)) (one .tree) ≡ false = ap (λ n. lacks n (one .tree)) (length-lists s) ∙ sym (lacks-tokens (count s) (one .is)) ∙ a .has in
+    let is = sym (ap (valueIn (fieldAt k) (longest k) (listsOf s)) (reading-complete (one .is))) ∙ valued v (o .1) in
+    value-listed (fieldAt k) (longest k) (longest-in k) (listsOf s) (passed-each (modulus k) s passed (longest k) (longest-full k)) (one .tree) (listIn v) has is
 
 -- what reading the line finds, in a slice with room for every program
 pub read-found : (line code : List ℕ) {o : Outcome} → maxLine ≤ length code → o ≡ readOutcome line code → o ≡ lowest (lineRefusals line)
@@ -139,12 +175,12 @@ module _ (s line code : List ℕ) {n : ℕ} (g : ProgramOf line code (judged.Pro
 
   module _ (k : ℕ) (out : List ℕ) (d : Done ≡ lowest (lineRows (modulus k) (longest k) s line out)) where
     known : Accepted (modulus k) (longest k) s line out
-    known = accepted (modulus k) (longest k) s line out d
+    known = accepted (modulus k) (longest k) s line out (sym d)
 
     pub accepted-runs : (Passed (modulus k) s) × (Runs s (take n code)) × (length out ≡ longest k)
     unfolding tooDeep
     accepted-runs = (
-      known .passed,
+      accepted-passed (modulus k) (longest k) s line out known,
       record {
         tree = g .0;
         is = g .3;

@@ -13,13 +13,12 @@ use borrow.Author.Tests.{leb-false, ltb-false}
 use Rattle.algebra.specs.Ring.{CommRing}
 use Rattle.algebra.specs.Derivative as D
 use Rattle.algebra.specs.PrimeField.{PrimeField}
-use Rattle.refusal.specs.Limits.{maxLists, maxWords}
+use Rattle.refusal.specs.Limits.{maxWords}
 use Rattle.refusal.specs.Refusal.{Reply, written}
 use Rattle.refusal.specs.Lowest.{lowest}
 use Rattle.refusal.specs.declared.Refusal.the-variants.{Over}
-use Rattle.refusal.specs.declared.Outcome.the-variants.{Done}
 use Rattle.refusal.proofs.Answers.{done-reply}
-use Rattle.refusal.proofs.First.{first-is, refuse-done, or-else-done, or-false}
+use Rattle.refusal.proofs.First.{or-else-done, or-false}
 use Rattle.field.specs.Fields.{p, F65521, fieldAt, longest}
 use Rattle.field.proofs.Fields.{longest-in}
 use Rattle.lists.specs.Bytes.{Bytes}
@@ -27,7 +26,7 @@ use Rattle.lists.specs.Degrees.{naiveDegree}
 use Rattle.lists.specs.Lists.{meaning}
 use Rattle.lists.specs.Operations as of
 use Rattle.lists.specs.Padded.{padded}
-use Rattle.lists.specs.Refused.{IsList, hasLoose, anyOf}
+use Rattle.lists.specs.Refused.{IsList}
 use Rattle.lists.proofs.Scaled.{length-naive, coefficients-listed}
 use Rattle.lists.proofs.Unscaled.{meaning-injective}
 use Rattle.lists.proofs.Products.{length-product, product-meaning}
@@ -35,16 +34,16 @@ use Rattle.lists.proofs.Sums.{length-sum, sum-meaning, length-difference, diffe
 use Rattle.lists.proofs.Calculus.{derivative-meaning}
 use Rattle.list_derivative.specs.Calls.{derivativeWords}
 use Rattle.list_derivative.proofs.Derived.{derivative-length}
-use Rattle.album_layout.specs.Layout.{count, wrongCount, brokenLayout, listsOf}
+use Rattle.album_layout.specs.Layout.{count, listsOf}
 use Rattle.album_layout.proofs.Places.{length-lists}
 use Rattle.album_layout.proofs.Passed.{passed-each}
 use Rattle.lines.specs.Grammar.{Tree, list, sum, difference, product, derivative}
 use Rattle.lines.specs.Reader.{reads}
-use Rattle.lines.specs.Lines.{outsideGrammar, tooDeep}
 use Rattle.lines.proofs.Lines.{inside-is}
 use Rattle.lines.proofs.Readings.{reading-complete}
 use Rattle.line_values.specs.Values.{Valued, value, refused, both, one, added, subtracted, multiplied, derived, valueOf, lacks}
 use Rattle.line_values.specs.Calls.{lacksOperand, lineRows, valueIn, lineValue, lateOf, listIn, lineAnswer, lineWritten}
+use Rattle.line_values.proofs.Judging.{accepted, valued}
 use Rattle.line_values.proofs.Programs.{lacks-tokens}
 use Rattle.line_values.proofs.Values.{sum-listed, difference-listed, product-listed, derivative-listed}
 use Rattle.statement.specs.Demand2Calls.{degreeBy, meantBy, LineSo}
@@ -150,28 +149,6 @@ module _ (F : PrimeField) (most : ℕ) (wide : most ≤ F .p) where
         of-both (multiplied F most) (degreeBy lists a) (degreeBy lists b) _ (meantBy F lists a) (meantBy F lists b) _ means-product (valueOf F most lists a) (valueOf F most lists b) (value-means a (d .0)) (value-means b (d .1))
     value-means (derivative a) h = of-one (derived F most) (degreeBy lists a) _ (meantBy F lists a) _ means-derivative (valueOf F most lists a) (value-means a h)
 
--- what a call knows to which no row applies
-record Accepted (s line : List ℕ) : Type 0 where
-  pub fine : Fine s
-  pub inside : outsideGrammar line ≡ false
-  pub has : lacksOperand s line ≡ false
-
-accepted : (s line old : List ℕ) → lowest (lineRows p maxWords s line old) ≡ Done → Accepted s line
-unfolding lineRows
-accepted s line old e =
-    let a = refuse-done (wrongCount maxLists s) _ _ (sym (first-is (lineRows p maxWords s line old) tt) ∙ e) in
-    let b = refuse-done (brokenLayout s) _ _ (a .1) in
-    let c = refuse-done (outsideGrammar line) _ _ (b .1) in
-    let d = refuse-done (tooDeep line) _ _ (c .1) in
-    let i = refuse-done (lacksOperand s line) _ _ (d .1) in
-    let w = refuse-done (anyOf (hasLoose p) (listsOf s)) _ _ (i .1) in
-    record { fine = record { counted = a .0; laid = b .0; tight = w .0 }; inside = c .0; has = i .0 }
-
--- a value that is not refused
-valued : (v : Valued) → lateOf v ≡ Done → v ≡ value (listIn v)
-valued (value c) e = refl
-valued (refused why) e = cc
-
 module _ (s line old : List ℕ) (bytes : Bytes s) {out : List ℕ} {r : Reply}
     (e : r ≡ lineAnswer 0 s line old) (w : out ≡ lineWritten 0 s line old) where
   pub line-so : LineSo F65521 s line out r
@@ -180,20 +157,21 @@ module _ (s line old : List ℕ) (bytes : Bytes s) {out : List ℕ} {r : Reply}
       let v = lineValue F65521 maxWords s line in
       let d = done-reply _ (n ∷ []) (naiveDegree (listIn v) ∷ []) (sym a ∙ e) in
       let o = or-else-done (lowest (lineRows p maxWords s line old)) (lateOf v) (d .0) in
-      let ok = accepted s line old (o .0) in
+      let ok = accepted p maxWords s line old (o .0) in
+      let sound : Fine s = record { counted = ok .counted; laid = ok .laid; tight = ok .tight } in
       let one = inside-is line (ok .inside) .1 in
       let tree = one .tree in
       let read = reading-complete (one .is) in
       let has : lacks (length (listsOf s)) tree ≡ false = ap (λ k. lacks k tree) (length-lists s) ∙ sym (lacks-tokens (count s) (one .is)) ∙ ok .has in
       let is : valueOf F65521 maxWords (listsOf s) tree ≡ value (listIn v) = sym (ap (valueIn F65521 maxWords (listsOf s)) read) ∙ valued v (o .1) in
       let m = subst (ValueMeans F65521 maxWords (longest-in 0) _ _) is
-      (value-means F65521 maxWords (longest-in 0) (listsOf s) (passed-each p s (fine-passes s (ok .fine)) maxWords (omega arith)) tree has) in
+      (value-means F65521 maxWords (longest-in 0) (listsOf s) (passed-each p s (fine-passes s sound) maxWords (omega arith)) tree has) in
       let g = coefficients-listed F65521 (longest-in 0) (m .listed) in
       let degree : n ≡ naiveDegree (listIn v) = ap (λ (l : List ℕ). getD l 0 0) (d .1) in
       let size : length (listIn v) ≡ suc n = omega (arith, length-naive (listIn v) (m .listed .some)) in
       record {
         lists = listsOf s;
-        album = holds s bytes (ok .fine);
+        album = holds s bytes sound;
         tree = tree;
         reads = one .is;
         only = one .only;

@@ -9,7 +9,6 @@
 --     lineTextWritten k       the text, zeros after it
 -- Theorems, each in the module of proofs/ that is named:
 --     parts-join                      a line without byte 0A, that byte and an album are read as this line and this album (Parts)
---     value-listed                    the value of a line that is not refused is a list that no call refuses (Texts)
 --     of-the-line, of-no-line-end     two texts, by computation (Examples)
 -- Assumes nothing.
 use mathlib.Core.Bool.{cond}

@@ -1,5 +1,5 @@
 -- Lines over albums, computed: which number goes before which.
---     wide             two lists of 600 words, all of them 0: their product would have 1,199
+--     wide             one list of 513 words, all of them 0: its square would have 1,025
 --     small            one list, of one word
 -- Assumes nothing.
 use mathlib.Core.Path.{_≡_, refl}
@@ -21,7 +21,7 @@ use Rattle.line_values.specs.Values.{both, valueOf}
 use Rattle.line_values.specs.Calls.{lacksNumber, lacksOperand, lineRows, lineValue, lineOutcome}
 
 abbrev wide : List ℕ
-wide = (2 ∷ 87 ∷ 2 ∷ 9 ∷ 0 ∷ 87 ∷ 2 ∷ 185 ∷ 4 ∷ []) ++ replicate 2400 0
+wide = (1 ∷ 0 ∷ 2 ∷ 5 ∷ 0 ∷ []) ++ replicate 1026 0
 
 abbrev small : List ℕ
 small = 1 ∷ 0 ∷ 0 ∷ 5 ∷ 0 ∷ 7 ∷ 0 ∷ []
@@ -32,18 +32,18 @@ unfolding lines.computes tabulate wordsAt startAt offsetsAgree degreesFit wrongC
     modulus longest naiveDegree lower lowest lacksNumber lacksOperand lineRows both valueOf lineValue
 computes = true
 
--- 0*1, whose product is over the limit: 6
-over : lineOutcome 0 wide (48 ∷ 42 ∷ 49 ∷ []) (replicate 1024 0) ≡ Refused Over
+-- 0*0, whose product is over the limit: 6
+over : lineOutcome 0 wide (48 ∷ 42 ∷ 48 ∷ []) (replicate 1024 0) ≡ Refused Over
 unfolding computes
 over = refl
 
 -- and 10 goes before 6
-over-and-misfit : lineOutcome 0 wide (48 ∷ 42 ∷ 49 ∷ []) [] ≡ Refused Misfit
+over-and-misfit : lineOutcome 0 wide (48 ∷ 42 ∷ 48 ∷ []) [] ≡ Refused Misfit
 unfolding computes
 over-and-misfit = refl
 
--- 99*(0*1): 3, though the product is the first operation
-lacking : lineOutcome 0 wide (57 ∷ 57 ∷ 42 ∷ 40 ∷ 48 ∷ 42 ∷ 49 ∷ 41 ∷ []) (replicate 1024 0) ≡ Refused Index
+-- 0+99: 3
+lacking : lineOutcome 0 small (48 ∷ 43 ∷ 57 ∷ 57 ∷ []) (replicate 1024 0) ≡ Refused Index
 unfolding computes
 lacking = refl
 

@@ -1,3 +1,4 @@
+pub mod Examples
 pub mod Machine
 pub mod Programs
 pub mod Values
@@ -7,4 +8,3 @@ pub mod Steps
 pub mod Running
 pub mod Judging
 pub mod Answers
-pub mod Examples

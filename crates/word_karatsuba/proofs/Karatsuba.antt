@@ -41,7 +41,7 @@ module _ (F : PrimeField) where
   abbrev power : ℕ → S
   power k = monomial (F .series) 𝟙 k
 
-  power-add : (k n : ℕ) → power k *ˢ power n ≡ power (k + n)
+  pub power-add : (k n : ℕ) → power k *ˢ power n ≡ power (k + n)
   unfolding monomial
   power-add zero n = ap (λ z. z *ˢ power n) (C-one (F .series)) ∙ R.one-mul (F .series .ring) _ ∙ ap power (sym (zero-add n))
   power-add (suc k) n =

@@ -84,7 +84,7 @@ fn add_words(x: &mut [u16], y: &[u16], p: u16)
 }
 
 // x less y. All words are below p.
-fn sub_words(x: &mut [u16], y: &[u16], p: u16)
+pub fn sub_words(x: &mut [u16], y: &[u16], p: u16)
     requires { ⌜ (length (now y) ≤ length (now x)) × (2 ≤ p) × Tight p (now x) × Tight p (now y) ⌝ }
     ensures { λ _. ⌜ now (x .exit) ≡ row p (given x) (negated p 1) (given y) ⌝ }
 {

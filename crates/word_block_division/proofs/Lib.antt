@@ -1,0 +1,3 @@
+pub mod Reciprocals
+pub mod Blocks
+pub mod Whole

@@ -75,7 +75,7 @@ fn divide_in(
     let inv = field_inverse::inverse_or_zero(field, inverses, f[f.len() - 1]);
     word_scaling::weigh(field, g, whole, part, x);
     word_scaling::weigh(field, f, whole, part, y);
-    word_division::reduce(field, x, y, inv, k);
+    word_block_division::reduce(field, x, y, inv, k);
     word_scaling::weigh(field, k, part, whole, q);
     word_scaling::weigh(field, x, part, whole, r);
 }

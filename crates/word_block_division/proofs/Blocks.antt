@@ -1,20 +1,19 @@
 -- Blocks on words, for every prime field F.
 --     reciprocal-is      the quotient of u^(2 e - 2), row by row, is a reciprocal
 --     block-is           what a block writes
---     start, turn, end   the blocks from the top: the loop's start, one turn, its end
+--     begun-start, begun-turn, begun-end     the blocks from the top: the loop's start, one turn, its end
 -- Assumes nothing.
 use mathlib.Core.Path.{_≡_, refl, sym, _∙_, ap, ap₂, subst}
 use mathlib.Core.List.{List, [], _++_}
 use Prim.Native.Nat.{ℕ, zero, suc, _+_, _-_, _*_, _%_, _≤_, _<_}
 use native.Mathlib.Decide.{decLt, ℕ-discrete}
-use native.Mathlib.Nat.{mod-lt}
 use native.Mathlib.Omega.{arith}
-use lib.ListN.{length, getD, take, drop, set, length-take, length-drop, length-set, length-append, List·getD-eq-default, List·getD-append, take-append-drop}
-use lib.Seq.{getD-take, getD-drop, getD-set-same, getD-set-other, take-all, take-at, drop-at, drop-length, drop-drop, length-take-le, getD-append-add}
+use lib.ListN.{length, getD, take, drop, set, length-take, length-drop, length-set, List·getD-eq-default, List·getD-append, take-append-drop}
+use lib.Seq.{getD-drop, getD-set-same, getD-set-other, take-at, drop-at, drop-length, drop-drop, length-take-le, getD-append-add}
 use Rattle.algebra.specs.RingLaws as R
 use Rattle.algebra.specs.Ring.{CommRing}
 use Rattle.algebra.specs.RingLaws.{RING}
-use Rattle.algebra.proofs.Series.{ext, coeff-0, coeff-add, C-one}
+use Rattle.algebra.proofs.Series.{ext, coeff-0, C-one}
 use Rattle.algebra.specs.Polynomial.{Below, monomial}
 use Rattle.algebra.proofs.Polynomial.{below-mono, below-monomial, coeff-monomial}
 use Rattle.algebra.specs.Degree.{Degree}
@@ -31,7 +30,7 @@ use Rattle.lists.proofs.Parts.{getD-then-zeros}
 use Rattle.word_row.specs.Rows.{row}
 use Rattle.word_product.specs.Convolution.{convolution, convolvedInto}
 use Rattle.word_product.proofs.Convolution.{length-convolution, convolve-is}
-use Rattle.word_division.specs.Reduction.{negated, reduced, digits, wordsOfQuotient}
+use Rattle.word_division.specs.Reduction.{negated, digits, wordsOfQuotient}
 use Rattle.word_division.proofs.Loops.{reduce-fits}
 use Rattle.word_division.proofs.Steps.{digits-quotient, length-digits}
 use Rattle.word_karatsuba.specs.Halves.{Tight}
@@ -39,7 +38,7 @@ use Rattle.word_karatsuba.proofs.Products.{below-seriesOf, convolution-carries,
 use Rattle.word_karatsuba.proofs.Karatsuba.{power-add, tight-product}
 use Rattle.word_karatsuba.proofs.Parts.{rest-is}
 use Rattle.word_karatsuba.proofs.Words.{tight-take, tight-drop}
-use Rattle.word_block_division.specs.Blocks.{Inverts, Suits, power, Reciprocal, Divided, Begun}
+use Rattle.word_block_division.specs.Blocks.{Inverts, power, Reciprocal, Divided, Begun}
 use Rattle.word_block_division.proofs.Reciprocals.{block-rest}
 
 -- the length of a part
@@ -326,8 +325,8 @@ module _ (F : PrimeField) where
       go k (yes l) = rw (List·getD-append a b 0 k l) (ta .at k)
       go k (no l) = let e : k ≡ length a + (k - length a) = omega arith in rw (e, getD-append-add a b (k - length a) 0) (tb .at (k - length a))
 
-  pub start : (y x q : List ℕ) → Tight (F .p) x → 1 ≤ length y → length x + 1 ≡ length y + length q → Begun F y x (length q) x q
-  start y x q tx l e =
+  pub begun-start : (y x q : List ℕ) → Tight (F .p) x → 1 ≤ length y → length x + 1 ≡ length y + length q → Begun F y x (length q) x q
+  begun-start y x q tx l e =
       record {
         tight-quotient = record { at = λ k. subst (λ i. i < F .p) (sym (ap (λ l. getD l k 0) (drop-length q) ∙ none-at k)) (positive F) };
         tight-rest = tx;
@@ -386,8 +385,8 @@ module _ (F : PrimeField) where
     gathered : (a u v g h y w : S) → u *ˢ v *ˢ g *ˢ y +ˢ (a +ˢ u *ˢ (h *ˢ y +ˢ w)) ≡ u *ˢ (h +ˢ v *ˢ g) *ˢ y +ˢ (a +ˢ u *ˢ w)
     gathered a u v g h y w = simp RING
 
-    pub turn : Begun F y x₀ k x′ q′
-    turn =
+    pub begun-turn : Begun F y x₀ k x′ q′
+    begun-turn =
         record {
           tight-quotient =
               rw front-quotient
@@ -410,8 +409,8 @@ module _ (F : PrimeField) where
   unfolding monomial
   power-none = C-one (F .series)
 
-  pub end : (y x₀ x q : List ℕ) (k : ℕ) → k ≤ 0 → Begun F y x₀ k x q → Divided F y x₀ q x
-  end y x₀ x q zero l b =
+  pub begun-end : (y x₀ x q : List ℕ) (k : ℕ) → k ≤ 0 → Begun F y x₀ k x q → Divided F y x₀ q x
+  begun-end y x₀ x q zero l b =
       record {
         tight-quotient = b .tight-quotient;
         tight-rest = b .tight-rest;
@@ -421,4 +420,4 @@ module _ (F : PrimeField) where
     where
       once : (a b c : S) → 1ˢ *ˢ a *ˢ b +ˢ c ≡ a *ˢ b +ˢ c
       once a b c = simp RING
-  end y x₀ x q (suc k) l b = absurd (omega arith)
+  begun-end y x₀ x q (suc k) l b = absurd (omega arith)

@@ -4,13 +4,13 @@
 -- Theorems:
 --     block-rest         with q as the quotient, what is left is below the divisor's degree
 -- Assumes nothing.
-use mathlib.Core.Path.{_≡_, refl, sym, _∙_, ap, ap₂, subst}
-use Prim.Native.Nat.{ℕ, zero, suc, _+_, _-_, _*_, _≤_, _<_}
+use mathlib.Core.Path.{_≡_, sym, _∙_, ap, subst}
+use Prim.Native.Nat.{ℕ, zero, _+_, _-_, _*_, _≤_}
 use native.Mathlib.Omega.{arith}
 use Rattle.algebra.specs.RingLaws as R
 use Rattle.algebra.specs.Ring.{CommRing}
 use Rattle.algebra.specs.RingLaws.{RING}
-use Rattle.algebra.specs.Polynomial.{Below, monomial}
+use Rattle.algebra.specs.Polynomial.{Below}
 use Rattle.algebra.proofs.Polynomial.{below-mono, below-add, below-neg, below-mul, below-monomial}
 use Rattle.algebra.proofs.Division.{coeff-monomial-mul}
 use Rattle.algebra.specs.PrimeField.{PrimeField, scalars}

@@ -1,9 +1,9 @@
 -- A quotient and a remainder with no loose word are those of the division row by row, for every prime field F.
 -- Assumes nothing.
-use mathlib.Core.Path.{_≡_, refl, sym, _∙_, ap, ap₂, subst}
+use mathlib.Core.Path.{_≡_, refl, sym, _∙_, ap, subst}
 use mathlib.Core.Bool.{true}
 use mathlib.Core.List.{List}
-use Prim.Native.Nat.{ℕ, zero, suc, _+_, _-_, _*_, _≤_, _<_}
+use Prim.Native.Nat.{ℕ, zero, _+_, _-_, _≤_}
 use native.Mathlib.Omega.{arith}
 use lib.ListN.{length, getD}
 use lib.Seq.{ext-getD}
@@ -12,15 +12,15 @@ use Rattle.algebra.specs.Polynomial.{Below}
 use Rattle.algebra.proofs.Polynomial.{below-mono, polynomial}
 use Rattle.algebra.specs.Division.{quotient, remainder}
 use Rattle.algebra.proofs.Division.{division, remainder-below, quotient-below, division-unique}
-use Rattle.algebra.specs.PrimeField.{PrimeField, scalars, scalarField, positive, residue}
+use Rattle.algebra.specs.PrimeField.{PrimeField, scalars, scalarField, residue}
 use Rattle.algebra.proofs.PrimeField.{residue-0}
-use Rattle.lists.specs.Words.{ZeroFrom, seriesOf}
-use Rattle.lists.proofs.Words.{Carries, value-is, carries-seriesOf, seriesOf-carries, coeff-seriesOf}
+use Rattle.lists.specs.Words.{seriesOf}
+use Rattle.lists.proofs.Words.{Carries, value-is, carries-seriesOf, coeff-seriesOf}
 use Rattle.word_division.specs.Reduction.{reduced, digits, reduceFits, wordsReduced, wordsOfQuotient}
 use Rattle.word_division.proofs.Loops.{reduce-fits}
 use Rattle.word_division.proofs.Steps.{digits-quotient, reduced-remainder, length-digits, length-reduced}
 use Rattle.word_karatsuba.proofs.Products.{below-seriesOf}
-use Rattle.word_block_division.specs.Blocks.{Inverts, Suits, Divided}
+use Rattle.word_block_division.specs.Blocks.{Suits, Divided}
 use Rattle.word_block_division.proofs.Blocks.{top-inverse, divisor-degree, divisor-words, divisor-carries}
 
 module _ (F : PrimeField) where

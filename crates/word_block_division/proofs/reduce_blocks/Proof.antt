@@ -1,22 +1,18 @@
 -- `word_block_division::reduce_blocks` meets its contract. The loop's invariant: the quotient's words from k on are there, and x is what is left. The
 -- measure is k.
 -- Assumes nothing.
-use mathlib.Core.Path.{_≡_, refl, sym, _∙_, ap, subst}
-use Prim.Native.Nat.{ℕ, _+_, _-_, _*_, _≤_, _<_, min}
+use mathlib.Core.Path.{_≡_, refl, sym, _∙_, subst}
+use Prim.Native.Nat.{_+_, _-_, _≤_}
 use native.Mathlib.Omega.{arith}
 use lib.ListN.{length}
 use Rattle.field.specs.Fields.{fieldAt}
 use Rattle.field.proofs.Fields.{p-at}
 use Rattle.word_karatsuba.proofs.Words.{tight-at}
 use Rattle.word_block_division.specs.Blocks.{Begun}
-use Rattle.word_block_division.proofs.Blocks.{start, end}
+use Rattle.word_block_division.proofs.Blocks.{begun-start, begun-end}
 use borrow.Author.Needs.{needs}
 use Rattle.word_block_division.proofs.reduce_blocks.Statement.{statement}
 use Rattle.word_block_division.proofs.reduce_blocks.Tie as tie
-use Rattle.word_block_division.proofs.reduce_blocks.Reads as reads
-use Rattle.word_block_division.proofs.reduce_blocks.Lts as lts
-use Rattle.word_block_division.proofs.reduce_at.Reads as reduce-at-reads
-use Rattle.words.proofs.smaller.Reads as smaller-reads
 
 abbrev Inv-loop : tie.InvT-loop
 Inv-loop field x₀ y s q₀ t₀ v₀ k₀ x q t v k =
@@ -26,33 +22,29 @@ Inv-loop field x₀ y s q₀ t₀ v₀ k₀ x q t v k =
 abbrev μ-loop : tie.MeasureT-loop
 μ-loop field x₀ y s q₀ t₀ v₀ k₀ x q t v k = k
 
--- src/lib.rt:146:5
 loop-holds : tie.Need-loop-holds Inv-loop μ-loop
 loop-holds c =
-    let a = c .before .before .before .before .before .before .args in
-    (search needs, refl, refl, refl, refl, start (fieldAt (a .field)) (a .y .now) (a .x .now) (a .q .now) (tight-at (p-at (a .field)) (c .before .before .before .before .before .before .pre .0 .1)) (omega arith) (c .before .before .before .before .before .before .pre .1 .1 .0))
+    let start = c .before .before .before .before .before .before in
+    let a = start .args in
+    (search needs, refl, refl, refl, refl, begun-start (fieldAt (a .field)) (a .y .now) (a .x .now) (a .q .now) (tight-at (p-at (a .field)) (start .pre .0 .1)) (omega arith) (start .pre .1 .1 .0))
 
--- src/lib.rt:147:13
 smaller-requires : tie.Need-smaller-requires Inv-loop μ-loop
 smaller-requires c κs = search needs
 
--- src/lib.rt:148:9
 sub-k : tie.Need-sub-k Inv-loop μ-loop
 sub-k c = search needs
 
--- src/lib.rt:149:9
 reduce-at-requires : tie.Need-reduce-at-requires Inv-loop μ-loop
 reduce-at-requires c κs =
-    let a = c .before .before .before .before .before .before .before .before .before .before .before .before .before .args in
+    let start = c .before .before .before .before .before .before .before .before .before .before .before .before .before in
+    let a = start .args in
     let at = c .before .before .before .before .before .before .loop .inv in
     let least = c .before .before .before .before .smaller .ensures in
-    ((c .before .before .before .before .before .before .before .before .before .before .before .before .before .pre .0 .0, tight-at (sym (p-at (a .field))) (at .5 .tight-rest)), ((c .before .before .before .before .before .before .before .before .before .before .before .before .before .pre .1 .0 .0, c .before .before .before .before .before .before .before .before .before .before .before .before .before .pre .1 .0 .2, omega arith, omega arith), (omega arith, omega arith, omega arith, omega arith)))
+    ((start .pre .0 .0, tight-at (sym (p-at (a .field))) (at .5 .tight-rest)), ((start .pre .1 .0 .0, start .pre .1 .0 .2, omega arith, omega arith), (omega arith, omega arith, omega arith, omega arith)))
 
--- src/lib.rt:146:5
 loop-less : tie.Need-loop-less Inv-loop μ-loop
 loop-less c = search needs
 
--- src/lib.rt:146:5
 loop-again : tie.Need-loop-again Inv-loop μ-loop
 loop-again c =
     let a = c .before .before .before .before .before .before .before .before .before .before .before .before .before .before .before .before .before .before .before .before .before .before .args in
@@ -67,27 +59,22 @@ loop-again c =
       c .before .before .before .before .before .before .before .before .reduce-at .ensures (a .x .now) (subst (λ i. Begun (fieldAt (a .field)) (a .y .now) (a .x .now) i (c .before .before .before .before .before .before .before .before .before .before .before .before .before .before .before .loop .x) (c .before .before .before .before .before .before .before .before .before .before .before .before .before .before .before .loop .q)) (sym whole) (at .5)),
     )
 
--- src/lib.rt:131:1
 same-length : tie.Need-same-length Inv-loop μ-loop
 same-length c = search needs
 
--- src/lib.rt:131:1
 same-length-2 : tie.Need-same-length-2 Inv-loop μ-loop
 same-length-2 c = search needs
 
--- src/lib.rt:131:1
 same-length-3 : tie.Need-same-length-3 Inv-loop μ-loop
 same-length-3 c = search needs
 
--- src/lib.rt:131:1
 same-length-4 : tie.Need-same-length-4 Inv-loop μ-loop
 same-length-4 c = search needs
 
--- src/lib.rt:131:1
 returns : tie.Need-returns Inv-loop μ-loop
 returns c =
     let a = c .before .before .before .before .before .before .before .before .args in
-    end (fieldAt (a .field)) (a .y .now) (a .x .now) (c .before .loop .x) (c .before .loop .q) (c .before .loop .k) (omega arith) (c .before .loop .inv .5)
+    begun-end (fieldAt (a .field)) (a .y .now) (a .x .now) (c .before .loop .x) (c .before .loop .q) (c .before .loop .k) (omega arith) (c .before .loop .inv .5)
 
 pub reduce-blocks-spec : {M : Type 1} → statement M
 reduce-blocks-spec =

@@ -1,7 +1,7 @@
 -- `word_block_division::reduce_by` meets its contract: it only lends the arrays.
 -- Assumes nothing.
-use mathlib.Core.Path.{_≡_, refl, sym}
-use Prim.Native.Nat.{ℕ, _+_, _-_, _*_, _≤_}
+use mathlib.Core.Path.{refl, sym}
+use Prim.Native.Nat.{_-_, _*_}
 use native.Mathlib.Omega.{arith}
 use lib.ListN.{replicate}
 use Rattle.lists.proofs.Parts.{prefix-length}
@@ -9,55 +9,42 @@ use Rattle.lists.proofs.Words.{zero-part, zeros-are}
 use borrow.Author.Needs.{needs}
 use Rattle.word_block_division.proofs.reduce_by.Statement.{statement}
 use Rattle.word_block_division.proofs.reduce_by.Tie as tie
-use Rattle.word_block_division.proofs.reduce_by.Reads as reads
-use Rattle.word_block_division.proofs.reduce_by.Lts as lts
-use Rattle.word_block_division.proofs.reduce_in.Reads as reduce-in-reads
 
--- src/lib.rt:154:13
 mul-m : tie.Need-mul-m
 mul-m c = search needs
 
--- src/lib.rt:154:13
 sub-m : tie.Need-sub-m
 sub-m c = search needs
 
--- src/lib.rt:158:36
 array-borrow-prefix-s : tie.Need-array-borrow-prefix-s
 array-borrow-prefix-s c = omega arith
 
--- src/lib.rt:158:36
 slice-aggregate-reduce-in : tie.Need-slice-aggregate-reduce-in
 slice-aggregate-reduce-in c = sym (prefix-length _ 64 _ refl (omega arith))
 
--- src/lib.rt:158:49
 array-borrow-prefix-t : tie.Need-array-borrow-prefix-t
 array-borrow-prefix-t c = omega arith
 
--- src/lib.rt:158:49
 slice-aggregate-reduce-in-2 : tie.Need-slice-aggregate-reduce-in-2
 slice-aggregate-reduce-in-2 c = sym (prefix-length _ 127 _ refl (omega arith))
 
--- src/lib.rt:158:62
 slice-aggregate-reduce-in-3 : tie.Need-slice-aggregate-reduce-in-3
 slice-aggregate-reduce-in-3 c = search needs
 
--- src/lib.rt:158:5
 reduce-in-requires : tie.Need-reduce-in-requires
 reduce-in-requires c κs =
-    let a = c .before .before .before .before .before .before .before .before .args in
+    let start = c .before .before .before .before .before .before .before .before in
+    let a = start .args in
     let e = prefix-length (a .e) 64 (replicate 64 0) refl (omega arith) in
     let m = prefix-length (2 * a .e - 1) 127 (replicate 127 0) refl (omega arith) in
-    ((c .before .before .before .before .before .before .before .before .pre .0, omega (arith, e), omega (arith, e)), (omega (arith, e, m), omega (arith, e, c .before .before .before .before .before .before .before .before .pre .0 .short), zero-part (2 * a .e - 1) (zeros-are 127)))
+    ((start .pre .0, omega (arith, e), omega (arith, e)), (omega (arith, e, m), omega (arith, e, start .pre .0 .short), zero-part (2 * a .e - 1) (zeros-are 127)))
 
--- src/lib.rt:150:1
 same-length : tie.Need-same-length
 same-length c = search needs
 
--- src/lib.rt:150:1
 same-length-2 : tie.Need-same-length-2
 same-length-2 c = search needs
 
--- src/lib.rt:150:1
 returns : tie.Need-returns
 returns c = c .before .before .before .before .before .before .before .reduce-in .ensures
 

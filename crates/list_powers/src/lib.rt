@@ -20,7 +20,7 @@ pub fn powers_of_t(field: u8, whole: &[u16], part: &[u16], list: &[u16], out: &m
     ensures { λ _. ⌜ now (out .exit) ≡ powersInto (modulus field) (given whole) (given part) (given list) (given out) ⌝ }
 {
     word_scaling::weigh(field, list, whole, part, out);
-    word_expansion::expand(field, false, out);
+    word_expansion_halves::expand(field, whole, part, false, out);
 }
 
 // With the same tables: the list, of as many words as out, that means the polynomial with these coefficients, which become its scaled form.
@@ -28,7 +28,7 @@ pub fn list_of_powers(field: u8, whole: &[u16], part: &[u16], powers: &mut [u16]
     ensures form { λ _. ⌜ now (powers .exit) ≡ expandedInto (modulus field) true (given powers) ⌝ }
     ensures writes { λ _. ⌜ now (out .exit) ≡ weighedInto (modulus field) (expandedInto (modulus field) true (given powers)) (given part) (given whole) (given out) ⌝ }
 {
-    word_expansion::expand(field, true, powers);
+    word_expansion_halves::expand(field, whole, part, true, powers);
     word_scaling::weigh(field, powers, part, whole, out);
 }
 

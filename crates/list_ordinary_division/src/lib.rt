@@ -63,7 +63,8 @@ fn judge_ordinary(field: u8, g: &[u16], f: &[u16], q: &[u16], r: &[u16]) -> Outc
 
 // The powers of t of a list, at the front of a buffer.
 fn place(field: u8, whole: &[u16], part: &[u16], list: &[u16], x: &mut [u16])
-    requires { ⌜ length (now list) ≤ length (now x) ⌝ }
+    requires { ⌜ TablesFor field (now whole) (now part) ⌝ }
+    requires { ⌜ (length (now list) ≤ length (now x)) × (length (now list) ≤ length (now whole)) ⌝ }
     ensures { λ _. ⌜ now (x .exit) ≡ powersInto (modulus field) (given whole) (given part) (given list) (take (length (given list)) (given x)) ++ drop (length (given list)) (given x) ⌝ }
 {
     let n = list.len();
@@ -72,7 +73,8 @@ fn place(field: u8, whole: &[u16], part: &[u16], list: &[u16], x: &mut [u16])
 
 // The list of a polynomial whose powers of t are at the front of a buffer.
 fn write_back(field: u8, whole: &[u16], part: &[u16], x: &mut [u16], out: &mut [u16])
-    requires { ⌜ length (now out) ≤ length (now x) ⌝ }
+    requires { ⌜ TablesFor field (now whole) (now part) ⌝ }
+    requires { ⌜ (length (now out) ≤ length (now x)) × (length (now out) ≤ length (now whole)) ⌝ }
     ensures { λ _. ⌜ now (out .exit) ≡ weighedInto (modulus field) (expandedInto (modulus field) true (take (length (given out)) (given x))) (given part) (given whole) (given out) ⌝ }
 {
     let n = out.len();

@@ -84,18 +84,20 @@ module _ (F : PrimeField) where
         ∙ total-ext (scalars F) g _ _ (λ j l. ap (λ a. word F s (k + j) ⊗ a) (weight-is F e x y g h j l) ∙ sym (R.mul-assoc (scalars F) _ _ _))
 
     -- the sum over all groups is that over their words
-    pub ungrouped : (s : List ℕ) (n : ℕ) {xg yg sum power : ℕ} → xg ≡ powerOf F x g → yg ≡ powerOf F y g
-        → Terms F (groups F g s u) xg yg n sum power → Terms F (word F s) x y (g * n) sum power
+    pub ungrouped : (s : List ℕ) (c n : ℕ) {xg yg sum power : ℕ} → xg ≡ powerOf F x g → yg ≡ powerOf F y g
+        → Terms F (groups F g s u) xg yg c n sum power → Terms F (word F s) x y c (g * n) sum power
     unfolding groups
-    ungrouped s n {xg} {yg} qx qy t =
+    ungrouped s c n {xg} {yg} qx qy t =
         record {
           small = t .small;
           sums =
               t .sums
-              ∙ partial-ext (scalars F) n (λ i. group-is s (g * i)) (residue-power F x g qx) (residue-power F y g qy)
-              ∙ grouped (scalars F) (word F s) (residue F x) (residue F y) g n;
+              ∙ ap (λ a. residue F c ⊗ a)
+              (partial-ext (scalars F) n (λ i. group-is s (g * i)) (residue-power F x g qx) (residue-power F y g qy)
+              ∙ grouped (scalars F) (word F s) (residue F x) (residue F y) g n);
           powers =
               t .powers
-              ∙ ap (λ a. pow (scalars F) a n) (residue-power F x g qx)
-              ∙ pow-mul (scalars F) (residue F x) g n;
+              ∙ ap (λ a. residue F c ⊗ a)
+              (ap (λ a. pow (scalars F) a n) (residue-power F x g qx)
+              ∙ pow-mul (scalars F) (residue F x) g n);
         }

@@ -12,7 +12,7 @@ use Rattle.refusal.specs.declared.Refusal.the-variants.{Length, LooseWord}
 use Rattle.refusal.specs.declared.Outcome.the-variants.{Done, Refused}
 use Rattle.refusal.proofs.First.{refuse, or-else, first-is, or-else-done}
 use Rattle.field.specs.Field.{loose}
-use Rattle.lists.specs.Refused.{wrongLength, hasLoose, listRefusals}
+use Rattle.lists.specs.Refused.{wrongLength, hasLoose, listRefusals, IsList}
 use Rattle.lists.proofs.Judged.{judged, one-listed}
 use Rattle.list_value.specs.Calls.{evaluateRows}
 
@@ -41,6 +41,6 @@ module _ (p most : ℕ) (f : List ℕ) (x : ℕ) where
   pub evaluate-done : lowest (listRefusals p most (f ∷ [])) ≡ Done → x < p → Done ≡ lowest (evaluateRows p most f x)
   evaluate-done e l = sym (evaluate-judged ∙ simp (e, lt-leb p x l))
 
-  pub evaluate-short : 0 < p → Done ≡ lowest (evaluateRows p most f x) → length f ≤ most
-  evaluate-short big e =
-      one-listed p most big f (or-else-done (lowest (listRefusals p most (f ∷ []))) _ (sym evaluate-judged ∙ sym e) .0) .short
+  pub evaluate-listed : 0 < p → Done ≡ lowest (evaluateRows p most f x) → IsList p most f
+  evaluate-listed big e =
+      one-listed p most big f (or-else-done (lowest (listRefusals p most (f ∷ []))) _ (sym evaluate-judged ∙ sym e) .0)

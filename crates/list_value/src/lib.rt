@@ -8,6 +8,7 @@ ghost use Rattle.refusal.specs.Lowest.{lowest};
 ghost use Rattle.field.specs.Field.{wordReply};
 ghost use Rattle.lists.specs.Lists.{word};
 ghost use Rattle.lists.specs.Operations as of;
+ghost use Rattle.lists.specs.Refused.{IsList};
 ghost use Rattle.field_tables.specs.Factorials.{fewWords, TablesFor};
 ghost use Rattle.list_value.specs.Calls.{evaluateRows, evaluateAnswer};
 ghost use Rattle.list_value.specs.Internal.{homogeneousOf, powerOf, powersOf, weightsOf, mostOfProduct, mostOfGroup, productsOf, groups, Terms};
@@ -96,21 +97,21 @@ fn sum_products(s: &[u16], k: usize, u: &[u16]) -> u64
     sum
 }
 
-// The sum of the first terms, as if there were no more, and the next power of x.
+// The sum of the first terms, as if there were no more, and the next power of x, both times a factor c.
 struct Begun {
     sum: u16,
     power: u16,
 }
 
-// The sum of t_i x^i y^(n-1-i) over the n whole groups of eight words of s, t_i being the products of the words of group i with those of u,
+// The sum of c t_i x^i y^(n-1-i) over the n whole groups of eight words of s, t_i being the products of the words of group i with those of u,
 // added up. Each group is reduced once.
-fn sum_groups(field: u8, s: &[u16], u: &[u16], x: u16, y: u16) -> Begun
+fn sum_groups(field: u8, s: &[u16], u: &[u16], x: u16, y: u16, c: u16) -> Begun
     requires { ⌜ length (now u) ≡ 8 ⌝ }
-    ensures { λ r. ⌜ Terms (fieldAt field) (groups (fieldAt field) 8 (given s) (given u)) x y (length (given s) / 8) (r .sum) (r .power) ⌝ }
+    ensures { λ r. ⌜ Terms (fieldAt field) (groups (fieldAt field) 8 (given s) (given u)) x y c (length (given s) / 8) (r .sum) (r .power) ⌝ }
 {
     let n = s.len() / 8;
     let mut sum: u16 = 0;
-    let mut power: u16 = 1;
+    let mut power = c;
     let mut i = 0;
     while i < n {
         sum = two_products(field, sum, y, sum_products(s, 8 * i, u), power);
@@ -126,33 +127,35 @@ fn begin_in(
     s: &[u16],
     x: u16,
     y: u16,
+    c: u16,
     a: &mut [u16],
     b: &mut [u16],
     u: &mut [u16],
 ) -> Begun
     requires { ⌜ (length (now a) ≡ 8) × (length (now b) ≡ 8) × (length (now u) ≡ 8) ⌝ }
-    ensures { λ r. ⌜ Terms (fieldAt field) (word (fieldAt field) (given s)) x y (8 * (length (given s) / 8)) (r .sum) (r .power) ⌝ }
+    ensures { λ r. ⌜ Terms (fieldAt field) (word (fieldAt field) (given s)) x y c (8 * (length (given s) / 8)) (r .sum) (r .power) ⌝ }
 {
     let x8 = fill_powers(field, x, a);
     let y8 = fill_powers(field, y, b);
     fill_weights(field, a, b, u);
-    sum_groups(field, s, u, x8, y8)
+    sum_groups(field, s, u, x8, y8, c)
 }
 
-fn begin(field: u8, s: &[u16], x: u16, y: u16) -> Begun
-    ensures { λ r. ⌜ Terms (fieldAt field) (word (fieldAt field) (given s)) x y (8 * (length (given s) / 8)) (r .sum) (r .power) ⌝ }
+fn begin(field: u8, s: &[u16], x: u16, y: u16, c: u16) -> Begun
+    ensures { λ r. ⌜ Terms (fieldAt field) (word (fieldAt field) (given s)) x y c (8 * (length (given s) / 8)) (r .sum) (r .power) ⌝ }
 {
     let mut a = [0u16; 8];
     let mut b = [0u16; 8];
     let mut u = [0u16; 8];
-    begin_in(field, s, x, y, &mut a, &mut b, &mut u)
+    begin_in(field, s, x, y, c, &mut a, &mut b, &mut u)
 }
 
-// The sum of s_k x^k y^(n-k) for words s_0 to s_n: whole groups of eight, then the words after them.
-fn homogeneous(field: u8, s: &[u16], x: u16, y: u16) -> u16
-    ensures { λ r. ⌜ r ≡ homogeneousOf (fieldAt field) (given s) x y ⌝ }
+// The sum of c s_k x^k y^(n-k) for words s_0 to s_n: whole groups of eight, then the words after them. The first power is c times 1, so that
+// the factor costs nothing.
+fn homogeneous(field: u8, s: &[u16], x: u16, y: u16, c: u16) -> u16
+    ensures { λ r. ⌜ r ≡ homogeneousOf (fieldAt field) (given s) x y c ⌝ }
 {
-    let begun = begin(field, s, x, y);
+    let begun = begin(field, s, x, y, c);
     let mut sum = begun.sum;
     let mut power = begun.power;
     let mut k = 8 * (s.len() / 8);
@@ -164,21 +167,24 @@ fn homogeneous(field: u8, s: &[u16], x: u16, y: u16) -> u16
     sum
 }
 
-// The scaled form of f in s, and its value: t is x, and 1 - t is y.
+// The scaled form of f in s, but for the factor c, and its value: t is x, and 1 - t is y.
 fn value_in(field: u8, whole: &[u16], part: &[u16], f: &[u16], x: u16, s: &mut [u16]) -> u16
     requires { ⌜ TablesFor field (now whole) (now part) ⌝ }
-    requires { ⌜ (length (now s) ≡ length (now f)) × (length (now f) ≤ length (now whole)) ⌝ }
+    requires { ⌜ IsList (modulus field) (length (now whole)) (now f) ⌝ }
+    requires { ⌜ length (now s) ≡ length (now f) ⌝ }
     ensures { λ r. ⌜ r ≡ of.evaluate (fieldAt field) (given f) x ⌝ }
 {
-    word_scaling::weigh(field, f, whole, part, s);
+    let n = f.len();
+    word_scaling::weigh_partly(field, f, part, s);
+    let c = field::mul(field, whole[n - 1], field::square_of(field));
     let y = field::sub(field, 1, x);
-    homogeneous(field, s, x, y)
+    homogeneous(field, s, x, y, c)
 }
 
 // The value of a short list that is not refused, with small tables and a small array: tables are copied, and the array is filled with
 // zeros.
 fn value_few(field: u8, f: &[u16], x: u16) -> u16
-    requires { ⌜ length (now f) ≤ fewWords ⌝ }
+    requires { ⌜ IsList (modulus field) fewWords (now f) ⌝ }
     ensures { λ r. ⌜ r ≡ of.evaluate (fieldAt field) (given f) x ⌝ }
 {
     let whole = field_tables::few_factorials(field);
@@ -190,7 +196,7 @@ fn value_few(field: u8, f: &[u16], x: u16) -> u16
 
 // The value of any list that is not refused.
 fn value_many(field: u8, f: &[u16], x: u16) -> u16
-    requires { ⌜ length (now f) ≤ longest field ⌝ }
+    requires { ⌜ IsList (modulus field) (longest field) (now f) ⌝ }
     ensures { λ r. ⌜ r ≡ of.evaluate (fieldAt field) (given f) x ⌝ }
 {
     let whole = field_tables::factorials(field);
@@ -202,7 +208,7 @@ fn value_many(field: u8, f: &[u16], x: u16) -> u16
 
 // The same with tables and an array of the size that the list needs.
 fn value_at(field: u8, f: &[u16], x: u16) -> u16
-    requires { ⌜ length (now f) ≤ longest field ⌝ }
+    requires { ⌜ IsList (modulus field) (longest field) (now f) ⌝ }
     ensures { λ r. ⌜ r ≡ of.evaluate (fieldAt field) (given f) x ⌝ }
 {
     if f.len() <= field_tables::FEW_WORDS {

@@ -47,10 +47,10 @@ module _ (F : PrimeField) where
   infixl 70 _*ˢ_
   infix 80 -ˢ_
   -- the sign of t
-  abbrev sign : Bool → K
+  abbrev pub sign : Bool → K
   sign plus = cond plus 𝟙 (⊖ 𝟙)
 
-  residue-signed : (plus : Bool) (b : ℕ) → b < F .p → residue F (signed (F .p) plus b) ≡ sign plus ⊗ residue F b
+  pub residue-signed : (plus : Bool) (b : ℕ) → b < F .p → residue F (signed (F .p) plus b) ≡ sign plus ⊗ residue F b
   unfolding signed
   residue-signed true b l = sym (R.one-mul (scalars F) (residue F b))
   residue-signed false b l =
@@ -64,18 +64,18 @@ module _ (F : PrimeField) where
         +ˢ pow (F .series .ring) (t (F .series)) (suc k) *ˢ C (F .series) (F .series .coeff s (suc k))
     pub low : (k : ℕ) → Below (F .series) (suc k) (T k)
 
-  less-t : ⟨1-t⟩ (F .series) ≡ 1ˢ +ˢ C (F .series) (⊖ 𝟙) *ˢ t (F .series)
+  pub less-t : ⟨1-t⟩ (F .series) ≡ 1ˢ +ˢ C (F .series) (⊖ 𝟙) *ˢ t (F .series)
   unfolding ⟨1-t⟩
   less-t = sym (ap (λ c. 1ˢ +ˢ c *ˢ t (F .series)) (C-neg (F .series) 𝟙 ∙ ap (λ a. -ˢ a) (C-one (F .series))) ∙ simp RING)
 
-  plus-t : ⟨1+u⟩ (F .series) ≡ 1ˢ +ˢ C (F .series) 𝟙 *ˢ t (F .series)
+  pub plus-t : ⟨1+u⟩ (F .series) ≡ 1ˢ +ˢ C (F .series) 𝟙 *ˢ t (F .series)
   unfolding ⟨1+u⟩
   plus-t = sym (ap (λ c. 1ˢ +ˢ c *ˢ t (F .series)) (C-one (F .series)) ∙ simp RING)
 
   other-factor : {f g : S} → f ≡ g → (a b : S) → f *ˢ a +ˢ b ≡ g *ˢ a +ˢ b
   other-factor e a b = ap (λ f. f *ˢ a +ˢ b) e
 
-  horner-hom : (s : S) → Horner (⊖ 𝟙) s (λ k. hom (F .series) k s)
+  pub horner-hom : (s : S) → Horner (⊖ 𝟙) s (λ k. hom (F .series) k s)
   horner-hom s =
       record {
         start = hom-zero (F .series) s;
@@ -83,7 +83,7 @@ module _ (F : PrimeField) where
         low = λ k. below-hom (F .series) k s;
       }
 
-  horner-form : (s : S) → Horner 𝟙 s (λ k. form (F .series) k s)
+  pub horner-form : (s : S) → Horner 𝟙 s (λ k. form (F .series) k s)
   horner-form s =
       record {
         start = form-zero (F .series) s;
@@ -91,14 +91,14 @@ module _ (F : PrimeField) where
         low = λ k. below-form (F .series) k s;
       }
 
-  power-monomial : (c : K) (k : ℕ) → pow (F .series .ring) (t (F .series)) k *ˢ C (F .series) c ≡ monomial (F .series) c k
+  pub power-monomial : (c : K) (k : ℕ) → pow (F .series .ring) (t (F .series)) k *ˢ C (F .series) c ≡ monomial (F .series) c k
   unfolding monomial
   power-monomial c zero = rw (pow-zero (F .series .ring) (t (F .series))) (R.one-mul (F .series .ring) _)
   power-monomial c (suc k) =
       rw (pow-suc (F .series .ring) (t (F .series)) k) (R.mul-assoc (F .series .ring) _ _ _) ∙ ap (λ u. t (F .series) *ˢ u) (power-monomial c k)
 
   -- a factor 1 + m·t, by coefficients
-  coeff-factor : (m : K) (a : S) (i : ℕ)
+  pub coeff-factor : (m : K) (a : S) (i : ℕ)
       → F .series .coeff ((1ˢ +ˢ C (F .series) m *ˢ t (F .series)) *ˢ a) i ≡ F .series .coeff a i ⊕ m ⊗ F .series .coeff (t (F .series) *ˢ a) i
   coeff-factor m a i =
       ap (λ u. F .series .coeff u i) (spread (C (F .series) m) (t (F .series)) a) ∙ coeff-add (F .series) a _ i

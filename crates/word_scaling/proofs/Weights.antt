@@ -3,6 +3,7 @@
 --     inverse-quotient         its inverse
 --     unscaled-is              the words of a scaled form, weighed, are the list that has it
 --     scale-is, unscale-is     what is written where the lengths fit
+--     partly-scaled            what `weigh_partly` writes, times (n-1)! and 2^32: the scaled form of a list of n words
 -- Assumes nothing.
 use mathlib.Core.Path.{_≡_, refl, sym, ap, _∙_}
 use mathlib.Core.Bool.{true, cond}
@@ -27,7 +28,8 @@ use Rattle.lists.specs.Words.{seriesOf}
 use Rattle.lists.proofs.Words.{coeff-seriesOf, scaledWords, value-is}
 use Rattle.field_tables.specs.Factorials.{factorial, factorialIn, inverseFactorialIn, Tables}
 use Rattle.field_tables.proofs.FactorialLaws.{choose-factorials, factorial-nonzero}
-use Rattle.word_scaling.specs.Scaling.{weightedAt, weighted, weighFits}
+use Rattle.word_scaling.specs.Scaling.{weightedAt, weighted, weighFits, partly, partlyWeighted}
+use Rattle.word_scaling.proofs.Products.{Constants, product-of-three}
 
 module _ (F : PrimeField) where
   open CommRing (scalars F) using (Carrier as K, zero as 𝟘, one as 𝟙, mul as _⊗_)
@@ -79,6 +81,15 @@ pub getD-weighted : (p : ℕ) (whole part : List ℕ) (n : ℕ) (x : List ℕ) (
 unfolding weighted weightedAt
 getD-weighted p whole part n x k l = getD-tabulate n _ k l
 
+pub length-partly : (p e : ℕ) (part : List ℕ) (n : ℕ) (x : List ℕ) → length (partlyWeighted p e part n x) ≡ n
+unfolding partlyWeighted
+length-partly p e part n x = length-tabulate n _
+
+pub getD-partly : (p e : ℕ) (part : List ℕ) (n : ℕ) (x : List ℕ) (k : ℕ) → k < n
+    → getD (partlyWeighted p e part n x) k 0 ≡ partly p e (getD x k 0) (getD part k 0) (getD part (n - 1 - k) 0)
+unfolding partlyWeighted
+getD-partly p e part n x k l = getD-tabulate n _ k l
+
 -- with words reduced modulo m
 module _ (F : PrimeField) {m : ℕ} (e : F .p ≡ m) where
   open CommRing (scalars F) using (Carrier as K, mul as _⊗_)
@@ -123,3 +134,19 @@ module _ (F : PrimeField) {m : ℕ} (e : F .p ≡ m) where
         let hf = t .factorials .long in
         let hg = t .inverses .long in
         q ∙ rw (fitting s g f out h (omega arith) (omega arith)) (unscaled-is s (length out) l)
+
+    -- q is 2^32
+    pub partly-scaled : {i u w : ℕ} (q : ℕ) → Constants m i u w → (q * u * u) % m ≡ 1 % m → (c : List ℕ) (n : ℕ) → n ≡ length c → n ≤ size
+        → {d : ℕ} → d ≡ (getD f (n - 1) 0 * q) % m → (k : ℕ) → k < n
+        → residue F d ⊗ residue F (getD (partlyWeighted m i g n c) k 0) ≡ scaledCoefficient F c k
+    unfolding scaledCoefficient word naiveDegree
+    partly-scaled {i} q o h c n is l {d} r k s =
+        ap (λ y. residue F d ⊗ residue F y) (getD-partly m i g n c k s)
+        ∙ product-of-three F q e o h (getD c k 0) (getD f (n - 1) 0) (getD g k 0) (getD g (n - 1 - k) 0) r
+        ∙ ap (λ y. residue F (getD c k 0) ⊗ y) quotient
+      where
+        quotient : residue F (getD f (n - 1) 0) ⊗ residue F (getD g k 0) ⊗ residue F (getD g (n - 1 - k) 0) ≡ binomial F (length c - 1) k
+        quotient =
+            rw (t .factorials .at (n - 1) (omega arith), t .inverses .at k (omega arith), t .inverses .at (n - 1 - k) (omega arith))
+            (factorial-quotient F (n - 1) k (omega arith) (omega arith))
+            ∙ ap (λ j. binomial F (j - 1) k) is

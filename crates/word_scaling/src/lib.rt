@@ -4,9 +4,9 @@ ghost use mathlib.Core.Path.{_≡_};
 ghost use Prim.Native.Nat.{_*_, _%_, _<_, _≤_};
 ghost use lib.ListN.{length};
 ghost use Rattle.refusal.specs.Contract.{given};
-ghost use Rattle.field.specs.Fields.{modulus};
+ghost use Rattle.field.specs.Fields.{modulus, wordInverse};
 ghost use Rattle.word_montgomery.specs.Montgomery.{montgomery};
-ghost use Rattle.word_scaling.specs.Scaling.{weighedInto, weighted};
+ghost use Rattle.word_scaling.specs.Scaling.{weighedInto, weighted, partly, Tight, partlyWeighted};
 
 // x times y divided by 2^16 modulo p, where e is 1/p modulo 2^16: the multiple of p that has the low half of x times y is taken off. The
 // two high halves are compared by their differences from p: themselves LLVM would compare in 32 bits.
@@ -70,6 +70,31 @@ fn weigh_in(field: u8, words: &[u16], whole: &[u16], part: &[u16], out: &mut [u1
     let mut k = 0;
     while k < n {
         out[k] = product_of_four(field, words[k], d, part[k], part[n - 1 - k]);
+        k += 1;
+    }
+}
+
+// x times a times b divided by 2^32 modulo p, by two of Montgomery's products.
+fn product_of_three(field: u8, x: u16, a: u16, b: u16) -> u16
+    requires { ⌜ x < modulus field ⌝ }
+    ensures { λ r. ⌜ r ≡ partly (modulus field) (wordInverse field) x a b ⌝ }
+{
+    let p = field::modulus_of(field);
+    let e = field::word_inverse_of(field);
+    let xa = montgomery_product(a, x, p, e);
+    montgomery_product(b, xa, p, e)
+}
+
+// Word k times part[k] and part[n - 1 - k], divided by 2^32, n being the length of out. Times whole[n - 1] and 2^32 these are the words that
+// `weigh` writes: where these factors can be left to the end, a word takes two products and not three. No word is loose.
+pub fn weigh_partly(field: u8, words: &[u16], part: &[u16], out: &mut [u16])
+    requires { ⌜ (length (now out) ≤ length (now words)) × (length (now out) ≤ length (now part)) × Tight (modulus field) (now words) ⌝ }
+    ensures { λ _. ⌜ now (out .exit) ≡ partlyWeighted (modulus field) (wordInverse field) (given part) (length (given out)) (given words) ⌝ }
+{
+    let n = out.len();
+    let mut k = 0;
+    while k < n {
+        out[k] = product_of_three(field, words[k], part[k], part[n - 1 - k]);
         k += 1;
     }
 }

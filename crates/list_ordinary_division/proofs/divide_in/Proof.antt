@@ -10,10 +10,18 @@ use Rattle.list_ordinary_division.proofs.divide_in.Statement.{statement
 use Rattle.list_ordinary_division.proofs.divide_in.Tie as tie
 
 place-requires : tie.Need-place-requires
-place-requires c κs = search needs
+place-requires c κs =
+    let s = c .before .before .before .before .before .before .before .before .before .before .before in
+    let fits = s .pre .1 .0 in
+    let buffers = s .pre .1 .1 in
+    (s .pre .0, (omega (arith, buffers .long-dividend), omega (arith, fits .short-dividend)))
 
 place-requires-2 : tie.Need-place-requires-2
-place-requires-2 c κs = search needs
+place-requires-2 c κs =
+    let s = c .before .before .before .before .before .before .before .before .before .before .before .before .before .before .before in
+    let fits = s .pre .1 .0 in
+    let buffers = s .pre .1 .1 in
+    (s .pre .0, (omega (arith, buffers .long-divisor, buffers .equal-y), omega (arith, fits .short-divisor)))
 
 shorten-requires : tie.Need-shorten-requires
 shorten-requires c κs = search needs
@@ -23,14 +31,14 @@ write-back-requires c κs =
     let s = c .before .before .before .before .before .before .before .before .before .before .before .before .before .before .before .before .before .before .before .before .before .before .before .before .before .before .before .before in
     let fits = s .pre .1 .0 in
     let buffers = s .pre .1 .1 in
-    omega (arith, fits .quotient-words, buffers .long-dividend, buffers .equal-k, c .before .before .before .before .before .before .shorten .kept .1 .1 .1 .1 .1 .1 .0)
+    (s .pre .0, (omega (arith, fits .quotient-words, buffers .long-dividend, buffers .equal-k, c .before .before .before .before .before .before .shorten .kept .1 .1 .1 .1 .1 .1 .0), omega (arith, fits .quotient-words, fits .short-dividend)))
 
 write-back-requires-2 : tie.Need-write-back-requires-2
 write-back-requires-2 c κs =
     let s = c .before .before .before .before .before .before .before .before .before .before .before .before .before .before .before .before .before .before .before .before .before .before .before .before .before .before .before .before .before .before .before .before .before .before .before in
     let fits = s .pre .1 .0 in
     let buffers = s .pre .1 .1 in
-    omega (arith, fits .remainder-words, buffers .long-dividend, c .before .before .before .before .before .before .before .before .before .before .before .before .before .before .before .before .before .before .before .before .before .before .before .place .kept .1 .1 .1 .1 .0, c .before .before .before .before .before .before .before .before .before .before .before .before .before .shorten .kept .1 .1 .0)
+    (s .pre .0, (omega (arith, fits .remainder-words, buffers .long-dividend, c .before .before .before .before .before .before .before .before .before .before .before .before .before .before .before .before .before .before .before .before .before .before .before .place .kept .1 .1 .1 .1 .0, c .before .before .before .before .before .before .before .before .before .before .before .before .before .shorten .kept .1 .1 .0), omega (arith, fits .remainder-words, fits .short-dividend)))
 
 same-length : tie.Need-same-length
 same-length c = search needs

@@ -2,6 +2,7 @@
 -- Assumes nothing.
 use mathlib.Core.Path.{refl, sym, ap}
 use mathlib.Core.List.{_++_}
+use native.Mathlib.Omega.{arith}
 use lib.ListN.{length, drop}
 use Rattle.lists.proofs.Parts.{prefix-length}
 use borrow.Author.Needs.{needs}
@@ -12,10 +13,12 @@ slice-relend-prefix-powers-of-t : tie.Need-slice-relend-prefix-powers-of-t
 slice-relend-prefix-powers-of-t c = search needs
 
 slice-aggregate-powers-of-t : tie.Need-slice-aggregate-powers-of-t
-slice-aggregate-powers-of-t c = sym (prefix-length _ _ _ refl (c .before .before .before .before .before .pre))
+slice-aggregate-powers-of-t c = sym (prefix-length _ _ _ refl (c .before .before .before .before .before .pre .1 .0))
 
 powers-of-t-requires : tie.Need-powers-of-t-requires
-powers-of-t-requires c κs = search needs
+powers-of-t-requires c κs =
+    let pre = c .before .before .before .before .before .pre in
+    (pre .0, omega (arith, prefix-length _ _ (c .before .before .before .before .before .args .x .now) refl (pre .1 .0), pre .1 .1))
 
 same-length : tie.Need-same-length
 same-length c = search needs

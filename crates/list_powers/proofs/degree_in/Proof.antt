@@ -1,6 +1,7 @@
 -- `list_powers::degree_in` meets its contract: the extent of the coefficients of 1, t, t², ….
 -- Assumes nothing.
 use mathlib.Core.Path.{_∙_, ap}
+use native.Mathlib.Omega.{arith}
 use Rattle.field.specs.Fields.{fieldAt}
 use Rattle.field.proofs.Fields.{p-at, longest-in}
 use Rattle.lists.specs.Degrees.{extent}
@@ -22,7 +23,7 @@ returns : tie.Need-returns
 returns c =
     let s = c .before .before .before .before .before .before .before .before .before .before in
     c .extent-of .ensures
-    ∙ ap extent (powers-are (fieldAt _) (p-at _) _ (longest-in _) _ _ (s .pre .0) _ _ (s .pre .1 .1) (s .pre .1 .0) (c .before .before .before .before .powers-of-t .ensures))
+    ∙ ap extent (powers-are (fieldAt _) (p-at _) _ (omega (arith, s .pre .0 .few, longest-in (s .args .field))) _ _ (s .pre .0 .tables) _ _ (s .pre .1 .1) (s .pre .1 .0) (c .before .before .before .before .powers-of-t .ensures))
     ∙ degree-found (fieldAt _) _
 
 pub degree-in-spec : {M : Type 1} → statement M

@@ -1,11 +1,12 @@
 -- `list_powers::degree_in_t` meets its contract: it lends the tables and a buffer as long as the list.
 -- Assumes nothing.
-use mathlib.Core.Path.{refl, sym}
+use mathlib.Core.Path.{_≡_, refl, sym}
 use native.Mathlib.Omega.{arith}
 use lib.ListN.{length}
 use Rattle.refusal.specs.Limits.{maxWords}
 use Rattle.field.specs.Fields.{longest}
-use Rattle.field.proofs.Fields.{longest-room}
+use Rattle.field.proofs.Fields.{longest-room, longest-full}
+use Rattle.field_tables.proofs.Entries.{tables-for}
 use Rattle.lists.proofs.Parts.{prefix-length}
 use Rattle.list_powers.proofs.Powers.{too-long, not-long}
 use borrow.Author.Needs.{needs}
@@ -40,8 +41,13 @@ slice-aggregate-degree-in-3 c = sym (prefix-length _ maxWords _ refl (omega (ari
 
 degree-in-requires : tie.Need-degree-in-requires
 degree-in-requires c κs =
-    let room = longest-room (c .before .before .before .before .before .before .before .before .args .field) in (
-      record { factorials = c .before .before .before .before .factorials .ensures; inverses = c .before .before .before .inverse-factorials .ensures },
+    let k = c .before .before .before .before .before .before .before .before .args .field in
+    let room = longest-room k in
+    let full = longest-full k in
+    let whole = c .before .before .before .before .factorials in
+    let part = c .before .before .before .inverse-factorials in
+    let size : length (whole .result) ≡ longest k = omega arith in (
+      tables-for k (longest k) size (omega arith) (whole .ensures) (part .ensures),
       (omega arith, prefix-length _ maxWords _ refl (omega arith)),
     )
 

@@ -39,7 +39,7 @@ returns c =
     let by-y = c .before .before .before .before .before .before .before .before .before .before .fill-powers2 .ensures in
     let weights =
     weights-are (fieldAt _) (p-at _) (args .x) (args .y) 8 (start .pre .0) (start .pre .1) (start .pre .2) (by-x .0) (by-y .0) (c .before .before .before .before .fill-weights .ensures) in
-    ungrouped (fieldAt _) (p-at _) (args .x) (args .y) 8 weights (args .s .now) _ (by-x .1 ∙ ap (powerOf (fieldAt _) (args .x)) (start .pre .0)) (by-y .1 ∙ ap (powerOf (fieldAt _) (args .y)) (start .pre .1)) (c .sum-groups .ensures)
+    ungrouped (fieldAt _) (p-at _) (args .x) (args .y) 8 weights (args .s .now) (args .c) _ (by-x .1 ∙ ap (powerOf (fieldAt _) (args .x)) (start .pre .0)) (by-y .1 ∙ ap (powerOf (fieldAt _) (args .y)) (start .pre .1)) (c .sum-groups .ensures)
 
 pub begin-in-spec : {M : Type 1} → statement M
 begin-in-spec =

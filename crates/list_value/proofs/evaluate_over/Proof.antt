@@ -7,7 +7,7 @@ use borrow.Author.Needs.{needs}
 use Rattle.field.proofs.Fields.{modulus-some}
 use Rattle.refusal.specs.Refusal.{reply}
 use Rattle.refusal.specs.declared.Outcome.the-variants.{Done}
-use Rattle.list_value.proofs.Judged.{evaluate-short}
+use Rattle.list_value.proofs.Judged.{evaluate-listed}
 use Rattle.list_value.proofs.evaluate_over.Statement.{statement}
 use Rattle.list_value.proofs.evaluate_over.Tie as tie
 
@@ -24,7 +24,7 @@ enum-told : tie.Need-enum-told
 enum-told c = search needs
 
 value-at-requires : tie.Need-value-at-requires
-value-at-requires c κs = evaluate-short _ _ _ _ (modulus-some _) (sym (c .enum-told .given .1) ∙ c .before .before .judge-evaluate .ensures)
+value-at-requires c κs = evaluate-listed _ _ _ _ (modulus-some _) (sym (c .enum-told .given .1) ∙ c .before .before .judge-evaluate .ensures)
 
 returns-2 : tie.Need-returns-2
 returns-2 c = simp (sym (c .before .before .before .judge-evaluate .ensures) ∙ c .before .enum-told .given .1) (ap (λ (w : ℕ). reply Done (w ∷ [])) (c .value-at .ensures))

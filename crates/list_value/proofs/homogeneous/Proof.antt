@@ -1,5 +1,5 @@
 -- `list_value::homogeneous` meets its contract. The loop's invariant: `sum` stands for the sum of the first k terms, as if the list had k
--- words, and `power` for x^k. The measure is how many words are left.
+-- words, and `power` for x^k, both times c. The measure is how many words are left.
 -- Assumes nothing.
 use Prim.Native.Nat.{_≤_, _-_}
 use native.Mathlib.Omega.{arith}
@@ -14,10 +14,10 @@ use Rattle.list_value.proofs.homogeneous.Statement.{statement}
 use Rattle.list_value.proofs.homogeneous.Tie as tie
 
 abbrev Inv-loop : tie.InvT-loop
-Inv-loop field s x y sum₀ power₀ k₀ sum power k = (k ≤ length s) × Terms (fieldAt field) (word (fieldAt field) s) x y k sum power
+Inv-loop field s x y c sum₀ power₀ k₀ sum power k = (k ≤ length s) × Terms (fieldAt field) (word (fieldAt field) s) x y c k sum power
 
 abbrev μ-loop : tie.MeasureT-loop
-μ-loop field s x y sum₀ power₀ k₀ sum power k = length s - k
+μ-loop field s x y c sum₀ power₀ k₀ sum power k = length s - k
 
 begin-requires : tie.Need-begin-requires Inv-loop μ-loop
 begin-requires c κs = search needs
@@ -54,14 +54,14 @@ loop-again c =
     let at-loop = c .before .before .before .before in
     let args = at-loop .before .before .before .args in
     let terms =
-    word-next (fieldAt _) (p-at _) (args .s .now) (args .x) (args .y) (at-loop .loop .k) (at-loop .loop .inv .1) (c .before .two-products .ensures) (c .mul .ensures) in
+    word-next (fieldAt _) (p-at _) (args .s .now) (args .x) (args .y) (args .c) (at-loop .loop .k) (at-loop .loop .inv .1) (c .before .two-products .ensures) (c .mul .ensures) in
     (search needs, terms)
 
 returns : tie.Need-returns Inv-loop μ-loop
 returns c =
     let args = c .before .before .before .before .args in
     let loop = c .before .loop in
-    terms-end (fieldAt _) (args .s .now) (args .x) (args .y) (omega arith) (loop .inv .1)
+    terms-end (fieldAt _) (args .s .now) (args .x) (args .y) (args .c) (omega arith) (loop .inv .1)
 
 pub homogeneous-spec : {M : Type 1} → statement M
 homogeneous-spec =

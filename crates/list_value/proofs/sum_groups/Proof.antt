@@ -1,5 +1,5 @@
 -- `list_value::sum_groups` meets its contract. The loop's invariant: `sum` stands for the sum over the first i groups, as if there were i,
--- and `power` for x^i. The measure is n - i.
+-- and `power` for x^i, both times c. The measure is n - i.
 -- Assumes nothing.
 use mathlib.Core.Path.{_≡_, subst}
 use Prim.Native.Nat.{_≤_, _-_, _/_}
@@ -15,13 +15,13 @@ use Rattle.list_value.proofs.sum_groups.Statement.{statement}
 use Rattle.list_value.proofs.sum_groups.Tie as tie
 
 abbrev Inv-loop : tie.InvT-loop
-Inv-loop field s u x y n sum₀ power₀ i₀ sum power i = (n ≡ length s / 8) × (i ≤ n) × Terms (fieldAt field) (groups (fieldAt field) 8 s u) x y i sum power
+Inv-loop field s u x y c n sum₀ power₀ i₀ sum power i = (n ≡ length s / 8) × (i ≤ n) × Terms (fieldAt field) (groups (fieldAt field) 8 s u) x y c i sum power
 
 abbrev μ-loop : tie.MeasureT-loop
-μ-loop field s u x y n sum₀ power₀ i₀ sum power i = n - i
+μ-loop field s u x y c n sum₀ power₀ i₀ sum power i = n - i
 
 loop-holds : tie.Need-loop-holds Inv-loop μ-loop
-loop-holds c = (search needs, search needs, terms-start (fieldAt _) _ _ _)
+loop-holds c = (search needs, search needs, terms-start (fieldAt _) _ _ _ _)
 
 mul-sum-products : tie.Need-mul-sum-products Inv-loop μ-loop
 mul-sum-products c = search needs
@@ -49,14 +49,14 @@ loop-again c =
     let loop = c .before .before .before .before .loop in
     let group = group-sum (fieldAt _) 8 s u (loop .i) (start .pre) (c .before .before .sum-products .ensures .0) in
     let terms =
-    terms-next (fieldAt _) (p-at _) (groups (fieldAt _) 8 s u) (start .args .x) (start .args .y) (loop .i) _ (loop .inv .2) group (c .before .two-products .ensures) (c .mul .ensures) in
+    terms-next (fieldAt _) (p-at _) (groups (fieldAt _) 8 s u) (start .args .x) (start .args .y) (start .args .c) (loop .i) _ (loop .inv .2) group (c .before .two-products .ensures) (c .mul .ensures) in
     (search needs, search needs, terms)
 
 returns : tie.Need-returns Inv-loop μ-loop
 returns c =
     let args = c .before .before .before .before .args in
     let loop = c .before .loop in
-    subst (λ i. Terms (fieldAt (args .field)) (groups (fieldAt (args .field)) 8 (args .s .now) (args .u .now)) (args .x) (args .y) i (loop .sum) (loop .power)) (omega arith) (loop .inv .2)
+    subst (λ i. Terms (fieldAt (args .field)) (groups (fieldAt (args .field)) 8 (args .s .now) (args .u .now)) (args .x) (args .y) (args .c) i (loop .sum) (loop .power)) (omega arith) (loop .inv .2)
 
 pub sum-groups-spec : {M : Type 1} → statement M
 sum-groups-spec =

@@ -1,10 +1,11 @@
 -- `list_value::value_many` meets its contract: it lends tables and an array for any list.
 -- Assumes nothing.
-use mathlib.Core.Path.{_≡_}
+use mathlib.Core.Path.{_≡_, sym, subst}
 use native.Mathlib.Omega.{arith}
 use lib.ListN.{length, length-take}
 use Rattle.refusal.specs.Limits.{maxWords}
-use Rattle.field.specs.Fields.{longest}
+use Rattle.field.specs.Fields.{modulus, longest}
+use Rattle.lists.specs.Refused.{IsList}
 use Rattle.field_tables.proofs.Entries.{tables-for}
 use borrow.Author.Needs.{needs}
 use Rattle.list_value.proofs.value_many.Statement.{statement}
@@ -33,9 +34,10 @@ slice-aggregate-value-in-3 c = simp length-take (omega arith)
 value-in-requires : tie.Need-value-in-requires
 unfolding longest
 value-in-requires c κs =
+    let start = c .before .before .before .before .before .before in
     let size : length (c .before .before .before .before .factorials .result) ≡ maxWords = omega arith in (
-      tables-for (c .before .before .before .before .before .before .args .field) maxWords size (omega arith) (c .before .before .before .before .factorials .ensures) (c .before .before .before .inverse-factorials .ensures),
-      (simp length-take (omega arith), omega arith),
+      tables-for (start .args .field) maxWords size (omega arith) (c .before .before .before .before .factorials .ensures) (c .before .before .before .inverse-factorials .ensures),
+      (subst (λ n. IsList (modulus (start .args .field)) n (start .args .f .now)) (sym size) (start .pre), simp length-take (omega arith)),
     )
 
 returns : tie.Need-returns

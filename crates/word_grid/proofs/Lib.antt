@@ -1,0 +1,3 @@
+pub mod Near
+pub mod Remainders
+pub mod Rows

@@ -1,71 +1,26 @@
--- Sixteen rows modulo p, and all groups of rows.
+-- Sixteen rows modulo p.
+--     near-add                      sums of numbers that are the same modulo p
+--     pair-near, pair-term          a pair is the sum of two products modulo p, those of its rows
+--     strip-near                    sixteen rows at an output
+--     whole-halves, high-below      what the halves of sixteen rows come to
 -- Assumes nothing.
-use mathlib.Core.Path.{_≡_, refl, sym, ap, _∙_, subst}
+use mathlib.Core.Path.{_≡_, refl, sym, ap}
 use mathlib.Core.List.{List}
 use Prim.Native.Nat.{ℕ, zero, suc, _+_, _-_, _*_, _/_, _%_, _≤_, _<_}
-use native.Mathlib.Nat.{add-zero, add-suc, mul-zero, le-refl}
-use native.Mathlib.Decide.{decLt}
 use native.Mathlib.Omega.{arith}
-use lib.Dec.{lit<}
-use lib.ListN.{length, getD}
+use lib.ListN.{getD}
 use Rattle.word_pairs.specs.Pairs.{up, pairOf}
-use Rattle.word_pairs.proofs.Integers.{least, up-less}
-use Rattle.word_strips.specs.Strips.{pairAt, stripAt, Gain, Span, Room, Spread}
-use Rattle.word_strips.proofs.Turns.{room-after, more-room}
-use Rattle.word_grid.specs.Grid.{Steps, Grid, Stand, Near, sumTo, termAt, rowsAt, Laid, Spreads}
+use Rattle.word_pairs.proofs.Integers.{least, most, up-less}
+use Rattle.word_strips.specs.Strips.{pairAt, wholeAt, highAt}
+use Rattle.word_layout.specs.Layout.{Stand}
+use Rattle.word_grid.specs.Grid.{Near, sumTo, termAt, Laid}
 
--- What the loop over the groups needs.
-module _ (p : ℕ) (w v : List ℕ) (n : ℕ) (lo₀ hi₀ : List ℕ) where
-  steps-lo : (g : ℕ) (lo hi : List ℕ) → Steps p w v n lo₀ hi₀ g lo hi → length lo ≡ length lo₀
-  steps-lo zero lo hi t = ap length (t .0)
-  steps-lo (suc g) lo hi t = t .3 .size-lo ∙ steps-lo g (t .0) (t .1) (t .2)
-
-  steps-hi : (g : ℕ) (lo hi : List ℕ) → Steps p w v n lo₀ hi₀ g lo hi → length hi ≡ length hi₀
-  steps-hi zero lo hi t = ap length (t .1)
-  steps-hi (suc g) lo hi t = t .3 .size-hi ∙ steps-hi g (t .0) (t .1) (t .2)
-
-  steps-room : (g : ℕ) (lo hi : List ℕ) → p < 65536 → Room 0 lo₀ → Room 0 hi₀ → Steps p w v n lo₀ hi₀ g lo hi → Room (g * 786424) lo × Room (g * 786424) hi
-  steps-room zero lo hi hp x y t = (subst (λ (l : List ℕ). Room (0 * 786424) l) (sym (t .0)) (more-room (0 * 786424) (omega arith) x), subst (λ (l : List ℕ). Room (0 * 786424) l) (sym (t .1)) (more-room (0 * 786424) (omega arith) y))
-  steps-room (suc g) lo hi hp x y t =
-      let r = steps-room g (t .0) (t .1) hp x y (t .2) in
-      let s = room-after (g * 786424) hp (t .3) (r .0) (r .1) in
-      (more-room (suc g * 786424) (omega arith) (s .0), more-room (suc g * 786424) (omega arith) (s .1))
-
-module _ {p : ℕ} {w v : List ℕ} {n : ℕ} {lo₀ hi₀ : List ℕ} {g : ℕ} {lo hi : List ℕ} (t : Grid p w v n lo₀ hi₀ g lo hi) where
-  pub size-lo : length lo ≡ length lo₀
-  size-lo = steps-lo p w v n lo₀ hi₀ g lo hi (t .steps)
-
-  pub size-hi : length hi ≡ length hi₀
-  size-hi = steps-hi p w v n lo₀ hi₀ g lo hi (t .steps)
-
-  pub rooms : p < 65536 → Room 0 lo₀ → Room 0 hi₀ → Room (g * 786424) lo × Room (g * 786424) hi
-  rooms hp x y = steps-room p w v n lo₀ hi₀ g lo hi hp x y (t .steps)
-
-  pub grid-next : {lo′ hi′ : List ℕ} → Span p w v (16 * g) 0 (16 * n) lo hi lo′ hi′ → Grid p w v n lo₀ hi₀ (suc g) lo′ hi′
-  grid-next s = record { steps = (lo, hi, t .steps, s) }
-
-pub grid-start : (p : ℕ) (w v : List ℕ) (n : ℕ) (lo hi : List ℕ) → Grid p w v n lo hi 0 lo hi
-grid-start p w v n lo hi = record { steps = (refl, refl) }
-
-pub spread-at : (v : List ℕ) (g : ℕ) → Spreads v → Spread v (16 * (16 * g))
-spread-at v g s = record {
-  first = λ l e hl he. ap (λ (i : ℕ). getD v i 0) (to l e) ∙ s .first (8 * g + e) l hl ∙ ap (λ (i : ℕ). getD v i 0) (from e);
-  second = λ l e hl he. ap (λ (i : ℕ). getD v (i + 1) 0) (to l e) ∙ s .second (8 * g + e) l hl ∙ ap (λ (i : ℕ). getD v (i + 1) 0) (from e);
-}
-  where
-    to : (l e : ℕ) → 16 * (16 * g) + 2 * l + 32 * e ≡ 32 * (8 * g + e) + 2 * l
-    to l e = omega arith
-
-    from : (e : ℕ) → 32 * (8 * g + e) ≡ 16 * (16 * g) + 32 * e
-    from e = omega arith
-
--- Congruences.
 pub near-add : {p x y x′ y′ : ℕ} → Near p x y → Near p x′ y′ → Near p (x + x′) (y + y′)
 near-add a b = record { left = a .left + b .left; right = a .right + b .right; at = omega (arith, a .at, b .at) }
 
-single : (p X Z a d b c : ℕ) → X + p * b ≡ a + 32768 → Z + p * c ≡ d + 32768
-    → X * Z + 1073741824 + p * (b * d + c * a) ≡ 32768 * X + 32768 * Z + a * d + p * (p * b * c)
-single p X Z a d b c e f = omega (arith, ap (λ (i : ℕ). i * Z) e, ap (λ (i : ℕ). a * i) f, ap (λ (i : ℕ). p * b * i) f, e)
+single : (p x z a d b c : ℕ) → x + p * b ≡ a + 32768 → z + p * c ≡ d + 32768
+    → x * z + 1073741824 + p * (b * d + c * a) ≡ 32768 * x + 32768 * z + a * d + p * (p * b * c)
+single p x z a d b c e f = omega (arith, ap (λ i. i * z) e, ap (λ i. a * i) f, ap (λ i. p * b * i) f, e)
 
 pub pair-near : {p y0 x0 y1 x1 w0 v0 w1 v1 : ℕ} → Stand p y0 w0 → Stand p x0 v0 → Stand p y1 w1 → Stand p x1 v1
     → Near p (pairOf w0 v0 w1 v1) (2147483648 + (x0 * y0 + x1 * y1))
@@ -79,24 +34,70 @@ pair-near {p} {y0} {x0} {y1} {x1} {w0} {v0} {w1} {v1} a b c d =
       at = omega (arith, s, t, least (up w0) (up v0) (up-less w0) (up-less v0), least (up w1) (up v1) (up-less w1) (up-less v1));
     }
 
--- the pair e of the group from row b = 16 g on
-pub pair-term :
-    {p : ℕ} {a y w v : List ℕ} (g k d e : ℕ) → d + 4 * e ≡ 28 → Laid p a y w v
-    → Near p (pairAt w v (2 * k) d (16 * (16 * g)) (32 * e)) (2147483648 + (termAt a y (16 * g) k (2 * e) + termAt a y (16 * g) k (2 * e + 1)))
+-- pair e of the group from row b on
+pub pair-term : {p : ℕ} {a y w x : List ℕ} (b k d e : ℕ) → d + 4 * e ≡ 28 → Laid p a y w x
+    → Near p (pairAt w x b k d e) (2147483648 + (termAt a y b k (2 * e) + termAt a y b k (2 * e + 1)))
 unfolding pairAt termAt
-pair-term {p} {a} {y} {w} {v} g k d e q l =
+pair-term {p} {a} {y} {w} {x} b k d e q l =
     pair-near
     (move y w (k + 14 - 2 * e + 1) (k + 15 - 2 * e) (2 * (k + 14 - 2 * e)) (2 * k + d) (omega (arith, q)) (omega (arith, q)) (l .upper (k + 14 - 2 * e)))
-    (move a v (2 * (8 * g + e)) (16 * g + 2 * e) (32 * (8 * g + e)) (16 * (16 * g) + 32 * e) (omega arith) (omega arith) (l .first (8 * g + e)))
+    (l .first (b + 2 * e))
     (move y w (k + 14 - 2 * e) (k + 15 - (2 * e + 1)) (2 * (k + 14 - 2 * e) + 1) (2 * k + d + 1) (omega (arith, q)) (omega (arith, q)) (l .lower (k + 14 - 2 * e)))
-    (move a v (2 * (8 * g + e) + 1) (16 * g + (2 * e + 1)) (32 * (8 * g + e) + 1) (16 * (16 * g) + 32 * e + 1) (omega arith) (omega arith) (l .second (8 * g + e)))
+    (move a x (b + 2 * e + 1) (b + (2 * e + 1)) (b + 2 * e + 1) (b + 2 * e + 1) (omega arith) refl (l .first (b + 2 * e + 1)))
   where
     move : (s t : List ℕ) (i i′ j j′ : ℕ) → i ≡ i′ → j ≡ j′ → Stand p (getD s i 0) (getD t j 0) → Stand p (getD s i′ 0) (getD t j′ 0)
     move s t i i′ j j′ e f x = rw (sym e, sym f) x
 
-pub strip-near : {p : ℕ} {a y w v : List ℕ} (g k : ℕ) → Laid p a y w v
-    → Near p (stripAt w v (16 * (16 * g)) k) (17179869184 + sumTo 16 (termAt a y (16 * g) k))
-unfolding stripAt sumTo
-strip-near {p} {a} {y} {w} {v} g k l =
-    let s = near-add (near-add (near-add (near-add (near-add (near-add (near-add (pair-term g k 28 0 refl l) (pair-term g k 24 1 refl l)) (pair-term g k 20 2 refl l)) (pair-term g k 16 3 refl l)) (pair-term g k 12 4 refl l)) (pair-term g k 8 5 refl l)) (pair-term g k 4 6 refl l)) (pair-term g k 0 7 refl l) in
+pub strip-near : {p : ℕ} {a y w x : List ℕ} (b k : ℕ) → Laid p a y w x
+    → Near p (wholeAt w x b k) (17179869184 + sumTo 16 (termAt a y b k))
+unfolding wholeAt sumTo
+strip-near {p} {a} {y} {w} {x} b k l =
+    let s =
+        near-add (near-add (near-add (near-add (near-add (near-add (near-add (pair-term b k 28 0 refl l) (pair-term b k 24 1 refl l))
+        (pair-term b k 20 2 refl l)) (pair-term b k 16 3 refl l)) (pair-term b k 12 4 refl l)) (pair-term b k 8 5 refl l)) (pair-term b k 4 6 refl l))
+        (pair-term b k 0 7 refl l) in
     record { left = s .left; right = s .right; at = omega (arith, s .at) }
+
+-- a product of two words read as signed is at most 2^30
+product-le : (x y : ℕ) → x < 65536 → y < 65536 → x * y ≤ x * 32768 + 32768 * y
+product-le zero y h g = omega arith
+product-le (suc x) y h g = omega (arith, most (suc x) y (omega arith) h g)
+
+pair-le : (w0 v0 w1 v1 : ℕ) → pairOf w0 v0 w1 v1 ≤ 4294967296
+unfolding pairOf
+pair-le w0 v0 w1 v1 = omega (arith, product-le (up w0) (up v0) (up-less w0) (up-less v0), product-le (up w1) (up v1) (up-less w1) (up-less v1))
+
+half-le : (w x : List ℕ) (j k d e : ℕ) → pairAt w x j k d e / 65536 ≤ 65536
+unfolding pairAt
+half-le w x j k d e =
+    omega (arith, pair-le (getD w (2 * k + d) 0) (getD x (j + 2 * e) 0) (getD w (2 * k + d + 1) 0) (getD x (j + 2 * e + 1) 0))
+
+pub high-below : (w x : List ℕ) (j k : ℕ) → highAt w x j k ≤ 524288
+unfolding highAt
+high-below w x j k =
+    let h = half-le w x j k in
+    omega (arith, h 28 0, h 24 1, h 20 2, h 16 3, h 12 4, h 8 5, h 4 6, h 0 7)
+
+-- eight numbers by halves
+pub record Halves (s h : ℕ) : Type 0 where
+  pub low : ℕ
+  pub low-le : low ≤ 524280
+  pub sum : s ≡ low + 65536 * h
+
+record Some (m s h : ℕ) : Type 0 where
+  low : ℕ
+  low-le : low ≤ m * 65535
+  sum : s ≡ low + 65536 * h
+
+one : (n : ℕ) → Some 1 n (n / 65536)
+one n = record { low = n % 65536; low-le = omega arith; sum = omega arith }
+
+more : {m s h : ℕ} → Some m s h → (n : ℕ) → Some (m + 1) (s + n) (h + n / 65536)
+more r n = record { low = r .low + n % 65536; low-le = omega (arith, r .low-le); sum = omega (arith, r .sum) }
+
+pub whole-halves : (w x : List ℕ) (j k : ℕ) → Halves (wholeAt w x j k) (highAt w x j k)
+unfolding wholeAt highAt
+whole-halves w x j k =
+    let f = pairAt w x j k in
+    let r = more (more (more (more (more (more (more (one (f 28 0)) (f 24 1)) (f 20 2)) (f 16 3)) (f 12 4)) (f 8 5)) (f 4 6)) (f 0 7) in
+    record { low = r .low; low-le = omega (arith, r .low-le); sum = r .sum }

@@ -1,9 +1,12 @@
-use mathlib.Core.Path.{_≡_, refl, sym, ap, _∙_}
-use Prim.Native.Nat.{ℕ, _+_, _-_, _*_, _/_, _%_, _≤_, _<_}
+-- `word_grid::reduce_words` meets its contract: each turn is one word more.
+-- Assumes nothing.
+use mathlib.Core.Path.{_≡_, refl, sym, _∙_}
+use Prim.Native.Nat.{_+_, _-_, _*_, _/_, _%_, _≤_, _<_}
 use native.Mathlib.Omega.{arith}
-use lib.ListN.{length, getD, length-set}
+use lib.ListN.{length, length-set}
 use Rattle.word_grid.specs.Grid.{Reduced}
-use Rattle.word_grid.proofs.Remainders.{reduced-start, reduced-next, at-end}
+use Rattle.word_layout.proofs.Loops.{at-end}
+use Rattle.word_grid.proofs.Remainders.{reduced-start, reduced-next}
 use borrow.Author.Needs.{needs}
 use Rattle.word_grid.proofs.reduce_words.Statement.{statement}
 use Rattle.word_grid.proofs.reduce_words.Tie as tie
@@ -17,55 +20,42 @@ Inv-loop lo hi out₀ p k₀ out k = (k ≤ length out₀) × (length out ≡ le
 abbrev μ-loop : tie.MeasureT-loop
 μ-loop lo hi out₀ p k₀ out k = length out₀ - k
 
--- src/lib.rt:55:5
 loop-holds : tie.Need-loop-holds Inv-loop μ-loop
 loop-holds c = (search needs, refl, reduced-start _ _ _ _)
 
--- src/lib.rt:56:25
 mul-reduce : tie.Need-mul-reduce Inv-loop μ-loop
 mul-reduce c = search needs
 
--- src/lib.rt:56:25
 shared-slice-read-reduce : tie.Need-shared-slice-read-reduce Inv-loop μ-loop
 shared-slice-read-reduce c = search needs
 
--- src/lib.rt:56:32
 mul-reduce-2 : tie.Need-mul-reduce-2 Inv-loop μ-loop
 mul-reduce-2 c = search needs
 
--- src/lib.rt:56:32
 shared-slice-read-reduce-2 : tie.Need-shared-slice-read-reduce-2 Inv-loop μ-loop
 shared-slice-read-reduce-2 c = search needs
 
--- src/lib.rt:56:18
 reduce-requires : tie.Need-reduce-requires Inv-loop μ-loop
-reduce-requires c κs = (c .before .before .before .before .before .before .before .pre .0, c .before .before .before .before .before .before .before .pre .1, c .before .before .before .before .before .before .before .pre .4 .at _, c .before .before .before .before .before .before .before .pre .5 .at _)
+reduce-requires c κs = (c .before .before .before .before .before .before .before .pre .0, c .before .before .before .before .before .before .before .pre .1, c .before .before .before .before .before .before .before .pre .4 .low _, c .before .before .before .before .before .before .before .pre .4 .high _)
 
--- src/lib.rt:56:9
 mul-out : tie.Need-mul-out Inv-loop μ-loop
 mul-out c = search needs
 
--- src/lib.rt:56:9
 slice-write-out : tie.Need-slice-write-out Inv-loop μ-loop
 slice-write-out c = search needs
 
--- src/lib.rt:57:9
 add-k : tie.Need-add-k Inv-loop μ-loop
 add-k c = search needs
 
--- src/lib.rt:55:5
 loop-less : tie.Need-loop-less Inv-loop μ-loop
 loop-less c = omega arith
 
--- src/lib.rt:55:5
 loop-again : tie.Need-loop-again Inv-loop μ-loop
 loop-again c = (omega arith, simp length-set (omega arith), reduced-next _ (omega arith) (c .reduce .ensures) (c .before .before .before .before .loop .inv .2))
 
--- src/lib.rt:50:1
 same-length : tie.Need-same-length Inv-loop μ-loop
 same-length c = c .before .loop .inv .1
 
--- src/lib.rt:50:1
 returns : tie.Need-returns Inv-loop μ-loop
 returns c = rw (at-end _ _ (omega arith) (c .before .loop .inv .0)) (c .before .loop .inv .2)
 

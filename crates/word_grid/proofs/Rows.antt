@@ -1,5 +1,6 @@
 -- Sums of rows: rows that have words at an output, and rows that have none.
 --     sum-ext, sum-zero, sum-skip     sums of the same terms, of zeros, and of one part after another
+--     sum-more                        terms that are 0 add nothing
 --     more-in, more-out               sixteen rows more, at an output that they reach, and at one that they do not
 -- Assumes nothing.
 use mathlib.Core.Path.{_≡_, refl, sym, ap, _∙_}
@@ -25,6 +26,17 @@ pub sum-skip : (m n : ℕ) (f : ℕ → ℕ) → sumTo (m + n) f ≡ sumTo m f +
 unfolding sumTo
 sum-skip m zero f = ap (λ x. sumTo x f) (add-zero m) ∙ sym (add-zero (sumTo m f))
 sum-skip m (suc n) f = ap (λ x. sumTo x f) (add-suc m n) ∙ omega (arith, sum-skip m n f)
+
+-- terms that are 0 add nothing
+pub sum-more : (n i : ℕ) (f : ℕ → ℕ) → n ≤ i → ((j : ℕ) → n ≤ j → j < i → f j ≡ 0) → sumTo n f ≡ sumTo i f
+sum-more n i f l h =
+    sym
+    (ap (λ m. sumTo m f) (split n i l) ∙ sum-skip n (i - n) f
+    ∙ ap (λ x. sumTo n f + x) (sum-zero (i - n) _ (λ j p. h (n + j) (omega arith) (omega arith)))
+    ∙ add-zero _)
+  where
+    split : (n i : ℕ) → n ≤ i → i ≡ n + (i - n)
+    split n i l = omega arith
 
 module _ (a y : List ℕ) where
   sixteen : (g : ℕ) → 16 * suc g ≡ 16 * g + 16

@@ -53,9 +53,9 @@ pub strip-near : {p : ℕ} {a y w x : List ℕ} (b k : ℕ) → Laid p a y w x
 unfolding wholeAt sumTo
 strip-near {p} {a} {y} {w} {x} b k l =
     let s =
-        near-add (near-add (near-add (near-add (near-add (near-add (near-add (pair-term b k 28 0 refl l) (pair-term b k 24 1 refl l))
-        (pair-term b k 20 2 refl l)) (pair-term b k 16 3 refl l)) (pair-term b k 12 4 refl l)) (pair-term b k 8 5 refl l)) (pair-term b k 4 6 refl l))
-        (pair-term b k 0 7 refl l) in
+    near-add (near-add (near-add (near-add (near-add (near-add (near-add (pair-term b k 28 0 refl l) (pair-term b k 24 1 refl l))
+    (pair-term b k 20 2 refl l)) (pair-term b k 16 3 refl l)) (pair-term b k 12 4 refl l)) (pair-term b k 8 5 refl l)) (pair-term b k 4 6 refl l))
+    (pair-term b k 0 7 refl l) in
     record { left = s .left; right = s .right; at = omega (arith, s .at) }
 
 -- a product of two words read as signed is at most 2^30

@@ -20,9 +20,10 @@ add-result : tie.Need-add-result
 add-result c = record { fits = omega (arith, few (c .excess .result) (c .before .args .r / 65536 % 32768) (c .excess .ensures .1), c .before .fits .r) }
 
 returns : tie.Need-returns
-returns c = 
-    (folded (c .before .args .p) (c .excess .result) (c .excess .ensures .0) (c .before .args .r) (c .before .pre .2),
-    omega (arith, few (c .excess .result) (c .before .args .r / 65536 % 32768) (c .excess .ensures .1), c .before .fits .r))
+returns c = (
+  folded (c .before .args .p) (c .excess .result) (c .excess .ensures .0) (c .before .args .r) (c .before .pre .2),
+  omega (arith, few (c .excess .result) (c .before .args .r / 65536 % 32768) (c .excess .ensures .1), c .before .fits .r),
+)
 
 pub fold-spec : {M : Type 1} → statement M
 fold-spec = tie.close (tie.spec excess-requires mul-result add-result returns)

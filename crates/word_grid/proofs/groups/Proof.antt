@@ -29,7 +29,7 @@ mul-spread : tie.Need-mul-spread Inv-loop μ-loop
 mul-spread c = record { fits = omega (arith, c .before .before .before .before .before .before .before .before .pre .0, c .before .before .loop .inv .0) }
 
 spread-requires : tie.Need-spread-requires Inv-loop μ-loop
-spread-requires c κs = 
+spread-requires c κs =
     let h = c .before .before .before .before .before .before .before .before .pre .0 in
     (omega (arith, h, c .before .before .loop .inv .1), omega (arith, h, c .before .loop-test .taken), omega (arith, h, c .before .loop-test .taken))
 
@@ -37,15 +37,17 @@ mul-group : tie.Need-mul-group Inv-loop μ-loop
 mul-group c = record { fits = omega (arith, c .before .before .before .before .before .before .before .before .before .before .before .before .before .before .pre .0, c .before .before .before .before .before .before .before .before .loop .inv .0) }
 
 group-requires : tie.Need-group-requires Inv-loop μ-loop
-group-requires c κs = 
+group-requires c κs =
     let h = c .before .before .before .before .before .before .before .before .before .before .before .before .before .before .pre .0 in
     let t = c .before .before .before .before .before .before .before .before .loop .inv .2 in (
-      (omega (arith, size-lo t, h, c .before .before .before .before .before .before .before .loop-test .taken),
-      omega (arith, size-hi t, h, c .before .before .before .before .before .before .before .loop-test .taken),
-      h .2,
-      omega (arith, h, c .before .before .before .before .before .before .before .before .loop .inv .1, c .before .before .before .before .before .spread .kept),
-      omega (arith, h, c .before .before .before .before .before .before .before .loop-test .taken),
-      h .6),
+      (
+        omega (arith, size-lo t, h, c .before .before .before .before .before .before .before .loop-test .taken),
+        omega (arith, size-hi t, h, c .before .before .before .before .before .before .before .loop-test .taken),
+        h .2,
+        omega (arith, h, c .before .before .before .before .before .before .before .before .loop .inv .1, c .before .before .before .before .before .spread .kept),
+        omega (arith, h, c .before .before .before .before .before .before .before .loop-test .taken),
+        h .6,
+      ),
       (c .before .before .before .before .before .before .before .before .before .before .before .before .before .before .pre .1, c .before .before .before .before .before .spread .ensures),
     )
 
@@ -56,10 +58,11 @@ loop-less : tie.Need-loop-less Inv-loop μ-loop
 loop-less c = omega (arith, c .before .before .before .before .before .before .before .before .before .before .before .before .loop-test .taken)
 
 loop-again : tie.Need-loop-again Inv-loop μ-loop
-loop-again c = 
-    (omega (arith, c .before .before .before .before .before .before .before .before .before .before .before .before .loop-test .taken),
-    omega (arith, c .before .before .before .before .before .before .before .before .before .before .before .before .before .loop .inv .1, c .before .before .before .before .before .before .before .before .before .before .spread .kept),
-    rw (add-one _) (grid-next (c .before .before .before .before .before .before .before .before .before .before .before .before .before .loop .inv .2) (c .before .before .before .before .group .ensures)))
+loop-again c = (
+  omega (arith, c .before .before .before .before .before .before .before .before .before .before .before .before .loop-test .taken),
+  omega (arith, c .before .before .before .before .before .before .before .before .before .before .before .before .before .loop .inv .1, c .before .before .before .before .before .before .before .before .before .before .spread .kept),
+  rw (add-one _) (grid-next (c .before .before .before .before .before .before .before .before .before .before .before .before .before .loop .inv .2) (c .before .before .before .before .group .ensures)),
+)
 
 same-length : tie.Need-same-length Inv-loop μ-loop
 same-length c = size-lo (c .before .loop .inv .2)

@@ -33,21 +33,25 @@ add-fold : tie.Need-add-fold
 add-fold c = record { fits = omega (arith, few (c .before .excess .result) (c .high-of .result) (c .before .excess .ensures .1), c .before .before .low-of .ensures, c .high-of .ensures, c .before .before .before .pre) }
 
 fold-requires : tie.Need-fold-requires
-fold-requires c κs = 
+fold-requires c κs =
     (c .before .before .before .pre .0, c .before .before .before .pre .1, omega (arith, few (c .before .excess .result) (c .high-of .result) (c .before .excess .ensures .1), c .before .before .low-of .ensures, c .high-of .ensures, c .before .before .before .pre))
 
 fold-requires-2 : tie.Need-fold-requires-2
-fold-requires-2 c κs = 
-    (c .before .before .before .before .pre .0, c .before .before .before .before .pre .1,
-    omega (arith, few (c .before .before .excess .result) (c .before .high-of .result) (c .before .before .excess .ensures .1), c .before .before .before .low-of .ensures, c .before .high-of .ensures, c .before .before .before .before .pre, c .fold .ensures .1))
+fold-requires-2 c κs = (
+  c .before .before .before .before .pre .0,
+  c .before .before .before .before .pre .1,
+  omega (arith, few (c .before .before .excess .result) (c .before .high-of .result) (c .before .before .excess .ensures .1), c .before .before .before .low-of .ensures, c .before .high-of .ensures, c .before .before .before .before .pre, c .fold .ensures .1),
+)
 
 last-requires : tie.Need-last-requires
-last-requires c κs = 
-    (c .before .before .before .before .before .pre .0, c .before .before .before .before .before .pre .1,
-    omega (arith, few (c .before .before .before .excess .result) (c .before .before .high-of .result) (c .before .before .before .excess .ensures .1), c .before .before .before .before .low-of .ensures, c .before .before .high-of .ensures, c .before .before .before .before .before .pre, c .before .fold .ensures .1, c .fold2 .ensures .1))
+last-requires c κs = (
+  c .before .before .before .before .before .pre .0,
+  c .before .before .before .before .before .pre .1,
+  omega (arith, few (c .before .before .before .excess .result) (c .before .before .high-of .result) (c .before .before .before .excess .ensures .1), c .before .before .before .before .low-of .ensures, c .before .before .high-of .ensures, c .before .before .before .before .before .pre, c .before .fold .ensures .1, c .fold2 .ensures .1),
+)
 
 returns : tie.Need-returns
-returns c = 
+returns c =
     let h = c .before .before .before .high-of .result in
     let n = c .before .before .before .before .before .low-of .result + c .before .before .before .before .excess .result * h in
     c .last .ensures

@@ -29,7 +29,7 @@ returns c = rw (lt-leb (length (c .before .before .before .before .args .a .now)
 
 returns-2 : tie.Need-returns-2
 unfolding convolveFits
-returns-2 c = 
+returns-2 c =
     let a = length (c .before .before .before .before .before .args .a .now) in
     let b = length (c .before .before .before .before .before .args .b .now) in
     rw (le-leb a maxWords (omega arith), lt-leb b maxWords (omega arith))
@@ -42,7 +42,7 @@ add-if3-2 c = search needs
 
 returns-3 : tie.Need-returns-3
 unfolding convolveFits
-returns-3 c = 
+returns-3 c =
     let a = length (c .before .before .before .before .before .before .args .a .now) in
     let b = length (c .before .before .before .before .before .before .args .b .now) in
     let out = length (c .before .before .before .before .before .before .args .out .now) in
@@ -55,7 +55,7 @@ same-length : tie.Need-same-length
 same-length c = search needs
 
 returns-4 : tie.Need-returns-4
-returns-4 c = 
+returns-4 c =
     let a = c .before .before .before .before .before .before .before .before .before .before .before .args .a .now in
     let b = c .before .before .before .before .before .before .before .before .before .before .before .args .b .now in
     rw (fits a b (c .before .before .before .before .before .before .before .before .before .before .before .args .out .now) (omega arith) (omega arith) (omega arith))
@@ -68,7 +68,7 @@ same-length-2 : tie.Need-same-length-2
 same-length-2 c = search needs
 
 returns-5 : tie.Need-returns-5
-returns-5 c = 
+returns-5 c =
     let a = c .before .before .before .before .before .before .before .before .before .before .before .args .a .now in
     let b = c .before .before .before .before .before .before .before .before .before .before .before .args .b .now in
     rw (fits a b (c .before .before .before .before .before .before .before .before .before .before .before .args .out .now) (omega arith) (omega arith) (omega arith)) (c .before .before .convolve-fitting2 .ensures)

@@ -29,12 +29,16 @@ slice-aggregate-convolve-in-6 : tie.Need-slice-aggregate-convolve-in-6
 slice-aggregate-convolve-in-6 c = search needs
 
 convolve-in-requires : tie.Need-convolve-in-requires
-convolve-in-requires c κs = 
+convolve-in-requires c κs =
     let start = c .before .before .before .before .before .before .before .before .before .before in (
       (start .pre .0, start .pre .1, start .pre .2),
-      ((search needs, search needs, search needs, search needs),
-      ((search needs, search needs),
-      (zeros-are (maxWords + 16), zeros-are (maxWords + 48), zeros-are (2 * maxWords + 96), zeros-are (2 * maxWords + 32), zeros-are (2 * maxWords + 32)))),
+      (
+        (search needs, search needs, search needs, search needs),
+        (
+          (search needs, search needs),
+          (zeros-are (maxWords + 16), zeros-are (maxWords + 48), zeros-are (2 * maxWords + 96), zeros-are (2 * maxWords + 32), zeros-are (2 * maxWords + 32)),
+        ),
+      ),
     )
 
 same-length : tie.Need-same-length

@@ -30,28 +30,32 @@ add-n : tie.Need-add-n
 add-n c = search needs
 
 lay-requires : tie.Need-lay-requires
-lay-requires c κs = 
+lay-requires c κs =
     let h = c .before .before .before .before .before .before .before .before .before .before .before .before .before .pre in
     let lp = modulus-low (c .before .before .before .before .before .before .before .before .before .before .before .before .before .args .field) in (
-      (omega (arith, lp, c .before .before .before .modulus-of .ensures),
-      omega (arith, h .1 .0 .0),
-      omega arith,
-      omega (arith, h .1 .0 .1),
-      omega (arith, h .1 .0 .2),
-      omega (arith, h .0)),
+      (
+        omega (arith, lp, c .before .before .before .modulus-of .ensures),
+        omega (arith, h .1 .0 .0),
+        omega arith,
+        omega (arith, h .1 .0 .1),
+        omega (arith, h .1 .0 .2),
+        omega (arith, h .0),
+      ),
       (h .1 .1 .1 .0, h .1 .1 .1 .1, h .1 .1 .1 .2),
     )
 
 groups-requires : tie.Need-groups-requires
-groups-requires c κs = 
+groups-requires c κs =
     let h = c .before .before .before .before .before .before .before .before .before .before .before .before .before .before .before .before .before .before .before .before .before .before .before .before .before .pre in (
-      (omega (arith, h .1 .1 .0 .0),
-      omega (arith, h .1 .1 .0 .1),
-      omega (arith, h .1 .0 .2, c .before .before .before .before .before .before .before .before .before .before .before .lay .kept),
-      omega (arith, h .1 .0 .0, c .before .before .before .before .before .before .before .before .before .before .before .lay .kept),
-      h .1 .0 .3,
-      omega (arith, h .0),
-      omega (arith, h .0)),
+      (
+        omega (arith, h .1 .1 .0 .0),
+        omega (arith, h .1 .1 .0 .1),
+        omega (arith, h .1 .0 .2, c .before .before .before .before .before .before .before .before .before .before .before .lay .kept),
+        omega (arith, h .1 .0 .0, c .before .before .before .before .before .before .before .before .before .before .before .lay .kept),
+        h .1 .0 .3,
+        omega (arith, h .0),
+        omega (arith, h .0),
+      ),
       c .before .before .before .before .before .before .before .before .before .before .before .lay .ensures .odd,
     )
 
@@ -59,7 +63,7 @@ cast-reduce-words : tie.Need-cast-reduce-words
 cast-reduce-words c = search needs
 
 reduce-words-requires : tie.Need-reduce-words-requires
-reduce-words-requires c κs = 
+reduce-words-requires c κs =
     let h = c .before .before .before .before .before .before .before .before .before .before .before .before .before .before .before .before .before .before .before .before .before .before .before .before .before .before .before .before .before .before .before .before .before .before .before .pre in
     let n = (length (c .before .before .before .before .before .before .before .before .before .before .before .before .before .before .before .before .before .before .before .before .before .before .before .before .before .before .before .before .before .before .before .before .before .before .before .args .b .now) + 30) / 16 in
     let lp : 65497 ≤ c .before .before .before .before .before .before .before .before .before .before .before .before .before .before .before .before .before .before .before .before .before .before .before .before .before .modulus-of .result = omega (arith, modulus-low (c .before .before .before .before .before .before .before .before .before .before .before .before .before .before .before .before .before .before .before .before .before .before .before .before .before .before .before .before .before .before .before .before .before .before .before .args .field), c .before .before .before .before .before .before .before .before .before .before .before .before .before .before .before .before .before .before .before .before .before .before .before .before .before .modulus-of .ensures) in
@@ -93,7 +97,7 @@ same-length-7 : tie.Need-same-length-7
 same-length-7 c = search needs
 
 returns : tie.Need-returns
-returns c = 
+returns c =
     let h = c .before .before .before .before .before .before .before .before .before .before .before .before .before .before .before .before .before .before .before .before .before .before .before .before .before .before .before .before .before .before .before .before .before .before .before .before .before .before .pre in
     let a = c .before .before .before .before .before .before .before .before .before .before .before .before .before .before .before .before .before .before .before .before .before .before .before .before .before .before .before .before .before .before .before .before .before .before .before .before .before .before .args .a .now in
     let b = c .before .before .before .before .before .before .before .before .before .before .before .before .before .before .before .before .before .before .before .before .before .before .before .before .before .before .before .before .before .before .before .before .before .before .before .before .before .before .args .b .now in

@@ -29,11 +29,12 @@ first-row-requires : tie.Need-first-row-requires Inv-loop μ-loop
 first-row-requires c κs = search needs
 
 loop-holds : tie.Need-loop-holds Inv-loop μ-loop
-loop-holds c = 
-    (omega (arith, c .first-row .ensures),
-    omega (arith, c .first-row .ensures, c .before .end-row .ensures, c .before .before .before .before .pre),
-    omega arith,
-    sym (dot-start _ _ _ _ (c .first-row .ensures)))
+loop-holds c = (
+  omega (arith, c .first-row .ensures),
+  omega (arith, c .first-row .ensures, c .before .end-row .ensures, c .before .before .before .before .pre),
+  omega arith,
+  sym (dot-start _ _ _ _ (c .first-row .ensures)),
+)
 
 mul-times : tie.Need-mul-times Inv-loop μ-loop
 mul-times c = search needs
@@ -63,14 +64,15 @@ loop-less : tie.Need-loop-less Inv-loop μ-loop
 loop-less c = search needs
 
 loop-again : tie.Need-loop-again Inv-loop μ-loop
-loop-again c = 
-    (omega (arith, c .before .before .before .before .loop .inv .0),
-    omega (arith, c .before .before .before .loop-test .taken),
-    omega (arith, c .before .before .before .before .loop .inv .2, c .times .ensures .1),
-    omega (arith, c .before .before .before .before .loop .inv .3, c .times .ensures .0, dot-next (c .before .before .before .before .before .before .before .before .before .args .a .now) (c .before .before .before .before .before .before .before .before .before .args .b .now) (c .before .before .before .before .before .before .before .before .before .args .k) (c .before .before .before .before .loop .j)))
+loop-again c = (
+  omega (arith, c .before .before .before .before .loop .inv .0),
+  omega (arith, c .before .before .before .loop-test .taken),
+  omega (arith, c .before .before .before .before .loop .inv .2, c .times .ensures .1),
+  omega (arith, c .before .before .before .before .loop .inv .3, c .times .ensures .0, dot-next (c .before .before .before .before .before .before .before .before .before .args .a .now) (c .before .before .before .before .before .before .before .before .before .args .b .now) (c .before .before .before .before .before .before .before .before .before .args .k) (c .before .before .before .before .loop .j)),
+)
 
 returns : tie.Need-returns Inv-loop μ-loop
-returns c = 
+returns c =
     c .before .loop .inv .3 ∙ dot-end _ _ _ _ (omega (arith, c .loop-test .left, c .before .loop .inv .1, c .before .before .before .end-row .ensures))
 
 pub dot-spec : {M : Type 1} → statement M

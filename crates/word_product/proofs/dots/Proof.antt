@@ -45,7 +45,7 @@ loop-less : tie.Need-loop-less Inv-loop μ-loop
 loop-less c = search needs
 
 loop-again : tie.Need-loop-again Inv-loop μ-loop
-loop-again c = 
+loop-again c =
     let k = c .before .before .before .loop .k in (
       simp length-set (omega arith),
       simp length-set (omega arith),
@@ -58,7 +58,7 @@ same-length : tie.Need-same-length Inv-loop μ-loop
 same-length c = search needs
 
 returns : tie.Need-returns Inv-loop μ-loop
-returns c = 
+returns c =
     let n = length (c .before .before .before .before .before .args .out .now) in
     let a = c .before .before .before .before .before .args .a .now in
     let b = c .before .before .before .before .before .args .b .now in

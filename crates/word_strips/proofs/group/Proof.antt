@@ -24,15 +24,17 @@ mul-strip : tie.Need-mul-strip Inv-loop μ-loop
 mul-strip c = record { fits = omega (arith, c .before .before .before .before .before .before .before .before .before .pre .0, c .before .before .before .loop .inv .0) }
 
 strip-requires : tie.Need-strip-requires Inv-loop μ-loop
-strip-requires c κs = 
+strip-requires c κs =
     let t = c .before .before .before .loop .inv .1 in
     let h = c .before .before .before .before .before .before .before .before .before .pre .0 in (
-      (omega (arith, t .size-lo, h, c .before .before .loop-test .taken),
-      omega (arith, t .size-hi, h, c .before .before .loop-test .taken),
-      omega (arith, h, c .before .before .loop-test .taken),
-      h .3,
-      h .4,
-      omega (arith, h, c .before .before .loop-test .taken)),
+      (
+        omega (arith, t .size-lo, h, c .before .before .loop-test .taken),
+        omega (arith, t .size-hi, h, c .before .before .loop-test .taken),
+        omega (arith, h, c .before .before .loop-test .taken),
+        h .3,
+        h .4,
+        omega (arith, h, c .before .before .loop-test .taken),
+      ),
       (c .before .before .before .before .before .before .before .before .before .pre .1 .0, c .before .before .before .before .before .before .before .before .before .pre .1 .1),
     )
 
@@ -43,9 +45,10 @@ loop-less : tie.Need-loop-less Inv-loop μ-loop
 loop-less c = omega (arith, c .before .before .before .before .before .before .before .loop-test .taken)
 
 loop-again : tie.Need-loop-again Inv-loop μ-loop
-loop-again c = 
-    (omega (arith, c .before .before .before .before .before .before .before .loop-test .taken),
-    to _ (omega arith) (joined (omega arith) (omega arith) (c .before .before .before .before .before .before .before .before .loop .inv .1) (c .before .before .before .before .strip .ensures)))
+loop-again c = (
+  omega (arith, c .before .before .before .before .before .before .before .loop-test .taken),
+  to _ (omega arith) (joined (omega arith) (omega arith) (c .before .before .before .before .before .before .before .before .loop .inv .1) (c .before .before .before .before .strip .ensures)),
+)
 
 same-length : tie.Need-same-length Inv-loop μ-loop
 same-length c = c .before .loop .inv .1 .size-lo

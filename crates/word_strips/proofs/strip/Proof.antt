@@ -33,12 +33,15 @@ bounds :
     × (256 ≤ length (c .before .before .before .before .before .before .before .args .v .now))
     × (c .before .before .before .before .before .before .before .args .b ≤ 2048)
     × (c .before .before .before .before .before .before .before .args .q ≤ 16384)
-bounds c =
-    (c .loop-test .taken,
-    omega (arith, c .before .loop .inv .1 .size-lo, c .before .before .before .before .before .before .before .pre .0),
-    omega (arith, c .before .loop .inv .1 .size-hi, c .before .before .before .before .before .before .before .pre .0),
-    c .before .before .before .before .before .before .before .pre .0 .2, c .before .before .before .before .before .before .before .pre .0 .3, c .before .before .before .before .before .before .before .pre .0 .4, c .before .before .before .before .before .before .before .pre .0 .5)
-
+bounds c = (
+  c .loop-test .taken,
+  omega (arith, c .before .loop .inv .1 .size-lo, c .before .before .before .before .before .before .before .pre .0),
+  omega (arith, c .before .loop .inv .1 .size-hi, c .before .before .before .before .before .before .before .pre .0),
+  c .before .before .before .before .before .before .before .pre .0 .2,
+  c .before .before .before .before .before .before .before .pre .0 .3,
+  c .before .before .before .before .before .before .before .pre .0 .4,
+  c .before .before .before .before .before .before .before .pre .0 .5,
+)
 
 add-o : tie.Need-add-o Inv-loop μ-loop
 add-o c = record { fits = omega (arith, c .before .before .before .before .before .pre .0) }
@@ -56,42 +59,42 @@ mul-j : tie.Need-mul-j Inv-loop μ-loop
 mul-j c = record { fits = omega (arith, bounds c) }
 
 pair-at-requires : tie.Need-pair-at-requires Inv-loop μ-loop
-pair-at-requires c κs = 
+pair-at-requires c κs =
     let h = bounds c in
     (omega (arith, h), omega (arith, h), omega (arith, h), lit< tt, omega (arith, h), lit< tt, c .before .before .before .before .before .before .before .pre .1 .0)
 
 pair-at-requires-2 : tie.Need-pair-at-requires-2 Inv-loop μ-loop
-pair-at-requires-2 c κs = 
+pair-at-requires-2 c κs =
     let h = bounds (c .before) in
     (omega (arith, h), omega (arith, h), omega (arith, h), lit< tt, omega (arith, h), lit< tt, c .before .before .before .before .before .before .before .before .pre .1 .0)
 
 pair-at-requires-3 : tie.Need-pair-at-requires-3 Inv-loop μ-loop
-pair-at-requires-3 c κs = 
+pair-at-requires-3 c κs =
     let h = bounds (c .before .before) in
     (omega (arith, h), omega (arith, h), omega (arith, h), lit< tt, omega (arith, h), lit< tt, c .before .before .before .before .before .before .before .before .before .pre .1 .0)
 
 pair-at-requires-4 : tie.Need-pair-at-requires-4 Inv-loop μ-loop
-pair-at-requires-4 c κs = 
+pair-at-requires-4 c κs =
     let h = bounds (c .before .before .before) in
     (omega (arith, h), omega (arith, h), omega (arith, h), lit< tt, omega (arith, h), lit< tt, c .before .before .before .before .before .before .before .before .before .before .pre .1 .0)
 
 pair-at-requires-5 : tie.Need-pair-at-requires-5 Inv-loop μ-loop
-pair-at-requires-5 c κs = 
+pair-at-requires-5 c κs =
     let h = bounds (c .before .before .before .before) in
     (omega (arith, h), omega (arith, h), omega (arith, h), lit< tt, omega (arith, h), lit< tt, c .before .before .before .before .before .before .before .before .before .before .before .pre .1 .0)
 
 pair-at-requires-6 : tie.Need-pair-at-requires-6 Inv-loop μ-loop
-pair-at-requires-6 c κs = 
+pair-at-requires-6 c κs =
     let h = bounds (c .before .before .before .before .before) in
     (omega (arith, h), omega (arith, h), omega (arith, h), lit< tt, omega (arith, h), lit< tt, c .before .before .before .before .before .before .before .before .before .before .before .before .pre .1 .0)
 
 pair-at-requires-7 : tie.Need-pair-at-requires-7 Inv-loop μ-loop
-pair-at-requires-7 c κs = 
+pair-at-requires-7 c κs =
     let h = bounds (c .before .before .before .before .before .before) in
     (omega (arith, h), omega (arith, h), omega (arith, h), lit< tt, omega (arith, h), lit< tt, c .before .before .before .before .before .before .before .before .before .before .before .before .before .pre .1 .0)
 
 pair-at-requires-8 : tie.Need-pair-at-requires-8 Inv-loop μ-loop
-pair-at-requires-8 c κs = 
+pair-at-requires-8 c κs =
     let h = bounds (c .before .before .before .before .before .before .before) in
     (omega (arith, h), omega (arith, h), omega (arith, h), lit< tt, omega (arith, h), lit< tt, c .before .before .before .before .before .before .before .before .before .before .before .before .before .before .pre .1 .0)
 
@@ -170,11 +173,12 @@ gain c =
     (c .before .before .gain-whole .ensures) (c .gain-high .ensures)
 
 loop-again : tie.Need-loop-again Inv-loop μ-loop
-loop-again c = 
-    (omega (arith, bounds (c .before .before .before .before .before .before .before .before .before .before .before .before)),
-    to _ (add-assoc _ _ _)
-    (joined (omega arith) (omega arith) (c .before .before .before .before .before .before .before .before .before .before .before .before .before .loop .inv .1)
-    (single _ _ _ _ _ (add-assoc _ _ _) (omega (arith, bounds (c .before .before .before .before .before .before .before .before .before .before .before .before))) (omega (arith, bounds (c .before .before .before .before .before .before .before .before .before .before .before .before))) (gain c))))
+loop-again c = (
+  omega (arith, bounds (c .before .before .before .before .before .before .before .before .before .before .before .before)),
+  to _ (add-assoc _ _ _)
+      (joined (omega arith) (omega arith) (c .before .before .before .before .before .before .before .before .before .before .before .before .before .loop .inv .1)
+      (single _ _ _ _ _ (add-assoc _ _ _) (omega (arith, bounds (c .before .before .before .before .before .before .before .before .before .before .before .before))) (omega (arith, bounds (c .before .before .before .before .before .before .before .before .before .before .before .before))) (gain c))),
+)
 
 same-length : tie.Need-same-length Inv-loop μ-loop
 same-length c = c .before .loop .inv .1 .size-lo

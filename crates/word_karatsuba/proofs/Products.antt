@@ -3,7 +3,6 @@
 -- Theorems:
 --     convolution-carries     the words of a product stand for the product of the series
 --     carries-convolution     words that stand for the product, as many as it has, are those of the product
---     convolution-turned      the factors may be exchanged
 --     row-plus, row-minus     a row with 1 adds a series, and one with -1 takes it off
 --     split-series            a list's series by its first h words and the rest
 -- Assumes nothing.
@@ -86,14 +85,6 @@ module _ (F : PrimeField) where
   unfolding convolution productAt
   carries-convolution a b {l} e c =
       tabulated l (length a + length b - 1) (productAt a b) (omega arith) (λ k j. value-is F (getD l k 0) _ (c .below k) (c .at k))
-
-  pub convolution-turned : (a b : List ℕ) → convolution F b a ≡ convolution F a b
-  unfolding convolution
-  convolution-turned a b =
-      ap₂ (λ n s. tabulate n (λ k. value F (F .series .coeff s k))) turned (R.mul-comm (F .series .ring) (seriesOf F b) (seriesOf F a))
-    where
-      turned : length b + length a - 1 ≡ length a + length b - 1
-      turned = omega arith
 
   -- a row adds m times a series; the words of y may be any
   row-adds : (m : ℕ) {x : List ℕ} (y : List ℕ) {s : S} → length y ≤ length x → Carries F x s

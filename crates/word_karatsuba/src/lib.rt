@@ -14,8 +14,8 @@ ghost use Rattle.word_row.specs.Rows.{row};
 ghost use Rattle.word_division.specs.Reduction.{negated};
 ghost use Rattle.word_karatsuba.specs.Halves.{Tight, Cut, Halving, Apart, halvesAdded, productsJoined};
 
-// Two factors of at most so many words together are not cut: `word_product` has small buffers for these, and cuts them itself.
-const SHORT: usize = 264;
+// Two factors of at most so many words together are not cut: `word_product` is about as quick with the whole as with the parts.
+const SHORT: usize = 400;
 
 // The words of the buffers: the sum of the halves of the first factor, that of the second, which may have a word more, and their product.
 const FIRST: usize = refusal::MAX_WORDS / 2;

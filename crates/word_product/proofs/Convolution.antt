@@ -1,19 +1,19 @@
--- The product in whole numbers, reduced, is the product of the series.
---     length-remainders, getD-remainders     the first n words, reduced
+-- The words of a product in whole numbers, reduced, are those of the product of the series.
+--     length-remainders, getD-remainders     the words of the product, reduced
 -- Theorems:
---     convolution-is     the words of the product in whole numbers, reduced, are those of the product of the series
---     convolve-is        what is written where the lengths fit
+--     convolution-is         the words of the product in whole numbers, reduced, are those of the product of the series
+--     convolution-turned     the factors may be exchanged
+--     convolve-is            what is written where the lengths fit
 -- Assumes nothing.
 use mathlib.Core.Path.{_≡_, sym, ap, ap₂, _∙_}
 use mathlib.Core.Bool.{cond}
 use mathlib.Core.List.{List}
-use Prim.Native.Nat.{ℕ, zero, suc, _+_, _-_, _*_, _%_, _≤_, _<_}
-use native.Mathlib.Decide.{decLt}
-use native.Mathlib.Nat.{mod-lt, mul-zero}
+use Prim.Native.Nat.{ℕ, zero, suc, _+_, _-_, _%_, _≤_, _<_}
+use native.Mathlib.Nat.{mod-lt}
 use native.Mathlib.Omega.{arith}
 use lib.ListN.{length, getD}
 use borrow.Author.Tests.{eq-eqb, le-leb}
-use Rattle.algebra.specs.Ring.{CommRing}
+use Rattle.algebra.specs.RingLaws as R
 use Rattle.algebra.specs.Sum.{total}
 use Rattle.algebra.proofs.Sum.{total-zero, total-snoc, total-ext, coeff-product}
 use Rattle.algebra.specs.PrimeField.{PrimeField, scalars, positive, residue, value}
@@ -22,78 +22,60 @@ use Rattle.lists.specs.Tabulate.{tabulate}
 use Rattle.lists.proofs.Tabulate.{length-tabulate, getD-tabulate, tabulate-ext}
 use Rattle.lists.specs.Words.{seriesOf}
 use Rattle.lists.proofs.Words.{coeff-seriesOf, value-is}
+use Rattle.word_grid.specs.Grid.{sumTo}
 use Rattle.word_product.specs.Convolution.{convolveFits, convolution}
-use Rattle.word_product.specs.Rows.{rowSum, behind, Whole, remainders}
-use Rattle.word_product.proofs.Sums.{sum-more, all-rows}
-use Rattle.word_product.proofs.Halves.{behind-lead, behind-at}
+use Rattle.word_product.specs.Sums.{termOf, wordSum, remainders}
 
-pub length-remainders : (p n : ℕ) (s : List ℕ) → length (remainders p n s) ≡ n
+pub length-remainders : (p n : ℕ) (a b : List ℕ) → length (remainders p n a b) ≡ n
 unfolding remainders
-length-remainders p n s = length-tabulate n _
+length-remainders p n a b = length-tabulate n _
 
-pub getD-remainders : (p n : ℕ) (s : List ℕ) (k : ℕ) → k < n → getD (remainders p n s) k 0 ≡ getD s k 0 % p
+pub getD-remainders : (p n : ℕ) (a b : List ℕ) (k : ℕ) → k < n → getD (remainders p n a b) k 0 ≡ wordSum a b k % p
 unfolding remainders
-getD-remainders p n s k l = getD-tabulate n _ k l
+getD-remainders p n a b k l = getD-tabulate n _ k l
 
 module _ (F : PrimeField) where
-  open CommRing (scalars F) using (Carrier as K, mul as _⊗_)
-
-  infixl 70 _⊗_
-  term : (a b : List ℕ) → ℕ → ℕ → K
-  term a b k j = residue F (getD a j 0) ⊗ residue F (getD b (k + 7 - j) 0)
-
-  residue-sum : (a b : List ℕ) (k n : ℕ) → residue F (rowSum a b k n) ≡ total (scalars F) n (term a b k)
-  unfolding rowSum term
-  residue-sum a b k zero = residue-0 F ∙ sym (total-zero (scalars F) _)
-  residue-sum a b k (suc n) =
-      residue-add F _ _ ∙ ap₂ (scalars F .add) (residue-sum a b k n) (residue-mul F _ _) ∙ sym (total-snoc (scalars F) n _)
+  residue-sum : (n : ℕ) (f : ℕ → ℕ) → residue F (sumTo n f) ≡ total (scalars F) n (λ j. residue F (f j))
+  unfolding sumTo
+  residue-sum zero f = residue-0 F ∙ sym (total-zero (scalars F) _)
+  residue-sum (suc n) f =
+      residue-add F _ _ ∙ ap (λ x. scalars F .add x (residue F (f n))) (residue-sum n f) ∙ sym (total-snoc (scalars F) n _)
 
   -- word k of the product
   productAt : (a b : List ℕ) → ℕ → ℕ
   productAt a b k = value F (F .series .coeff (F .series .ring .mul (seriesOf F a) (seriesOf F b)) k)
 
   module _ (a b : List ℕ) where
-    -- no row beyond k, or beyond a, has a word at k
-    all-words : (k : ℕ) → rowSum a (behind b) k (length a) ≡ rowSum a (behind b) k (suc k)
-    all-words k = go (decLt k (length a))
-      where
-        go : Dec (k < length a) → rowSum a (behind b) k (length a) ≡ rowSum a (behind b) k (suc k)
-        go (yes l) =
-            sum-more a (behind b) k (suc k) (length a) l
-            (λ j p q. ap (λ y. getD a j 0 * y) (behind-lead b (k + 7 - j) (omega arith)) ∙ mul-zero _)
-        go (no l) = sym (all-rows a (behind b) k (suc k) (omega arith))
-
-    coefficient-is : (k : ℕ) → residue F (rowSum a (behind b) k (length a)) ≡ F .series .coeff (F .series .ring .mul (seriesOf F a) (seriesOf F b)) k
-    unfolding term
+    coefficient-is : (k : ℕ) → residue F (wordSum a b k) ≡ F .series .coeff (F .series .ring .mul (seriesOf F a) (seriesOf F b)) k
+    unfolding wordSum termOf
     coefficient-is k =
-        ap (residue F) (all-words k)
-        ∙ residue-sum a (behind b) k (suc k)
+        residue-sum (suc k) (termOf a b k)
         ∙ sym
         (coeff-product (F .series) (seriesOf F a) (seriesOf F b) k
-        ∙ total-ext (scalars F) (suc k) _ (term a (behind b) k) (λ j l. ap₂ (λ y z. y ⊗ z) (coeff-seriesOf F a j) (second j l)))
-      where
-        place : (k j : ℕ) → j < suc k → 7 + (k - j) ≡ k + 7 - j
-        place k j l = omega arith
+        ∙ total-ext (scalars F) (suc k) _ (λ j. residue F (termOf a b k j))
+        (λ j l. ap₂ (λ y z. scalars F .mul y z) (coeff-seriesOf F a j) (coeff-seriesOf F b (k - j)) ∙ sym (residue-mul F _ _)))
 
-        second : (j : ℕ) → j < suc k → F .series .coeff (seriesOf F b) (k - j) ≡ residue F (getD (behind b) (k + 7 - j) 0)
-        second j l =
-            coeff-seriesOf F b (k - j)
-            ∙ ap (residue F) (sym (behind-at b (k - j)) ∙ ap (λ i. getD (behind b) i 0) (place k j l))
-
-    pub convolution-is : {m : ℕ} → F .p ≡ m → {s : List ℕ} (n : ℕ) → n + 1 ≡ length a + length b → Whole a b s
-        → remainders m n s ≡ convolution F a b
+    pub convolution-is : {m : ℕ} → F .p ≡ m → (n : ℕ) → n + 1 ≡ length a + length b → remainders m n a b ≡ convolution F a b
     unfolding remainders convolution productAt
-    convolution-is {m} q {s} n e h = tabulate-ext n _ _ word ∙ ap (λ i. tabulate i (productAt a b)) (omega arith)
+    convolution-is {m} q n e = tabulate-ext n _ _ word ∙ ap (λ i. tabulate i (productAt a b)) (omega arith)
       where
-        word : (k : ℕ) → k < n → getD s k 0 % m ≡ productAt a b k
+        word : (k : ℕ) → k < n → wordSum a b k % m ≡ productAt a b k
         word k j =
-            ap (λ i. getD s k 0 % i) (sym q)
-            ∙ value-is F (getD s k 0 % F .p) _ (mod-lt (getD s k 0) (positive F))
-            (residue-mod F (getD s k 0) ∙ ap (residue F) (h .at k (omega arith)) ∙ coefficient-is k)
+            ap (λ i. wordSum a b k % i) (sym q)
+            ∙ value-is F (wordSum a b k % F .p) _ (mod-lt (wordSum a b k) (positive F))
+            (residue-mod F (wordSum a b k) ∙ coefficient-is k)
 
   pub length-convolution : (a b : List ℕ) → length (convolution F a b) ≡ length a + length b - 1
   unfolding convolution
   length-convolution a b = length-tabulate (length a + length b - 1) _
+
+  pub convolution-turned : (a b : List ℕ) → convolution F b a ≡ convolution F a b
+  unfolding convolution
+  convolution-turned a b =
+      ap₂ (λ n s. tabulate n (λ k. value F (F .series .coeff s k))) turned (R.mul-comm (F .series .ring) (seriesOf F b) (seriesOf F a))
+    where
+      turned : length b + length a - 1 ≡ length a + length b - 1
+      turned = omega arith
 
   pub convolve-is : (most : ℕ) (a b s : List ℕ) {s′ : List ℕ} → length a ≤ most → length b ≤ most → length s + 1 ≡ length a + length b
       → s′ ≡ cond (convolveFits most a b s) (convolution F a b) s → s′ ≡ convolution F a b

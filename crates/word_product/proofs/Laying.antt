@@ -1,151 +1,134 @@
--- The factors in their buffers, whole and as halves.
---     shifted-is                      a whole list behind d zeros
---     first-halves, second-halves     the halves of a factor and their sum, as three blocks
---     laid-whole, laid-halves         both factors
+-- The factors in their buffers, and the words of the product.
+--     front-lead, front-at, front-end     a list behind 15 zeros
+--     framed                              it begins and ends with zeros
+-- Theorems:
+--     ready        what the layout loops leave is laid
+--     rows-are     the rows of what is laid, sixteen after sixteen, are the words of the product
+--     reduced-is   so the sums of the groups, reduced, are the product
 -- Assumes nothing.
-use mathlib.Core.Path.{_≡_, sym, ap, ap₂, _∙_}
+use mathlib.Core.Path.{_≡_, refl, sym, ap, ap₂, _∙_, subst}
 use mathlib.Core.List.{List}
-use Prim.Native.Nat.{ℕ, _+_, _-_, _*_, _≤_, _<_}
-use native.Mathlib.Decide.{decLt}
+use Prim.Native.Nat.{ℕ, suc, _+_, _-_, _*_, _/_, _%_, _≤_, _<_}
+use native.Mathlib.Nat.{zero-add, mul-zero}
+use native.Mathlib.Decide.{ℕ-discrete, decLt}
 use native.Mathlib.Omega.{arith}
-use lib.ListN.{length, getD, List·getD-eq-default}
+use lib.ListN.{length, getD, replicate, List·getD-append, List·getD-eq-default}
+use lib.Seq.{getD-append-add, ext-getD}
 use Rattle.lists.specs.Words.{ZeroFrom}
-use Rattle.word_product_rows.specs.Placed.{Placed}
-use Rattle.word_product.specs.Rows.{Shifted, block, behind}
-use Rattle.word_product.specs.Halves.{FirstHalves, SecondHalves, Laid, sumAt, Small}
-use Rattle.word_product.proofs.Sums.{split}
-use Rattle.word_product.proofs.Blocks.{block-at, block-end}
-use Rattle.word_product.proofs.Halves.{behind-lead, behind-at, behind-end}
+use Rattle.lists.proofs.Words.{zeros-are}
+use Rattle.word_pairs.specs.Pairs.{up}
+use Rattle.word_layout.specs.Layout.{Stand, Centred, Woven}
+use Rattle.word_layout.proofs.Loops.{stand-zero, odd-zero}
+use Rattle.word_grid.specs.Grid.{Framed, Grid, Reduced, rowsAt, sumTo, termAt}
+use Rattle.word_grid.proofs.Rows.{sum-ext, sum-more}
+use Rattle.word_grid.proofs.Steps.{grid-near}
+use Rattle.word_product.specs.Sums.{termOf, wordSum, remainders, front, Ready}
+use Rattle.word_product.proofs.Convolution.{length-remainders, getD-remainders}
+use Rattle.word_product.proofs.RowSums.{first-out}
 
--- words that are small stay small
-pub placed-below : (m : ℕ) {d n : ℕ} {f : ℕ → ℕ} {old new : List ℕ} → Placed d n f old new → ((k : ℕ) → getD old k 0 < m) → ((k : ℕ) → f k < m)
-    → (k : ℕ) → getD new k 0 < m
-placed-below m {d} {n} {f} {old} {new} p u v k = go (decLt k d) (decLt k (d + n))
+split : (n i : ℕ) → n ≤ i → n + (i - n) ≡ i
+split n i l = omega arith
+
+module _ (b : List ℕ) where
+  front-lead : (k : ℕ) → k < 15 → getD (front b) k 0 ≡ 0
+  unfolding front
+  front-lead k l = List·getD-append (replicate 15 0) b 0 k l ∙ zeros-are 15 .at k (omega arith)
+
+  front-at : (k : ℕ) → getD (front b) (15 + k) 0 ≡ getD b k 0
+  unfolding front
+  front-at k = getD-append-add (replicate 15 0) b k 0
+
+  front-end : (k : ℕ) → length b + 15 ≤ k → getD (front b) k 0 ≡ 0
+  front-end k l =
+      ap (λ j. getD (front b) j 0) (sym (split 15 k (omega arith))) ∙ front-at (k - 15) ∙ List·getD-eq-default b 0 (omega arith)
+
+  pub framed : (m : ℕ) → length b + 15 ≤ m → Framed (front b) m
+  framed m h = record { lead = λ q l. front-lead q l; tail = λ q l. front-end q (omega arith) }
+
+-- words that stand for those of a list
+stand-at : {p d : ℕ} {l s : List ℕ} → Centred p d l s (length l) → (k : ℕ) → Stand p (getD l k 0) (getD s (d + k) 0)
+stand-at {p} {d} {l} {s} c k = go (decLt k (length l))
   where
-    go : Dec (k < d) → Dec (k < d + n) → getD new k 0 < m
-    go (yes l) _ = omega (arith, p .low k l, u k)
-    go (no l) (yes h) =
-        omega (arith, ap (λ i. getD new i 0) (split d k (omega arith)), p .at (k - d) (omega arith), v (k - d))
-    go (no l) (no h) = omega (arith, p .high k (omega arith), u k)
+    go : Dec (k < length l) → Stand p (getD l k 0) (getD s (d + k) 0)
+    go (yes h) = c .done k h
+    go (no h) = rw (List·getD-eq-default l 0 {n = k} (omega arith), c .rest (d + k) (omega arith)) (stand-zero p)
 
-pub zero-below : {s : List ℕ} → ZeroFrom 0 s → (k : ℕ) → getD s k 0 < 65536
-zero-below z k = omega (arith, z .at k (omega arith))
-
-pub below-small : (n : ℕ) {s : List ℕ} → ((k : ℕ) → getD s k 0 < 65536) → Small n s
-below-small n b = record { at = λ k l. omega (arith, b k) }
-
--- a whole list
-pub shifted-is : (d : ℕ) {l old s : List ℕ} → ZeroFrom 0 old → Placed d (length l) (λ k. getD l (0 + k) 0) old s → Shifted d l s
-shifted-is d {l} {old} {s} z p =
-    record { lead = λ k h. p .low k h ∙ z .at k (omega arith); at = λ k. go k (decLt k (length l)) }
+stand-front : {p : ℕ} {b y : List ℕ} → Centred p 15 b y (length b) → (k : ℕ) → Stand p (getD (front b) k 0) (getD y k 0)
+stand-front {p} {b} {y} c k = go (decLt k 15)
   where
-    same : (k : ℕ) → 0 + k ≡ k
-    same k = omega arith
+    go : Dec (k < 15) → Stand p (getD (front b) k 0) (getD y k 0)
+    go (yes h) = rw (front-lead b k h, c .low k h) (stand-zero p)
+    go (no h) =
+        subst (λ i. Stand p (getD (front b) i 0) (getD y i 0)) (split 15 k (omega arith)) (rw (front-at b (k - 15)) (stand-at c (k - 15)))
 
-    go : (k : ℕ) → Dec (k < length l) → getD s (d + k) 0 ≡ getD l k 0
-    go k (yes h) = p .at k h ∙ ap (λ i. getD l i 0) (same k)
-    go k (no h) = p .high (d + k) (omega arith) ∙ z .at (d + k) (omega arith) ∙ sym (List·getD-eq-default l 0 (omega arith))
+module _ {p : ℕ} {a b x y w : List ℕ} (n : ℕ) (ca : Centred p 0 a x (length a)) (cb : Centred p 15 b y (length b)) (wo : Woven y w (16 * n + 14))
+    (lb : length b + 15 ≤ 16 * n) where
+  first : (k : ℕ) → Stand p (getD a k 0) (getD x k 0)
+  first k = subst (λ i. Stand p (getD a k 0) (getD x i 0)) (zero-add k) (stand-at ca k)
 
--- the third block is the sum of the first two
-module _ (d : ℕ) {s new : List ℕ} (p : Placed (2 * d) d (sumAt d s) s new) where
-  zeroth : (k : ℕ) → 0 * d + k ≡ k
-  zeroth k = omega arith
+  upper : (q : ℕ) → Dec (q < 16 * n + 14) → Stand p (getD (front b) (q + 1) 0) (getD w (2 * q) 0)
+  upper q (yes h) = rw (wo .upper q h) (stand-front cb (q + 1))
+  upper q (no h) = rw (front-end b (q + 1) (omega (arith, lb)), wo .rest (2 * q) (omega arith)) (stand-zero p)
 
-  firsts : (k : ℕ) → 1 * d + k ≡ d + k
-  firsts k = omega arith
+  lower : (q : ℕ) → Dec (q < 16 * n + 14) → Stand p (getD (front b) q 0) (getD w (2 * q + 1) 0)
+  lower q (yes h) = rw (wo .lower q h) (stand-front cb q)
+  lower q (no h) = rw (front-end b q (omega (arith, lb)), wo .rest (2 * q + 1) (omega arith)) (stand-zero p)
 
-  pub first-block : (k : ℕ) → k < d → getD (block d 0 new) k 0 ≡ getD s k 0
-  first-block k l = block-at d 0 new k l ∙ ap (λ i. getD new i 0) (zeroth k) ∙ p .low k (omega arith)
+  odd-even : (i : ℕ) → Dec (i < 16 * n + 14) → 0 < up (getD w (2 * i) 0)
+  odd-even i (yes h) = rw (wo .upper i h) (cb .odd .at (i + 1))
+  odd-even i (no h) = rw (wo .rest (2 * i) (omega arith)) odd-zero
 
-  pub second-block : (k : ℕ) → k < d → getD (block d 1 new) k 0 ≡ getD s (d + k) 0
-  second-block k l = block-at d 1 new k l ∙ ap (λ i. getD new i 0) (firsts k) ∙ p .low (d + k) (omega arith)
+  odd-odd : (i : ℕ) → Dec (i < 16 * n + 14) → 0 < up (getD w (2 * i + 1) 0)
+  odd-odd i (yes h) = rw (wo .lower i h) (cb .odd .at i)
+  odd-odd i (no h) = rw (wo .rest (2 * i + 1) (omega arith)) odd-zero
 
-  pub third-block : (k : ℕ) → getD (block d 2 new) k 0 ≡ getD (block d 0 new) k 0 + getD (block d 1 new) k 0
-  unfolding sumAt
-  third-block k = go (decLt k d)
+  half : (k : ℕ) → k % 2 ≡ 0 → 2 * (k / 2) ≡ k
+  half k e = omega (arith, e)
+
+  half-odd : (k : ℕ) → ¬ (k % 2 ≡ 0) → 2 * (k / 2) + 1 ≡ k
+  half-odd k e = omega (arith, e)
+
+  odd-all : (k : ℕ) → Dec (k % 2 ≡ 0) → 0 < up (getD w k 0)
+  odd-all k (yes e) = subst (λ i. 0 < up (getD w i 0)) (half k e) (odd-even (k / 2) (decLt (k / 2) (16 * n + 14)))
+  odd-all k (no e) = subst (λ i. 0 < up (getD w i 0)) (half-odd k e) (odd-odd (k / 2) (decLt (k / 2) (16 * n + 14)))
+
+  pub ready : Ready p a b w x
+  ready = record {
+    odd = record { at = λ k. odd-all k (ℕ-discrete (k % 2) 0) };
+    laid = record {
+      first = first;
+      upper = λ q. upper q (decLt q (16 * n + 14));
+      lower = λ q. lower q (decLt q (16 * n + 14));
+    };
+  }
+
+module _ (a b : List ℕ) where
+  -- a row that has a word at k, and one that has none
+  row-in : (k j : ℕ) → j ≤ k → termAt a (front b) 0 k j ≡ termOf a b k j
+  unfolding termAt termOf
+  row-in k j h =
+      ap₂ (λ i u. getD a i 0 * u) (zero-add j) (ap (λ i. getD (front b) i 0) (place k j h) ∙ front-at b (k - j))
     where
-      go : Dec (k < d) → getD (block d 2 new) k 0 ≡ getD (block d 0 new) k 0 + getD (block d 1 new) k 0
-      go (yes l) = block-at d 2 new k l ∙ p .at k l ∙ sym (ap₂ (λ u v. u + v) (first-block k l) (second-block k l))
-      go (no l) =
-          omega (arith, block-end d 2 new k (omega arith), block-end d 0 new k (omega arith), block-end d 1 new k (omega arith))
+      place : (k j : ℕ) → j ≤ k → k + 15 - j ≡ 15 + (k - j)
+      place k j h = omega arith
 
-pub first-halves : (h : ℕ) {a x new : List ℕ} → Shifted 0 a x → Placed (2 * h) h (sumAt h x) x new
-    → FirstHalves h a (block h 0 new) (block h 1 new) (block h 2 new)
-first-halves h {a} {x} {new} f p =
-    record {
-      low = λ k l. first-block h p k l ∙ word k;
-      high = λ k l. second-block h p k l ∙ word (h + k);
-      sum = third-block h p;
-    }
-  where
-    same : (k : ℕ) → k ≡ 0 + k
-    same k = omega arith
+  row-out : (k j : ℕ) → k < j → termAt a (front b) 0 k j ≡ 0
+  unfolding termAt
+  row-out k j h = ap (λ u. getD a (0 + j) 0 * u) (front-lead b (k + 15 - j) (omega arith)) ∙ mul-zero _
 
-    word : (k : ℕ) → getD x k 0 ≡ getD a k 0
-    word k = ap (λ i. getD x i 0) (same k) ∙ f .at k
-
--- the halves of the second factor, each behind 7 zeros
-module _ (h : ℕ) (b : List ℕ) {s₀ s₁ s₂ : List ℕ} (z : ZeroFrom 0 s₀) (p : Placed 7 h (λ k. getD b (0 + k) 0) s₀ s₁)
-    (q : Placed (h + 22) (length b - h) (λ k. getD b (h + k) 0) s₁ s₂) where
-  low-lead : (k : ℕ) → k < 7 → getD s₂ k 0 ≡ 0
-  low-lead k l = q .low k (omega arith) ∙ p .low k l ∙ z .at k (omega arith)
-
-  low-word : (k : ℕ) → k < h → getD s₂ (7 + k) 0 ≡ getD b k 0
-  low-word k l = q .low (7 + k) (omega arith) ∙ p .at k l ∙ ap (λ i. getD b i 0) (same k)
+  pub rows-are : (k n : ℕ) → length a ≤ n → rowsAt a (front b) k n ≡ wordSum a b k
+  unfolding rowsAt wordSum
+  rows-are k n l = go (decLt k n)
     where
-      same : (k : ℕ) → 0 + k ≡ k
-      same k = omega arith
+      go : Dec (k < n) → sumTo n (termAt a (front b) 0 k) ≡ sumTo (suc k) (termOf a b k)
+      go (yes h) =
+          sym (sum-more (suc k) n _ h (λ j p q. row-out k j p)) ∙ sum-ext (suc k) (λ j p. row-in k j (omega arith))
+      go (no h) =
+          sum-ext n (λ j p. row-in k j (omega arith)) ∙ sum-more n (suc k) _ (omega arith) (λ j p q. first-out a b k j (omega arith))
 
-  between : (k : ℕ) → h + 7 ≤ k → k < h + 22 → getD s₂ k 0 ≡ 0
-  between k l m = q .low k m ∙ p .high k (omega arith) ∙ z .at k (omega arith)
-
-  high-word : (k : ℕ) → k < length b - h → getD s₂ (h + 22 + k) 0 ≡ getD b (h + k) 0
-  high-word k l = q .at k l
-
-  high-end : (k : ℕ) → h + 22 + (length b - h) ≤ k → getD s₂ k 0 ≡ 0
-  high-end k l = q .high k l ∙ p .high k (omega arith) ∙ z .at k (omega arith)
-
-  pub second-halves : {new : List ℕ} → h ≤ length b → length b ≤ 2 * h + 1 → Placed (2 * (h + 15)) (h + 15) (sumAt (h + 15) s₂) s₂ new
-      → SecondHalves h b (block (h + 15) 0 new) (block (h + 15) 1 new) (block (h + 15) 2 new)
-  second-halves {new} g m r =
-      record {
-        low = λ k l. first-block (h + 15) r k (omega arith) ∙ low k l (decLt k 7);
-        end = λ k l. end k l (decLt k (h + 15));
-        lead = λ k l. second-block (h + 15) r k (omega arith) ∙ between (h + 15 + k) (omega arith) (omega arith);
-        high = λ k l. high k l (decLt k (h + 15)) (decLt (h + k) (length b + 7));
-        sum = third-block (h + 15) r;
-      }
-    where
-      low : (k : ℕ) → k < h + 7 → Dec (k < 7) → getD s₂ k 0 ≡ getD (behind b) k 0
-      low k l (yes t) = low-lead k t ∙ sym (behind-lead b k t)
-      low k l (no t) =
-          ap (λ i. getD s₂ i 0) (split 7 k (omega arith))
-          ∙ low-word (k - 7) (omega arith)
-          ∙ sym (ap (λ i. getD (behind b) i 0) (split 7 k (omega arith)) ∙ behind-at b (k - 7))
-
-      end : (k : ℕ) → h + 7 ≤ k → Dec (k < h + 15) → getD (block (h + 15) 0 new) k 0 ≡ 0
-      end k l (yes t) = first-block (h + 15) r k t ∙ between k l (omega arith)
-      end k l (no t) = block-end (h + 15) 0 new k (omega arith)
-
-      place : (k : ℕ) → 7 ≤ k → h + 15 + k ≡ h + 22 + (k - 7)
-      place k l = omega arith
-
-      again : (k : ℕ) → 7 ≤ k → h + k ≡ 7 + (h + (k - 7))
-      again k l = omega arith
-
-      high : (k : ℕ) → 7 ≤ k → Dec (k < h + 15) → Dec (h + k < length b + 7) → getD (block (h + 15) 1 new) k 0 ≡ getD (behind b) (h + k) 0
-      high k l (yes t) (yes u) =
-          second-block (h + 15) r k t
-          ∙ ap (λ i. getD s₂ i 0) (place k l)
-          ∙ high-word (k - 7) (omega arith)
-          ∙ sym (ap (λ i. getD (behind b) i 0) (again k l) ∙ behind-at b (h + (k - 7)))
-      high k l (yes t) (no u) =
-          second-block (h + 15) r k t ∙ high-end (h + 15 + k) (omega arith) ∙ sym (behind-end b (h + k) (omega arith))
-      high k l (no t) _ = block-end (h + 15) 1 new k (omega arith) ∙ sym (behind-end b (h + k) (omega arith))
-
-pub laid-whole : {g : ℕ} {a b x y : List ℕ} → g ≡ 0 → Shifted 0 a x → Shifted 7 b y → Laid g a b x y
-laid-whole e f s = record { whole = λ _. (f, s); first = λ l. absurd (omega arith); second = λ l. absurd (omega arith) }
-
-pub laid-halves : (g : ℕ) {a b x y : List ℕ} → 0 < g → FirstHalves (8 * g) a (block (8 * g) 0 x) (block (8 * g) 1 x) (block (8 * g) 2 x)
-    → SecondHalves (8 * g) b (block (8 * g + 15) 0 y) (block (8 * g + 15) 1 y) (block (8 * g + 15) 2 y) → Laid g a b x y
-laid-halves g l f s = record { whole = λ e. absurd (omega arith); first = λ _. f; second = λ _. s }
+  pub reduced-is : {p : ℕ} → 65497 ≤ p → p ≤ 65521 → {w x lo₀ hi₀ lo hi out : List ℕ} (g n : ℕ) → Ready p a b w x → length a ≤ 16 * g → g ≤ 64 → length b + 15 ≤ 16 * n
+      → ZeroFrom 0 lo₀ → ZeroFrom 0 hi₀ → Grid w x n lo₀ hi₀ g lo hi → Reduced p lo hi out (length out) → out ≡ remainders p (length out) a b
+  reduced-is {p} lp hp {w} {x} {lo₀} {hi₀} {lo} {hi} {out} g n r la lg lb u v t d =
+      ext-getD 0 out (remainders p (length out) a b) (sym (length-remainders p (length out) a b))
+      (λ k h. d .at k h ∙ grid-near lp hp (r .laid) (framed b (16 * n) lb) u v lg t k ∙ ap (λ i. i % p) (rows-are k (16 * g) la)
+      ∙ sym (getD-remainders p (length out) a b k h))

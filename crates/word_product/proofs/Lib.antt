@@ -1,11 +1,4 @@
-pub mod Sums
-pub mod Rows
-pub mod Blocks
-pub mod Halves
-pub mod Joining
-pub mod Cuts
-pub mod Laying
-pub mod OneProduct
-pub mod ThreeProducts
-pub mod Whole
 pub mod Convolution
+pub mod RowSums
+pub mod Laying
+pub mod Fields

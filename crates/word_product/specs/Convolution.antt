@@ -3,8 +3,9 @@
 --     convolution F a b             the words of the product of two series that two lists of words are
 --     convolvedInto                 what the result slice holds at the end: the product where it fits, else what it held
 -- Theorems (proofs/Convolution):
---     convolution-is         the product in whole numbers, reduced, is this
+--     convolution-is         the words of the product in whole numbers, reduced, are this
 --     length-convolution     it has one word less than both lists together
+--     convolution-turned     the factors may be exchanged
 -- Assumes nothing.
 use mathlib.Core.Bool.{Bool, cond, _&&_}
 use mathlib.Core.List.{List}

@@ -1,3 +1,2 @@
 pub mod Convolution
-pub mod Rows
-pub mod Halves
+pub mod Sums

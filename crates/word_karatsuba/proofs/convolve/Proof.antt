@@ -8,8 +8,8 @@ use borrow.Author.Needs.{needs}
 use borrow.Author.Tests.{eq-eqb, ne-eqb, le-leb, lt-leb}
 use Rattle.refusal.specs.Limits.{maxWords}
 use Rattle.field.specs.Fields.{fieldAt}
-use Rattle.word_karatsuba.proofs.Products.{convolution-turned}
 use Rattle.word_product.specs.Convolution.{convolveFits}
+use Rattle.word_product.proofs.Convolution.{convolution-turned}
 use Rattle.word_karatsuba.proofs.convolve.Statement.{statement}
 use Rattle.word_karatsuba.proofs.convolve.Tie as tie
 

@@ -1,17 +1,22 @@
--- `word_product::convolve` meets its contract: its tests are `convolveFits`, and then it is one of the three products.
+-- `word_product::convolve` meets its contract: its tests are `convolveFits`, and then it is the product of the factors, in one order or the other.
 -- Assumes nothing.
-use mathlib.Core.Path.{_≡_}
+use mathlib.Core.Path.{_≡_, _∙_}
 use mathlib.Core.Bool.{true}
 use mathlib.Core.List.{List}
 use Prim.Native.Nat.{ℕ, _+_, _≤_}
 use native.Mathlib.Omega.{arith}
 use lib.ListN.{length}
-use borrow.Author.Needs.{needs}
 use borrow.Author.Tests.{eq-eqb, ne-eqb, le-leb, lt-leb}
 use Rattle.refusal.specs.Limits.{maxWords}
+use Rattle.field.specs.Fields.{fieldAt}
 use Rattle.word_product.specs.Convolution.{convolveFits}
+use Rattle.word_product.proofs.Convolution.{convolution-turned}
+use borrow.Author.Needs.{needs}
 use Rattle.word_product.proofs.convolve.Statement.{statement}
 use Rattle.word_product.proofs.convolve.Tie as tie
+use Rattle.word_product.proofs.convolve.Reads as reads
+use Rattle.word_product.proofs.convolve.Lts as lts
+use Rattle.word_product.proofs.convolve_fitting.Reads as convolve-fitting-reads
 
 -- where nothing is wrong
 fits : (a b out : List ℕ) → length a ≤ maxWords → length b ≤ maxWords → length out + 1 ≡ length a + length b → convolveFits maxWords a b out ≡ true
@@ -25,56 +30,48 @@ returns c = rw (lt-leb (length (c .before .before .before .before .args .a .now)
 returns-2 : tie.Need-returns-2
 unfolding convolveFits
 returns-2 c =
-    let args = c .before .before .before .before .before .args in
-    rw (le-leb (length (args .a .now)) maxWords (omega arith), lt-leb (length (args .b .now)) maxWords (omega arith))
-
-add-together : tie.Need-add-together
-add-together c = search needs
+    let a = length (c .before .before .before .before .before .args .a .now) in
+    let b = length (c .before .before .before .before .before .args .b .now) in
+    rw (le-leb a maxWords (omega arith), lt-leb b maxWords (omega arith))
 
 add-if3 : tie.Need-add-if3
 add-if3 c = search needs
 
+add-if3-2 : tie.Need-add-if3-2
+add-if3-2 c = search needs
+
 returns-3 : tie.Need-returns-3
 unfolding convolveFits
 returns-3 c =
-    let args = c .before .before .before .before .before .before .args in
-    let a = length (args .a .now) in
-    let b = length (args .b .now) in
-    let out = length (args .out .now) in
+    let a = length (c .before .before .before .before .before .before .args .a .now) in
+    let b = length (c .before .before .before .before .before .before .args .b .now) in
+    let out = length (c .before .before .before .before .before .before .args .out .now) in
     rw (le-leb a maxWords (omega arith), le-leb b maxWords (omega arith), ne-eqb (out + 1) (a + b) (λ e. omega arith))
 
-convolve-few-requires : tie.Need-convolve-few-requires
-convolve-few-requires c κs = search needs
+convolve-fitting-requires : tie.Need-convolve-fitting-requires
+convolve-fitting-requires c κs = search needs
 
 same-length : tie.Need-same-length
 same-length c = search needs
 
 returns-4 : tie.Need-returns-4
 returns-4 c =
-    let args = c .before .before .before .before .before .before .before .before .before .before .before .args in
-    rw (fits (args .a .now) (args .b .now) (args .out .now) (omega arith) (omega arith) (omega arith)) (c .before .before .convolve-few .ensures)
+    let a = c .before .before .before .before .before .before .before .before .before .before .before .args .a .now in
+    let b = c .before .before .before .before .before .before .before .before .before .before .before .args .b .now in
+    rw (fits a b (c .before .before .before .before .before .before .before .before .before .before .before .args .out .now) (omega arith) (omega arith) (omega arith))
+    (c .before .before .convolve-fitting .ensures ∙ convolution-turned (fieldAt (c .before .before .before .before .before .before .before .before .before .before .before .args .field)) a b)
 
-convolve-more-requires : tie.Need-convolve-more-requires
-convolve-more-requires c κs = search needs
+convolve-fitting-requires-2 : tie.Need-convolve-fitting-requires-2
+convolve-fitting-requires-2 c κs = search needs
 
 same-length-2 : tie.Need-same-length-2
 same-length-2 c = search needs
 
 returns-5 : tie.Need-returns-5
 returns-5 c =
-    let args = c .before .before .before .before .before .before .before .before .before .before .before .before .args in
-    rw (fits (args .a .now) (args .b .now) (args .out .now) (omega arith) (omega arith) (omega arith)) (c .before .before .convolve-more .ensures)
-
-convolve-any-requires : tie.Need-convolve-any-requires
-convolve-any-requires c κs = search needs
-
-same-length-3 : tie.Need-same-length-3
-same-length-3 c = search needs
-
-returns-6 : tie.Need-returns-6
-returns-6 c =
-    let args = c .before .before .before .before .before .before .before .before .before .before .before .before .args in
-    rw (fits (args .a .now) (args .b .now) (args .out .now) (omega arith) (omega arith) (omega arith)) (c .before .before .convolve-any .ensures)
+    let a = c .before .before .before .before .before .before .before .before .before .before .before .args .a .now in
+    let b = c .before .before .before .before .before .before .before .before .before .before .before .args .b .now in
+    rw (fits a b (c .before .before .before .before .before .before .before .before .before .before .before .args .out .now) (omega arith) (omega arith) (omega arith)) (c .before .before .convolve-fitting2 .ensures)
 
 pub convolve-spec : {M : Type 1} → statement M
 convolve-spec =
@@ -82,15 +79,12 @@ convolve-spec =
     (tie.spec
     returns
     returns-2
-    add-together
     add-if3
+    add-if3-2
     returns-3
-    convolve-few-requires
+    convolve-fitting-requires
     same-length
     returns-4
-    convolve-more-requires
+    convolve-fitting-requires-2
     same-length-2
-    returns-5
-    convolve-any-requires
-    same-length-3
-    returns-6)
+    returns-5)

@@ -1,12 +1,14 @@
 -- `word_product::convolve_any` meets its contract: it lends arrays of zeros for factors of any length.
 -- Assumes nothing.
-use mathlib.Core.Path.{refl}
 use Prim.Native.Nat.{_+_, _*_}
 use Rattle.refusal.specs.Limits.{maxWords}
 use Rattle.lists.proofs.Words.{zeros-are}
 use borrow.Author.Needs.{needs}
 use Rattle.word_product.proofs.convolve_any.Statement.{statement}
 use Rattle.word_product.proofs.convolve_any.Tie as tie
+use Rattle.word_product.proofs.convolve_any.Reads as reads
+use Rattle.word_product.proofs.convolve_any.Lts as lts
+use Rattle.word_product.proofs.convolve_in.Reads as convolve-in-reads
 
 slice-aggregate-convolve-in : tie.Need-slice-aggregate-convolve-in
 slice-aggregate-convolve-in c = search needs
@@ -17,11 +19,26 @@ slice-aggregate-convolve-in-2 c = search needs
 slice-aggregate-convolve-in-3 : tie.Need-slice-aggregate-convolve-in-3
 slice-aggregate-convolve-in-3 c = search needs
 
+slice-aggregate-convolve-in-4 : tie.Need-slice-aggregate-convolve-in-4
+slice-aggregate-convolve-in-4 c = search needs
+
+slice-aggregate-convolve-in-5 : tie.Need-slice-aggregate-convolve-in-5
+slice-aggregate-convolve-in-5 c = search needs
+
+slice-aggregate-convolve-in-6 : tie.Need-slice-aggregate-convolve-in-6
+slice-aggregate-convolve-in-6 c = search needs
+
 convolve-in-requires : tie.Need-convolve-in-requires
 convolve-in-requires c κs =
-    let start = c .before .before .before .before .before .before .before in (
-      (search needs, search needs, search needs),
-      ((refl, refl), (start .pre .2, (zeros-are (maxWords + 8), zeros-are (maxWords + 16), zeros-are (2 * maxWords + 8)))),
+    let start = c .before .before .before .before .before .before .before .before .before .before in (
+      (start .pre .0, start .pre .1, start .pre .2),
+      (
+        (search needs, search needs, search needs, search needs),
+        (
+          (search needs, search needs),
+          (zeros-are (maxWords + 16), zeros-are (maxWords + 48), zeros-are (2 * maxWords + 96), zeros-are (2 * maxWords + 32), zeros-are (2 * maxWords + 32)),
+        ),
+      ),
     )
 
 same-length : tie.Need-same-length
@@ -37,6 +54,9 @@ convolve-any-spec =
     slice-aggregate-convolve-in
     slice-aggregate-convolve-in-2
     slice-aggregate-convolve-in-3
+    slice-aggregate-convolve-in-4
+    slice-aggregate-convolve-in-5
+    slice-aggregate-convolve-in-6
     convolve-in-requires
     same-length
     returns)

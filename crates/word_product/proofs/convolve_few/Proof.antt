@@ -1,12 +1,14 @@
 -- `word_product::convolve_few` meets its contract: it lends arrays of zeros for factors of few words together.
 -- Assumes nothing.
-use mathlib.Core.Path.{refl}
 use Prim.Native.Nat.{_+_, _*_}
 use Rattle.lists.proofs.Words.{zeros-are}
-use Rattle.word_product.specs.Halves.{fewWords}
+use Rattle.word_product.specs.Sums.{fewWords}
 use borrow.Author.Needs.{needs}
 use Rattle.word_product.proofs.convolve_few.Statement.{statement}
 use Rattle.word_product.proofs.convolve_few.Tie as tie
+use Rattle.word_product.proofs.convolve_few.Reads as reads
+use Rattle.word_product.proofs.convolve_few.Lts as lts
+use Rattle.word_product.proofs.convolve_in.Reads as convolve-in-reads
 
 slice-aggregate-convolve-in : tie.Need-slice-aggregate-convolve-in
 slice-aggregate-convolve-in c = search needs
@@ -17,11 +19,26 @@ slice-aggregate-convolve-in-2 c = search needs
 slice-aggregate-convolve-in-3 : tie.Need-slice-aggregate-convolve-in-3
 slice-aggregate-convolve-in-3 c = search needs
 
+slice-aggregate-convolve-in-4 : tie.Need-slice-aggregate-convolve-in-4
+slice-aggregate-convolve-in-4 c = search needs
+
+slice-aggregate-convolve-in-5 : tie.Need-slice-aggregate-convolve-in-5
+slice-aggregate-convolve-in-5 c = search needs
+
+slice-aggregate-convolve-in-6 : tie.Need-slice-aggregate-convolve-in-6
+slice-aggregate-convolve-in-6 c = search needs
+
 convolve-in-requires : tie.Need-convolve-in-requires
 convolve-in-requires c κs =
-    let start = c .before .before .before .before .before .before .before in (
-      (search needs, search needs, search needs),
-      ((refl, refl), (start .pre .1, (zeros-are (fewWords + 8), zeros-are (fewWords + 16), zeros-are (2 * fewWords + 8)))),
+    let start = c .before .before .before .before .before .before .before .before .before .before in (
+      (search needs, search needs, start .pre .1),
+      (
+        (search needs, search needs, search needs, search needs),
+        (
+          (search needs, search needs),
+          (zeros-are (fewWords + 16), zeros-are (fewWords + 48), zeros-are (2 * fewWords + 96), zeros-are (fewWords + 32), zeros-are (fewWords + 32)),
+        ),
+      ),
     )
 
 same-length : tie.Need-same-length
@@ -37,6 +54,9 @@ convolve-few-spec =
     slice-aggregate-convolve-in
     slice-aggregate-convolve-in-2
     slice-aggregate-convolve-in-3
+    slice-aggregate-convolve-in-4
+    slice-aggregate-convolve-in-5
+    slice-aggregate-convolve-in-6
     convolve-in-requires
     same-length
     returns)

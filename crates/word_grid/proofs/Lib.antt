@@ -1,0 +1,4 @@
+pub mod Near
+pub mod Remainders
+pub mod Rows
+pub mod Steps

@@ -1,3 +1,0 @@
-pub mod Placing
-pub mod Dots
-pub mod Groups

@@ -9,14 +9,15 @@
 --     lowOf a b             the sum of the low halves: that of the whole pairs less that of the high halves
 --     highOf p b            the sum of the high halves and 512 p; it is a number as long as there are at most 64 groups
 --     Reducible             both are so small that the reduction has 31 bits
---     Reduced               the first n words, reduced
+--     reducedWords          the first n words, reduced
 -- Theorems (proofs/Steps):
 --     grid-reducible, grid-near     after at most 64 groups the sums are reducible, and are the rows modulo p
 -- Assumes nothing.
 use mathlib.Core.Path.{_≡_}
 use mathlib.Core.List.{List}
 use Prim.Native.Nat.{ℕ, zero, suc, _+_, _-_, _*_, _%_, _≤_, _<_}
-use lib.ListN.{length, getD}
+use lib.ListN.{getD}
+use Rattle.lists.specs.Tabulate.{tabulate}
 use Rattle.word_strips.specs.Strips.{Span}
 use Rattle.word_layout.specs.Layout.{Stand}
 
@@ -61,5 +62,5 @@ pub record Reducible (p : ℕ) (lo hi : List ℕ) : Type 0 where
   pub low : (k : ℕ) → lowOf (getD lo k 0) (getD hi k 0) ≤ 33554432
   pub high : (k : ℕ) → highOf p (getD hi k 0) ≤ 50331648
 
-pub record Reduced (p : ℕ) (lo hi out : List ℕ) (n : ℕ) : Type 0 where
-  pub at : (k : ℕ) → k < n → getD out k 0 ≡ (lowOf (getD lo k 0) (getD hi k 0) + 65536 * highOf p (getD hi k 0)) % p
+unfoldable pub reducedWords : (p n : ℕ) → (lo hi : List ℕ) → List ℕ
+reducedWords p n lo hi = tabulate n (λ k. (lowOf (getD lo k 0) (getD hi k 0) + 65536 * highOf p (getD hi k 0)) % p)

@@ -20,8 +20,8 @@ use Rattle.lists.proofs.Words.{zeros-are}
 use Rattle.word_pairs.specs.Pairs.{up}
 use Rattle.word_layout.specs.Layout.{Stand, Centred, Woven}
 use Rattle.word_layout.proofs.Loops.{stand-zero, odd-zero}
-use Rattle.word_grid.specs.Grid.{Framed, Grid, reducedWords, rowsAt, sumTo, termAt}
-use Rattle.word_grid.proofs.Rows.{sum-ext, sum-more}
+use Rattle.word_grid.specs.Grid.{Grid, reducedWords, sumTo}
+use Rattle.word_grid.proofs.Rows.{termAt, rowsAt, Framed, sum-ext, sum-more}
 use Rattle.word_grid.proofs.Steps.{grid-near}
 use Rattle.word_product.specs.Sums.{termOf, wordSum, remainders, front, Ready}
 use Rattle.word_product.proofs.RowSums.{first-out}

@@ -4,8 +4,7 @@ use mathlib.Core.Path.{_≡_, refl, _∙_}
 use Prim.Native.Nat.{_-_, _≤_}
 use native.Mathlib.Omega.{arith}
 use lib.ListN.{length}
-use Rattle.word_layout.specs.Layout.{Part}
-use Rattle.word_layout.proofs.Loops.{part-start, part-next, part-end}
+use Rattle.word_layout.proofs.Loops.{Part, part-start, part-next, part-end}
 use borrow.Author.Needs.{needs}
 use Rattle.word_layout.proofs.spread.Statement.{statement}
 use Rattle.word_layout.proofs.spread.Tie as tie

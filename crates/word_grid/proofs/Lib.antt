@@ -1,4 +1,4 @@
-pub mod Near
 pub mod Remainders
 pub mod Rows
+pub mod Near
 pub mod Steps

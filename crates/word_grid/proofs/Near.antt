@@ -1,4 +1,5 @@
 -- Sixteen rows modulo p.
+--     Near p x y                    two numbers are the same modulo p
 --     near-add                      sums of numbers that are the same modulo p
 --     pair-near, pair-term          a pair is the sum of two products modulo p, those of its rows
 --     strip-near                    sixteen rows at an output
@@ -13,7 +14,13 @@ use Rattle.word_pairs.specs.Pairs.{up, pairOf}
 use Rattle.word_pairs.proofs.Integers.{least, most, up-less}
 use Rattle.word_strips.specs.Strips.{pairAt, wholeAt, highAt}
 use Rattle.word_layout.specs.Layout.{Stand}
-use Rattle.word_grid.specs.Grid.{Near, sumTo, termAt, Laid}
+use Rattle.word_grid.specs.Grid.{sumTo, Laid}
+use Rattle.word_grid.proofs.Rows.{termAt}
+
+pub record Near (p x y : ℕ) : Type 0 where
+  pub left : ℕ
+  pub right : ℕ
+  pub at : x + p * left ≡ y + p * right
 
 pub near-add : {p x y x′ y′ : ℕ} → Near p x y → Near p x′ y′ → Near p (x + x′) (y + y′)
 near-add a b = record { left = a .left + b .left; right = a .right + b .right; at = omega (arith, a .at, b .at) }

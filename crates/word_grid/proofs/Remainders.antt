@@ -2,18 +2,18 @@
 --     few                            a product with 2^16 - p, which is at most 39
 --     split, folded                  2^16 is 2^16 - p modulo p
 --     last-is                        one more number passes 2^16
---     reduced-start, reduced-next    one word after the other
+--     length-reduced, getD-reduced   the words, reduced
 -- Assumes nothing.
 use mathlib.Core.Path.{_≡_, sym, ap, _∙_}
 use mathlib.Core.List.{List}
 use Prim.Native.Nat.{ℕ, _+_, _-_, _*_, _/_, _%_, _<_, _≤_}
-use native.Mathlib.Decide.{ℕ-discrete, decLt}
+use native.Mathlib.Decide.{decLt}
 use native.Mathlib.Nat.{mul-le-mul}
 use native.Mathlib.Omega.{arith}
-use lib.ListN.{length, getD, set}
-use lib.Seq.{getD-set-same, getD-set-other}
+use lib.ListN.{length, getD}
+use Rattle.lists.proofs.Tabulate.{length-tabulate, getD-tabulate}
 use Rattle.word_montgomery.proofs.Words.{remainder}
-use Rattle.word_grid.specs.Grid.{lowOf, highOf, Reduced}
+use Rattle.word_grid.specs.Grid.{lowOf, highOf, reducedWords}
 
 pub few : (c q : ℕ) → c ≤ 39 → c * q ≤ 39 * q
 few c q h = mul-le-mul {n₁ = c} {m₁ = q} {n₂ = 39} {m₂ = q} h (omega arith)
@@ -51,13 +51,11 @@ module _ (p c : ℕ) (e : c + p ≡ 65536) where
           ap (λ q. (r + c * q) % 65536) (once r c (omega arith) (omega arith)) ∙ goes r c p e (omega arith) (omega arith)
           ∙ remainder p (r - p) r 1 0 (omega arith) (omega arith)
 
-pub reduced-start : (p : ℕ) (lo hi out : List ℕ) → Reduced p lo hi out 0
-reduced-start p lo hi out = record { at = λ k h. absurd (omega arith) }
+pub length-reduced : (p n : ℕ) (lo hi : List ℕ) → length (reducedWords p n lo hi) ≡ n
+unfolding reducedWords
+length-reduced p n lo hi = length-tabulate n _
 
-pub reduced-next : {p : ℕ} {lo hi out : List ℕ} {i : ℕ} (r : ℕ) → i < length out
-    → r ≡ (lowOf (getD lo i 0) (getD hi i 0) + 65536 * highOf p (getD hi i 0)) % p → Reduced p lo hi out i → Reduced p lo hi (set out i r) (i + 1)
-reduced-next {p} {lo} {hi} {out} {i} r h e c = record { at = λ k q. go k q (ℕ-discrete k i) }
-  where
-    go : (k : ℕ) → k < i + 1 → Dec (k ≡ i) → getD (set out i r) k 0 ≡ (lowOf (getD lo k 0) (getD hi k 0) + 65536 * highOf p (getD hi k 0)) % p
-    go k q (yes f) = rw f (getD-set-same out i r 0 h ∙ e)
-    go k q (no f) = getD-set-other out i k r 0 f ∙ c .at k (omega arith)
+pub getD-reduced : (p n : ℕ) (lo hi : List ℕ) (k : ℕ) → k < n
+    → getD (reducedWords p n lo hi) k 0 ≡ (lowOf (getD lo k 0) (getD hi k 0) + 65536 * highOf p (getD hi k 0)) % p
+unfolding reducedWords
+getD-reduced p n lo hi k l = getD-tabulate n _ k l

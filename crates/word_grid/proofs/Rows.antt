@@ -1,4 +1,7 @@
 -- Sums of rows: rows that have words at an output, and rows that have none.
+--     termAt a y b k j                row b + j at its output k, where the second factor stands behind 15 zeros
+--     rowsAt a y k n                  word k of the sum of the first n rows
+--     Framed y m                      y begins with 15 zeros, and is 0 from m on
 --     sum-ext, sum-zero, sum-skip     sums of the same terms, of zeros, and of one part after another
 --     sum-more                        terms that are 0 add nothing
 --     more-in, more-out               sixteen rows more, at an output that they reach, and at one that they do not
@@ -10,7 +13,17 @@ use Prim.Native.Nat.{ℕ, zero, suc, _+_, _-_, _*_, _≤_, _<_}
 use native.Mathlib.Nat.{add-zero, zero-add, add-suc, mul-zero, le-refl}
 use native.Mathlib.Omega.{arith}
 use lib.ListN.{getD}
-use Rattle.word_grid.specs.Grid.{sumTo, termAt, rowsAt, Framed}
+use Rattle.word_grid.specs.Grid.{sumTo}
+
+unfoldable pub termAt : (a y : List ℕ) → (b k j : ℕ) → ℕ
+termAt a y b k j = getD a (b + j) 0 * getD y (k + 15 - j) 0
+
+unfoldable pub rowsAt : (a y : List ℕ) → (k n : ℕ) → ℕ
+rowsAt a y k n = sumTo n (termAt a y 0 k)
+
+pub record Framed (y : List ℕ) (m : ℕ) : Type 0 where
+  pub lead : (q : ℕ) → q < 15 → getD y q 0 ≡ 0
+  pub tail : (q : ℕ) → m ≤ q → getD y q 0 ≡ 0
 
 pub sum-ext : (n : ℕ) {f g : ℕ → ℕ} → ((j : ℕ) → j < n → f j ≡ g j) → sumTo n f ≡ sumTo n g
 unfolding sumTo

@@ -7,7 +7,7 @@
 -- Theorems:
 --     grid-reducible, grid-near     after at most 64 groups the sums are reducible, and are the rows modulo p
 -- Assumes nothing.
-use mathlib.Core.Path.{_≡_, refl, sym, ap, _∙_, subst}
+use mathlib.Core.Path.{_≡_, refl, ap, _∙_, subst}
 use mathlib.Core.List.{List}
 use mathlib.Core.Logic.{inl, inr}
 use Prim.Native.Nat.{ℕ, zero, suc, _+_, _-_, _*_, _%_, _≤_, _<_}
@@ -16,10 +16,10 @@ use native.Mathlib.Omega.{arith}
 use lib.ListN.{length, getD}
 use Rattle.lists.specs.Words.{ZeroFrom}
 use Rattle.word_montgomery.proofs.Words.{same}
-use Rattle.word_strips.specs.Strips.{wholeAt, highAt, Gain, Span}
-use Rattle.word_grid.specs.Grid.{Steps, Grid, Near, sumTo, termAt, rowsAt, Laid, Framed, lowOf, highOf, Reducible}
-use Rattle.word_grid.proofs.Near.{Halves, whole-halves, high-below, strip-near}
-use Rattle.word_grid.proofs.Rows.{more-in, more-out}
+use Rattle.word_strips.specs.Strips.{Gain, Span}
+use Rattle.word_grid.specs.Grid.{Steps, Grid, sumTo, Laid, lowOf, highOf, Reducible}
+use Rattle.word_grid.proofs.Near.{Near, Halves, whole-halves, high-below, strip-near}
+use Rattle.word_grid.proofs.Rows.{rowsAt, Framed, more-in, more-out}
 
 module _ (w x : List ℕ) (n : ℕ) (lo₀ hi₀ : List ℕ) where
   steps-lo : (g : ℕ) (lo hi : List ℕ) → Steps w x n lo₀ hi₀ g lo hi → length lo ≡ length lo₀

@@ -1,22 +1,19 @@
 -- A product modulo p by groups of sixteen rows, in two sums modulo 2^32: of whole pairs, and of their high halves.
 --     Grid                  the sums after g groups of rows of 16 n outputs; Steps says it group by group
 --     Laid p a y w x        the factors as the groups read them: the first in x, the second, y, in w, each word beside the one before it
---     Framed y m            y begins with 15 zeros, and is 0 from m on
---     Near p x y            two numbers are the same modulo p
 --     sumTo n f             the sum of the first n terms
---     termAt a y b k j      row b + j at its output k, where the second factor stands behind 15 zeros
---     rowsAt a y k n        word k of the sum of the first n rows
 --     lowOf a b             the sum of the low halves: that of the whole pairs less that of the high halves
 --     highOf p b            the sum of the high halves and 512 p; it is a number as long as there are at most 64 groups
 --     Reducible             both are so small that the reduction has 31 bits
---     Reduced               the first n words, reduced
+--     reducedWords          the first n words, reduced
 -- Theorems (proofs/Steps):
 --     grid-reducible, grid-near     after at most 64 groups the sums are reducible, and are the rows modulo p
 -- Assumes nothing.
 use mathlib.Core.Path.{_≡_}
 use mathlib.Core.List.{List}
-use Prim.Native.Nat.{ℕ, zero, suc, _+_, _-_, _*_, _%_, _≤_, _<_}
-use lib.ListN.{length, getD}
+use Prim.Native.Nat.{ℕ, zero, suc, _+_, _-_, _*_, _%_, _≤_}
+use lib.ListN.{getD}
+use Rattle.lists.specs.Tabulate.{tabulate}
 use Rattle.word_strips.specs.Strips.{Span}
 use Rattle.word_layout.specs.Layout.{Stand}
 
@@ -32,24 +29,9 @@ pub record Laid (p : ℕ) (a y w x : List ℕ) : Type 0 where
   pub upper : (q : ℕ) → Stand p (getD y (q + 1) 0) (getD w (2 * q) 0)
   pub lower : (q : ℕ) → Stand p (getD y q 0) (getD w (2 * q + 1) 0)
 
-pub record Framed (y : List ℕ) (m : ℕ) : Type 0 where
-  pub lead : (q : ℕ) → q < 15 → getD y q 0 ≡ 0
-  pub tail : (q : ℕ) → m ≤ q → getD y q 0 ≡ 0
-
-pub record Near (p x y : ℕ) : Type 0 where
-  pub left : ℕ
-  pub right : ℕ
-  pub at : x + p * left ≡ y + p * right
-
 unfoldable pub sumTo : ℕ → (ℕ → ℕ) → ℕ
 sumTo zero f = 0
 sumTo (suc n) f = sumTo n f + f n
-
-unfoldable pub termAt : (a y : List ℕ) → (b k j : ℕ) → ℕ
-termAt a y b k j = getD a (b + j) 0 * getD y (k + 15 - j) 0
-
-unfoldable pub rowsAt : (a y : List ℕ) → (k n : ℕ) → ℕ
-rowsAt a y k n = sumTo n (termAt a y 0 k)
 
 unfoldable pub lowOf : (a b : ℕ) → ℕ
 lowOf a b = (a + 65536 * (65536 - b % 65536)) % 4294967296
@@ -61,5 +43,5 @@ pub record Reducible (p : ℕ) (lo hi : List ℕ) : Type 0 where
   pub low : (k : ℕ) → lowOf (getD lo k 0) (getD hi k 0) ≤ 33554432
   pub high : (k : ℕ) → highOf p (getD hi k 0) ≤ 50331648
 
-pub record Reduced (p : ℕ) (lo hi out : List ℕ) (n : ℕ) : Type 0 where
-  pub at : (k : ℕ) → k < n → getD out k 0 ≡ (lowOf (getD lo k 0) (getD hi k 0) + 65536 * highOf p (getD hi k 0)) % p
+unfoldable pub reducedWords : (p n : ℕ) → (lo hi : List ℕ) → List ℕ
+reducedWords p n lo hi = tabulate n (λ k. (lowOf (getD lo k 0) (getD hi k 0) + 65536 * highOf p (getD hi k 0)) % p)

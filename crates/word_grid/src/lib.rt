@@ -4,7 +4,7 @@ ghost use Prim.Native.Nat.{_+_, _*_, _/_, _%_, _<_, _≤_};
 ghost use lib.ListN.{length};
 ghost use Rattle.refusal.specs.Contract.{given};
 ghost use Rattle.word_pairs.specs.Pairs.{Odd};
-ghost use Rattle.word_grid.specs.Grid.{Grid, lowOf, highOf, Reducible, Reduced};
+ghost use Rattle.word_grid.specs.Grid.{Grid, lowOf, highOf, Reducible, reducedWords};
 
 // All rows, sixteen after sixteen, each group of n strips. v is rewritten for each group.
 pub fn groups(
@@ -82,7 +82,7 @@ fn reduce(a: u32, b: u32, p: u32) -> u16
 // All words, reduced.
 pub fn reduce_words(lo: &[u32], hi: &[u32], out: &mut [u16], p: u32)
     requires { ⌜ (65497 ≤ p) × (p ≤ 65521) × (length (now out) ≤ length (now lo)) × (length (now out) ≤ length (now hi)) × Reducible p (now lo) (now hi) ⌝ }
-    ensures { λ _. ⌜ Reduced p (given lo) (given hi) (now (out .exit)) (length (given out)) ⌝ }
+    ensures { λ _. ⌜ now (out .exit) ≡ reducedWords p (length (given out)) (given lo) (given hi) ⌝ }
 {
     let mut k = 0;
     while k < out.len() {

@@ -3,10 +3,11 @@
 --     stand-zero, odd-zero                     so does 0
 --     centre-start, centre-next                the words of a list, centred
 --     repeat-start, repeat-next, repeat-end    two words, sixteen times
---     part-start, part-next, part-end          pairs, each sixteen times
+--     Part x d v n                             the first n pairs of words of x from d on stand sixteen times each
+--     part-start, part-next, part-end          one pair after the other
 --     woven-start, woven-next                  words beside the ones before them
 -- Assumes nothing.
-use mathlib.Core.Path.{_≡_, refl, sym, ap, _∙_, subst}
+use mathlib.Core.Path.{_≡_, refl, sym, _∙_, subst}
 use mathlib.Core.List.{List}
 use Prim.Native.Nat.{ℕ, _+_, _*_, _%_, _≤_, _<_}
 use native.Mathlib.Decide.{ℕ-discrete}
@@ -16,7 +17,7 @@ use lib.Seq.{getD-set-same, getD-set-other}
 use Rattle.lists.specs.Words.{ZeroFrom}
 use Rattle.word_pairs.specs.Pairs.{up}
 use Rattle.word_strips.specs.Strips.{Spread}
-use Rattle.word_layout.specs.Layout.{Stand, Centred, Repeated, Part, Woven}
+use Rattle.word_layout.specs.Layout.{Stand, Centred, Repeated, Woven}
 
 pub stand-low : (p a : ℕ) → a < 32768 → Stand p a a × (0 < up a)
 unfolding up
@@ -101,6 +102,10 @@ at-end g n a b = omega arith
 
 pub repeat-end : {o s t l : ℕ} {old v : List ℕ} → 16 ≤ l → l ≤ 16 → Repeated o s t l old v → Repeated o s t 16 old v
 repeat-end {o} {s} {t} {l} {old} {v} a b c = subst (λ x. Repeated o s t x old v) (sym (at-end l 16 a b)) c
+
+pub record Part (x : List ℕ) (d : ℕ) (v : List ℕ) (n : ℕ) : Type 0 where
+  pub first : (l e : ℕ) → l < 16 → e < n → getD v (2 * l + 32 * e) 0 ≡ getD x (d + 2 * e) 0
+  pub second : (l e : ℕ) → l < 16 → e < n → getD v (2 * l + 32 * e + 1) 0 ≡ getD x (d + 2 * e + 1) 0
 
 pub part-start : (x : List ℕ) (d : ℕ) (v : List ℕ) → Part x d v 0
 part-start x d v = record { first = λ l e q h. absurd (omega arith); second = λ l e q h. absurd (omega arith) }

@@ -2,7 +2,6 @@
 --     Stand p a x              the word x, read as signed, is a modulo p
 --     Centred p d l s i        the first i words of l stand so in s, behind d zeros; the rest of s is 0, and no word of it is -2^15
 --     Repeated o s t n         s and t stand n times from o on; the rest is what it was
---     Part x d v n             the first n pairs of words of x from d on stand sixteen times each
 --     Woven y w n              the words 1 to n of y, each beside the one before it; then zeros
 -- Assumes nothing.
 use mathlib.Core.Path.{_≡_}
@@ -27,10 +26,6 @@ pub record Repeated (o s t n : ℕ) (old new : List ℕ) : Type 0 where
   pub second : (l : ℕ) → l < n → getD new (o + 2 * l + 1) 0 ≡ t
   pub below : (k : ℕ) → k < o → getD new k 0 ≡ getD old k 0
   pub above : (k : ℕ) → o + 2 * n ≤ k → getD new k 0 ≡ getD old k 0
-
-pub record Part (x : List ℕ) (d : ℕ) (v : List ℕ) (n : ℕ) : Type 0 where
-  pub first : (l e : ℕ) → l < 16 → e < n → getD v (2 * l + 32 * e) 0 ≡ getD x (d + 2 * e) 0
-  pub second : (l e : ℕ) → l < 16 → e < n → getD v (2 * l + 32 * e + 1) 0 ≡ getD x (d + 2 * e + 1) 0
 
 pub record Woven (y w : List ℕ) (n : ℕ) : Type 0 where
   pub upper : (i : ℕ) → i < n → getD w (2 * i) 0 ≡ getD y (i + 1) 0

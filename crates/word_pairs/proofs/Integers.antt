@@ -1,8 +1,17 @@
 -- Integers as differences of two numbers: sums, products, and what fits 32 bits.
+--     add-diff, mul-diff, fits-diff, up-diff     an integer that is a difference: sums, products, whether it fits, and what it is above -2^31
+--     rd z, rd-diff, rd-fits, rd-up              what the machine reads back: an integer that fits, again
+--     most, least                                bounds of a product of two words read as signed
+--     signed-fits, signed-is                     a word read as signed
+--     Plain w z n                                an integer that is not negative, as an unsigned one of width w
+--     high-fits, high-plain                      an integer without its low half
+--     wide-fits, bits-fits, bits-plain           an integer's bits, by 64 bits
+--     mul-fits, sum-fits, sum-is                 two products, and their sum
+--     first-whole .. high-sum                    sums modulo 2^32: the first number, one more, and all eight
 -- Assumes nothing.
 use mathlib.Core.Path.{_≡_, refl, sym, ap, _∙_, subst}
 use Prim.Native.Nat.{ℕ, zero, suc, _+_, _-_, _*_, _/_, _%_, _≤_, _<_}
-use native.Mathlib.Nat.{mul-le-mul, mul-le-mul-left, mul-le-mul-right}
+use native.Mathlib.Nat.{mul-le-mul}
 use native.Mathlib.Decide.{decLt}
 use native.Mathlib.Omega.{arith}
 use lib.IntN.{ℤ, pos, negsuc, negℤ, natAbs, subℕ, _+ℤ_, _-ℤ_, _*ℤ_}
@@ -51,17 +60,17 @@ abbrev pub rd : ℤ → ℤ
 rd z = toZ w32 (ofZ w32 z)
 
 pub rd-diff : (z : ℤ) (a b : ℕ) → Diff z a b → a < b + 2147483648 → b ≤ a + 2147483648 → Diff (rd z) a b
-rd-diff z a b e h k = subst (λ (x : ℤ). Diff x a b) (sym (toZ-ofZ w32 z (fits-diff z a b e h k))) e
+rd-diff z a b e h k = subst (λ x. Diff x a b) (sym (toZ-ofZ w32 z (fits-diff z a b e h k))) e
 
 -- bounds of a product
 split : (x y : ℕ) → 32768 ≤ x → x * y ≡ (x - 32768) * y + 32768 * y
-split x y q = ap (λ (i : ℕ). i * y) e ∙ omega arith
+split x y q = ap (λ i. i * y) e ∙ omega arith
   where
     e : x ≡ x - 32768 + 32768
     e = omega arith
 
 split-low : (x y : ℕ) → x ≤ 32768 → x * y + (32768 - x) * y ≡ 32768 * y
-split-low x y q = sym (omega arith) ∙ ap (λ (i : ℕ). i * y) e
+split-low x y q = sym (omega arith) ∙ ap (λ i. i * y) e
   where
     e : x + (32768 - x) ≡ 32768
     e = omega arith
@@ -82,7 +91,7 @@ least x y h g = go (decLt 32768 x)
 
 -- a word, as signed
 pub signed-diff : (n : ℕ) → n < 65536 → Diff (toZ w32 n -ℤ pos 32768) n 32768
-signed-diff n h = subst (λ (z : ℤ). Diff (z -ℤ pos 32768) n 32768) (sym (toZ-pos w32 n (omega arith))) (sub-diff n 32768 n 32768 (omega arith))
+signed-diff n h = subst (λ z. Diff (z -ℤ pos 32768) n 32768) (sym (toZ-pos w32 n (omega arith))) (sub-diff n 32768 n 32768 (omega arith))
 
 pub signed-fits : (n : ℕ) → n < 65536 → SFits w32 (toZ w32 n -ℤ pos 32768)
 signed-fits n h = fits-diff _ n 32768 (signed-diff n h) (omega arith) (omega arith)
@@ -177,23 +186,33 @@ up-less x = omega arith
 module _ (z0 y0 z1 y1 : ℤ) (w0 v0 w1 v1 : ℕ)
     (e0 : Diff z0 (up w0) 32768) (d0 : Diff y0 (up v0) 32768) (e1 : Diff z1 (up w1) 32768) (d1 : Diff y1 (up v1) 32768)
     (o0 : 0 < up w0) (o1 : 0 < up w1) where
-  both : Diff (rd (rd z0 *ℤ rd y0) +ℤ rd (rd z1 *ℤ rd y1)) (up w0 * up v0 + 32768 * 32768 + (up w1 * up v1 + 32768 * 32768)) (up w0 * 32768 + 32768 * up v0 + (up w1 * 32768 + 32768 * up v1))
+  abbrev gains : ℕ
+  gains = up w0 * up v0 + 32768 * 32768 + (up w1 * up v1 + 32768 * 32768)
+
+  abbrev losses : ℕ
+  losses = up w0 * 32768 + 32768 * up v0 + (up w1 * 32768 + 32768 * up v1)
+
+  abbrev sum : ℤ
+  sum = rd (rd z0 *ℤ rd y0) +ℤ rd (rd z1 *ℤ rd y1)
+
+  both : Diff sum gains losses
   both =
-      add-diff (rd (rd z0 *ℤ rd y0)) (rd (rd z1 *ℤ rd y1)) (up w0 * up v0 + 32768 * 32768) (up w0 * 32768 + 32768 * up v0) (up w1 * up v1 + 32768 * 32768) (up w1 * 32768 + 32768 * up v1)
+      add-diff (rd (rd z0 *ℤ rd y0)) (rd (rd z1 *ℤ rd y1))
+      (up w0 * up v0 + 32768 * 32768) (up w0 * 32768 + 32768 * up v0) (up w1 * up v1 + 32768 * 32768) (up w1 * 32768 + 32768 * up v1)
       (rd-times z0 y0 (up w0) (up v0) e0 d0 o0 (up-less w0) (up-less v0)) (rd-times z1 y1 (up w1) (up v1) e1 d1 o1 (up-less w1) (up-less v1))
 
-  below : up w0 * up v0 + 32768 * 32768 + (up w1 * up v1 + 32768 * 32768) < up w0 * 32768 + 32768 * up v0 + (up w1 * 32768 + 32768 * up v1) + 2147483648
+  below : gains < losses + 2147483648
   below = omega (arith, most (up w0) (up v0) o0 (up-less w0) (up-less v0), most (up w1) (up v1) o1 (up-less w1) (up-less v1))
 
-  above : up w0 * 32768 + 32768 * up v0 + (up w1 * 32768 + 32768 * up v1) ≤ up w0 * up v0 + 32768 * 32768 + (up w1 * up v1 + 32768 * 32768) + 2147483648
+  above : losses ≤ gains + 2147483648
   above = omega (arith, least (up w0) (up v0) (up-less w0) (up-less v0), least (up w1) (up v1) (up-less w1) (up-less v1))
 
-  pub sum-fits : SFits w32 (rd (rd z0 *ℤ rd y0) +ℤ rd (rd z1 *ℤ rd y1))
-  sum-fits = fits-diff _ (up w0 * up v0 + 32768 * 32768 + (up w1 * up v1 + 32768 * 32768)) (up w0 * 32768 + 32768 * up v0 + (up w1 * 32768 + 32768 * up v1)) both below above
+  pub sum-fits : SFits w32 sum
+  sum-fits = fits-diff sum gains losses both below above
 
-  pub sum-is : up32 (rd (rd (rd z0 *ℤ rd y0) +ℤ rd (rd z1 *ℤ rd y1))) ≡ pairOf w0 v0 w1 v1
+  pub sum-is : up32 (rd sum) ≡ pairOf w0 v0 w1 v1
   unfolding pairOf
-  sum-is = ap up32 (toZ-ofZ w32 _ sum-fits) ∙ omega (arith, up-diff (rd (rd z0 *ℤ rd y0) +ℤ rd (rd z1 *ℤ rd y1)) (up w0 * up v0 + 32768 * 32768 + (up w1 * up v1 + 32768 * 32768)) (up w0 * 32768 + 32768 * up v0 + (up w1 * 32768 + 32768 * up v1)) both above)
+  sum-is = ap up32 (toZ-ofZ w32 sum sum-fits) ∙ omega (arith, up-diff sum gains losses both above)
 
 -- sums modulo 2^32: the first number, and one more
 module _ (t : ℤ) (f : SFits w32 t) where
@@ -219,7 +238,7 @@ pub high-sum : (a u0 u1 u2 u3 u4 u5 u6 u7 : ℕ) {r : ℕ} → r ≡ (a + u0 + u
 high-sum a u0 u1 u2 u3 u4 u5 u6 u7 e = omega (arith, e)
 
 pub rd-fits : (z : ℤ) → SFits w32 z → SFits w32 (rd z)
-rd-fits z f = subst (λ (x : ℤ). SFits w32 x) (sym (toZ-ofZ w32 z f)) f
+rd-fits z f = subst (λ x. SFits w32 x) (sym (toZ-ofZ w32 z f)) f
 
 pub rd-up : (z : ℤ) {n : ℕ} → SFits w32 z → up32 z ≡ n → up32 (rd z) ≡ n
 rd-up z f e = ap up32 (toZ-ofZ w32 z f) ∙ e

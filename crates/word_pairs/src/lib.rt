@@ -1,7 +1,7 @@
 // Sums of products of signed words of 16 bits, two products at a time. LLVM forms four such pairs by one instruction (pmaddwd) where each
 // pair is used twice: in a sum modulo 2^32 and, without its low half, in a second sum. Words are unsigned in memory and read as signed.
 ghost use mathlib.Core.Path.{_≡_};
-ghost use Prim.Native.Nat.{_+_, _*_, _/_, _%_, _<_, _≤_};
+ghost use Prim.Native.Nat.{_+_, _*_, _/_, _%_, _<_};
 ghost use lib.ListN.{length, getD};
 ghost use mir.Syntax.{w32};
 ghost use mir.Val.{SFits};

@@ -6,24 +6,24 @@
 --     rows-are     the rows of what is laid, sixteen after sixteen, are the words of the product
 --     reduced-is   so the sums of the groups, reduced, are the product
 -- Assumes nothing.
-use mathlib.Core.Path.{_≡_, refl, sym, ap, ap₂, _∙_, subst}
+use mathlib.Core.Path.{_≡_, sym, ap, ap₂, _∙_, subst}
 use mathlib.Core.List.{List}
 use Prim.Native.Nat.{ℕ, suc, _+_, _-_, _*_, _/_, _%_, _≤_, _<_}
 use native.Mathlib.Nat.{zero-add, mul-zero}
 use native.Mathlib.Decide.{ℕ-discrete, decLt}
 use native.Mathlib.Omega.{arith}
 use lib.ListN.{length, getD, replicate, List·getD-append, List·getD-eq-default}
-use lib.Seq.{getD-append-add, ext-getD}
+use lib.Seq.{getD-append-add}
 use Rattle.lists.specs.Words.{ZeroFrom}
+use Rattle.lists.proofs.Tabulate.{tabulate-ext}
 use Rattle.lists.proofs.Words.{zeros-are}
 use Rattle.word_pairs.specs.Pairs.{up}
 use Rattle.word_layout.specs.Layout.{Stand, Centred, Woven}
 use Rattle.word_layout.proofs.Loops.{stand-zero, odd-zero}
-use Rattle.word_grid.specs.Grid.{Framed, Grid, Reduced, rowsAt, sumTo, termAt}
-use Rattle.word_grid.proofs.Rows.{sum-ext, sum-more}
+use Rattle.word_grid.specs.Grid.{Grid, reducedWords, sumTo}
+use Rattle.word_grid.proofs.Rows.{termAt, rowsAt, Framed, sum-ext, sum-more}
 use Rattle.word_grid.proofs.Steps.{grid-near}
 use Rattle.word_product.specs.Sums.{termOf, wordSum, remainders, front, Ready}
-use Rattle.word_product.proofs.Convolution.{length-remainders, getD-remainders}
 use Rattle.word_product.proofs.RowSums.{first-out}
 
 split : (n i : ℕ) → n ≤ i → n + (i - n) ≡ i
@@ -126,9 +126,9 @@ module _ (a b : List ℕ) where
       go (no h) =
           sum-ext n (λ j p. row-in k j (omega arith)) ∙ sum-more n (suc k) _ (omega arith) (λ j p q. first-out a b k j (omega arith))
 
-  pub reduced-is : {p : ℕ} → 65497 ≤ p → p ≤ 65521 → {w x lo₀ hi₀ lo hi out : List ℕ} (g n : ℕ) → Ready p a b w x → length a ≤ 16 * g → g ≤ 64 → length b + 15 ≤ 16 * n
-      → ZeroFrom 0 lo₀ → ZeroFrom 0 hi₀ → Grid w x n lo₀ hi₀ g lo hi → Reduced p lo hi out (length out) → out ≡ remainders p (length out) a b
-  reduced-is {p} lp hp {w} {x} {lo₀} {hi₀} {lo} {hi} {out} g n r la lg lb u v t d =
-      ext-getD 0 out (remainders p (length out) a b) (sym (length-remainders p (length out) a b))
-      (λ k h. d .at k h ∙ grid-near lp hp (r .laid) (framed b (16 * n) lb) u v lg t k ∙ ap (λ i. i % p) (rows-are k (16 * g) la)
-      ∙ sym (getD-remainders p (length out) a b k h))
+  pub reduced-is : {p : ℕ} → 65497 ≤ p → p ≤ 65521 → {w x lo₀ hi₀ lo hi : List ℕ} (g n m : ℕ) → Ready p a b w x → length a ≤ 16 * g → g ≤ 64
+      → length b + 15 ≤ 16 * n → ZeroFrom 0 lo₀ → ZeroFrom 0 hi₀ → Grid w x n lo₀ hi₀ g lo hi → reducedWords p m lo hi ≡ remainders p m a b
+  unfolding reducedWords remainders
+  reduced-is {p} lp hp {w} {x} {lo₀} {hi₀} {lo} {hi} g n m r la lg lb u v t =
+      tabulate-ext m _ _
+      (λ k h. grid-near lp hp (r .laid) (framed b (16 * n) lb) u v lg t k ∙ ap (λ i. i % p) (rows-are k (16 * g) la))

@@ -1,7 +1,6 @@
 // Sixteen rows of a product, by pairs: row j is word j of the first factor times the second. Their words are added to two sums, of the
 // whole pairs and of their high halves, both modulo 2^32. The second factor stands in w, behind 15 zeros, each word beside the one before it;
 // the sixteen words of the first factor x stand in v, eight pairs, each sixteen times, so that LLVM reads both factors by vectors.
-ghost use mathlib.Core.Path.{_≡_};
 ghost use Prim.Native.Nat.{_+_, _*_, _<_, _≤_};
 ghost use lib.ListN.{length};
 ghost use Rattle.refusal.specs.Contract.{given};

@@ -1,14 +1,11 @@
 -- `word_grid::fold` meets its contract: 2^16 is 2^16 - p modulo p.
 -- Assumes nothing.
-use Prim.Native.Nat.{_+_, _-_, _*_, _/_, _%_, _≤_, _<_}
+use Prim.Native.Nat.{_-_, _/_, _%_}
 use native.Mathlib.Omega.{arith}
 use Rattle.word_grid.proofs.Remainders.{few, folded}
 use borrow.Author.Needs.{needs}
 use Rattle.word_grid.proofs.fold.Statement.{statement}
 use Rattle.word_grid.proofs.fold.Tie as tie
-use Rattle.word_grid.proofs.fold.Reads as reads
-use Rattle.word_grid.proofs.fold.Lts as lts
-use Rattle.word_grid.proofs.excess.Reads as excess-reads
 
 excess-requires : tie.Need-excess-requires
 excess-requires c κs = search needs

@@ -1,7 +1,7 @@
 -- `word_grid::groups` meets its contract: each turn is one group more.
 -- Assumes nothing.
-use mathlib.Core.Path.{_≡_, refl, sym, _∙_}
-use Prim.Native.Nat.{ℕ, suc, _+_, _-_, _*_, _≤_, _<_}
+use mathlib.Core.Path.{_≡_, refl}
+use Prim.Native.Nat.{_-_, _≤_}
 use native.Mathlib.Numerals.{add-one}
 use native.Mathlib.Omega.{arith}
 use lib.ListN.{length}
@@ -11,10 +11,6 @@ use Rattle.word_grid.proofs.Steps.{size-lo, size-hi, grid-start, grid-n
 use borrow.Author.Needs.{needs}
 use Rattle.word_grid.proofs.groups.Statement.{statement}
 use Rattle.word_grid.proofs.groups.Tie as tie
-use Rattle.word_grid.proofs.groups.Reads as reads
-use Rattle.word_grid.proofs.groups.Lts as lts
-use Rattle.word_layout.proofs.spread.Reads as spread-reads
-use Rattle.word_strips.proofs.group.Reads as group-reads
 
 abbrev Inv-loop : tie.InvT-loop
 Inv-loop lo₀ hi₀ w x v₀ count n g₀ lo hi v g = (g ≤ count) × (length v ≡ length v₀) × Grid w x n lo₀ hi₀ g lo hi

@@ -4,9 +4,6 @@ use Rattle.word_grid.specs.Grid.{highOf}
 use borrow.Author.Needs.{needs}
 use Rattle.word_grid.proofs.high_of.Statement.{statement}
 use Rattle.word_grid.proofs.high_of.Tie as tie
-use Rattle.word_grid.proofs.high_of.Reads as reads
-use Rattle.word_grid.proofs.high_of.Lts as lts
-use Rattle.std.proofs.num.wrapping_add_u32.Reads as wrapping-add-u32-reads
 
 mul-wrapping-add-u32 : tie.Need-mul-wrapping-add-u32
 mul-wrapping-add-u32 c = search needs

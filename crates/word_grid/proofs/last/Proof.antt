@@ -1,14 +1,11 @@
 -- `word_grid::last` meets its contract: see `last-is`.
 -- Assumes nothing.
-use Prim.Native.Nat.{_+_, _-_, _*_, _/_, _%_, _≤_, _<_}
+use Prim.Native.Nat.{_+_, _-_, _/_, _%_}
 use native.Mathlib.Omega.{arith}
 use Rattle.word_grid.proofs.Remainders.{few, last-is}
 use borrow.Author.Needs.{needs}
 use Rattle.word_grid.proofs.last.Statement.{statement}
 use Rattle.word_grid.proofs.last.Tie as tie
-use Rattle.word_grid.proofs.last.Reads as reads
-use Rattle.word_grid.proofs.last.Lts as lts
-use Rattle.word_grid.proofs.excess.Reads as excess-reads
 
 excess-requires : tie.Need-excess-requires
 excess-requires c κs = search needs

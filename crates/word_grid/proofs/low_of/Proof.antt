@@ -4,9 +4,6 @@ use Rattle.word_grid.specs.Grid.{lowOf}
 use borrow.Author.Needs.{needs}
 use Rattle.word_grid.proofs.low_of.Statement.{statement}
 use Rattle.word_grid.proofs.low_of.Tie as tie
-use Rattle.word_grid.proofs.low_of.Reads as reads
-use Rattle.word_grid.proofs.low_of.Lts as lts
-use Rattle.std.proofs.num.wrapping_sub_u32.Reads as wrapping-sub-u32-reads
 
 mul-wrapping-sub-u32 : tie.Need-mul-wrapping-sub-u32
 mul-wrapping-sub-u32 c = search needs

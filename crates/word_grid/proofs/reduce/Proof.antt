@@ -1,21 +1,13 @@
 -- `word_grid::reduce` meets its contract: two folds leave less than 2 p.
 -- Assumes nothing.
-use mathlib.Core.Path.{_≡_, refl, sym, _∙_}
-use Prim.Native.Nat.{_+_, _-_, _*_, _/_, _%_, _≤_, _<_}
+use mathlib.Core.Path.{_∙_}
+use Prim.Native.Nat.{_+_, _-_, _*_, _/_}
 use native.Mathlib.Omega.{arith}
-use Rattle.word_grid.specs.Grid.{lowOf, highOf}
 use Rattle.word_montgomery.proofs.Words.{same}
 use Rattle.word_grid.proofs.Remainders.{few, split}
 use borrow.Author.Needs.{needs}
 use Rattle.word_grid.proofs.reduce.Statement.{statement}
 use Rattle.word_grid.proofs.reduce.Tie as tie
-use Rattle.word_grid.proofs.reduce.Reads as reads
-use Rattle.word_grid.proofs.reduce.Lts as lts
-use Rattle.word_grid.proofs.excess.Reads as excess-reads
-use Rattle.word_grid.proofs.fold.Reads as fold-reads
-use Rattle.word_grid.proofs.high_of.Reads as high-of-reads
-use Rattle.word_grid.proofs.last.Reads as last-reads
-use Rattle.word_grid.proofs.low_of.Reads as low-of-reads
 
 low-of-requires : tie.Need-low-of-requires
 low-of-requires c κs = search needs

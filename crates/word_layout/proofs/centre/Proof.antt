@@ -1,7 +1,7 @@
 -- `word_layout::centre` meets its contract: each turn is one word more.
 -- Assumes nothing.
 use mathlib.Core.Path.{_≡_, refl}
-use Prim.Native.Nat.{_+_, _-_, _*_, _%_, _≤_, _<_}
+use Prim.Native.Nat.{_-_, _≤_}
 use native.Mathlib.Omega.{arith}
 use lib.ListN.{length, length-set}
 use Rattle.word_layout.specs.Layout.{Centred}
@@ -9,9 +9,6 @@ use Rattle.word_layout.proofs.Loops.{centre-start, centre-next, at-end}
 use borrow.Author.Needs.{needs}
 use Rattle.word_layout.proofs.centre.Statement.{statement}
 use Rattle.word_layout.proofs.centre.Tie as tie
-use Rattle.word_layout.proofs.centre.Reads as reads
-use Rattle.word_layout.proofs.centre.Lts as lts
-use Rattle.word_layout.proofs.centred.Reads as centred-reads
 
 abbrev Inv-loop : tie.InvT-loop
 Inv-loop s₀ d list p i₀ s i = (i ≤ length list) × (length s ≡ length s₀) × Centred p d list s i

@@ -1,14 +1,11 @@
 -- `word_layout::centred` meets its contract: a word from 2^15 on stands for itself less p.
 -- Assumes nothing.
-use Prim.Native.Nat.{_+_, _-_, _*_, _%_, _≤_, _<_}
+use Prim.Native.Nat.{_-_}
 use native.Mathlib.Omega.{arith}
 use Rattle.word_layout.proofs.Loops.{stand-low, stand-high}
 use borrow.Author.Needs.{needs}
 use Rattle.word_layout.proofs.centred.Statement.{statement}
 use Rattle.word_layout.proofs.centred.Tie as tie
-use Rattle.word_layout.proofs.centred.Reads as reads
-use Rattle.word_layout.proofs.centred.Lts as lts
-use Rattle.std.proofs.num.wrapping_sub_u16.Reads as wrapping-sub-u16-reads
 
 wrapping-sub-u16-requires : tie.Need-wrapping-sub-u16-requires
 wrapping-sub-u16-requires c κs = search needs

@@ -1,7 +1,7 @@
 -- `word_layout::repeat_pair` meets its contract: each turn is one pair more.
 -- Assumes nothing.
 use mathlib.Core.Path.{refl}
-use Prim.Native.Nat.{_+_, _-_, _*_, _%_, _≤_, _<_}
+use Prim.Native.Nat.{_-_, _≤_}
 use native.Mathlib.Omega.{arith}
 use lib.ListN.{length-set}
 use Rattle.word_layout.specs.Layout.{Repeated}
@@ -9,8 +9,6 @@ use Rattle.word_layout.proofs.Loops.{repeat-start, repeat-next, repeat-
 use borrow.Author.Needs.{needs}
 use Rattle.word_layout.proofs.repeat_pair.Statement.{statement}
 use Rattle.word_layout.proofs.repeat_pair.Tie as tie
-use Rattle.word_layout.proofs.repeat_pair.Reads as reads
-use Rattle.word_layout.proofs.repeat_pair.Lts as lts
 
 abbrev Inv-loop : tie.InvT-loop
 Inv-loop v₀ o s t l₀ v l = (l ≤ 16) × Repeated o s t l v₀ v

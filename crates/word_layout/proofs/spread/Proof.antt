@@ -1,17 +1,13 @@
 -- `word_layout::spread` meets its contract: each turn is one pair of x more.
 -- Assumes nothing.
 use mathlib.Core.Path.{_≡_, refl, _∙_}
-use Prim.Native.Nat.{_+_, _-_, _*_, _%_, _≤_, _<_}
+use Prim.Native.Nat.{_-_, _≤_}
 use native.Mathlib.Omega.{arith}
 use lib.ListN.{length}
-use Rattle.word_layout.specs.Layout.{Part}
-use Rattle.word_layout.proofs.Loops.{part-start, part-next, part-end}
+use Rattle.word_layout.proofs.Loops.{Part, part-start, part-next, part-end}
 use borrow.Author.Needs.{needs}
 use Rattle.word_layout.proofs.spread.Statement.{statement}
 use Rattle.word_layout.proofs.spread.Tie as tie
-use Rattle.word_layout.proofs.spread.Reads as reads
-use Rattle.word_layout.proofs.spread.Lts as lts
-use Rattle.word_layout.proofs.repeat_pair.Reads as repeat-pair-reads
 
 abbrev Inv-loop : tie.InvT-loop
 Inv-loop v₀ x d j₀ v j = (j ≤ 8) × (length v ≡ length v₀) × Part x d v j

@@ -1,7 +1,7 @@
 -- `word_layout::weave` meets its contract: each turn is one word more, beside the one before it.
 -- Assumes nothing.
 use mathlib.Core.Path.{_≡_, refl}
-use Prim.Native.Nat.{_+_, _-_, _*_, _%_, _≤_, _<_}
+use Prim.Native.Nat.{_-_, _≤_}
 use native.Mathlib.Omega.{arith}
 use lib.ListN.{length, length-set}
 use Rattle.word_layout.specs.Layout.{Woven}
@@ -9,8 +9,6 @@ use Rattle.word_layout.proofs.Loops.{woven-start, woven-next, at-end}
 use borrow.Author.Needs.{needs}
 use Rattle.word_layout.proofs.weave.Statement.{statement}
 use Rattle.word_layout.proofs.weave.Tie as tie
-use Rattle.word_layout.proofs.weave.Reads as reads
-use Rattle.word_layout.proofs.weave.Lts as lts
 
 abbrev Inv-loop : tie.InvT-loop
 Inv-loop w₀ y n q₀ w q = (q ≤ n) × (length w ≡ length w₀) × Woven y w q

@@ -1,7 +1,6 @@
 -- `word_pairs::add_bits` meets its contract: what is added is the integer, above -2^31, and 2^31, modulo 2^32.
 -- Assumes nothing.
-use mathlib.Core.Path.{ap, _∙_}
-use Prim.Native.Nat.{_+_, _%_}
+use mathlib.Core.Path.{ap}
 use native.Mathlib.Omega.{arith}
 use mir.Syntax.{w32}
 use mir.ValLaws.{toZ-ofZ}
@@ -9,10 +8,6 @@ use Rattle.word_pairs.specs.Pairs.{up32}
 use borrow.Author.Needs.{needs}
 use Rattle.word_pairs.proofs.add_bits.Statement.{statement}
 use Rattle.word_pairs.proofs.add_bits.Tie as tie
-use Rattle.word_pairs.proofs.add_bits.Reads as reads
-use Rattle.word_pairs.proofs.add_bits.Lts as lts
-use Rattle.std.proofs.num.wrapping_add_u32.Reads as wrapping-add-u32-reads
-use Rattle.word_pairs.proofs.bits.Reads as bits-reads
 
 bits-requires : tie.Need-bits-requires
 bits-requires c κs = search needs

@@ -8,10 +8,6 @@ use Rattle.word_pairs.specs.Pairs.{up32}
 use borrow.Author.Needs.{needs}
 use Rattle.word_pairs.proofs.add_high.Statement.{statement}
 use Rattle.word_pairs.proofs.add_high.Tie as tie
-use Rattle.word_pairs.proofs.add_high.Reads as reads
-use Rattle.word_pairs.proofs.add_high.Lts as lts
-use Rattle.std.proofs.num.wrapping_add_u32.Reads as wrapping-add-u32-reads
-use Rattle.word_pairs.proofs.high.Reads as high-reads
 
 high-requires : tie.Need-high-requires
 high-requires c κs = search needs

@@ -6,8 +6,6 @@ use Rattle.word_pairs.proofs.Integers.{wide-fits, bits-fits, bits-plain
 use borrow.Author.Needs.{needs}
 use Rattle.word_pairs.proofs.bits.Statement.{statement}
 use Rattle.word_pairs.proofs.bits.Tie as tie
-use Rattle.word_pairs.proofs.bits.Reads as reads
-use Rattle.word_pairs.proofs.bits.Lts as lts
 
 cast-result : tie.Need-cast-result
 cast-result c = wide-fits (c .args .t) (c .fits .t)

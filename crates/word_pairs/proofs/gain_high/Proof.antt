@@ -4,10 +4,6 @@ use Rattle.word_pairs.proofs.Integers.{high-sum, more-high}
 use borrow.Author.Needs.{needs}
 use Rattle.word_pairs.proofs.gain_high.Statement.{statement}
 use Rattle.word_pairs.proofs.gain_high.Tie as tie
-use Rattle.word_pairs.proofs.gain_high.Reads as reads
-use Rattle.word_pairs.proofs.gain_high.Lts as lts
-use Rattle.std.proofs.num.wrapping_add_u32.Reads as wrapping-add-u32-reads
-use Rattle.word_pairs.proofs.add_high.Reads as add-high-reads
 
 wrapping-add-u32-requires : tie.Need-wrapping-add-u32-requires
 wrapping-add-u32-requires c κs = search needs
@@ -40,8 +36,16 @@ returns : tie.Need-returns
 returns c =
     let a = c .before .before .before .before .before .before .before .before .before .args in
     let f = c .before .before .before .before .before .before .before .before .before .fits in
-    high-sum _ _ _ _ _ _ _ _ _
-    (more-high (a .t7) (f .t7) _ (more-high (a .t6) (f .t6) _ (more-high (a .t5) (f .t5) _ (more-high (a .t4) (f .t4) _ (more-high (a .t3) (f .t3) _ (more-high (a .t2) (f .t2) _ (more-high (a .t1) (f .t1) _ (more-high (a .t0) (f .t0) _ (c .before .before .before .before .before .before .before .before .wrapping-add-u32 .ensures) (c .before .before .before .before .before .before .before .add-high .ensures)) (c .before .before .before .before .before .before .add-high2 .ensures)) (c .before .before .before .before .before .add-high3 .ensures)) (c .before .before .before .before .add-high4 .ensures)) (c .before .before .before .add-high5 .ensures)) (c .before .before .add-high6 .ensures)) (c .before .add-high7 .ensures)) (c .add-high8 .ensures))
+    let s = c .before .before .before .before .before .before .before .before .wrapping-add-u32 .ensures in
+    let s0 = more-high (a .t0) (f .t0) _ s (c .before .before .before .before .before .before .before .add-high .ensures) in
+    let s1 = more-high (a .t1) (f .t1) _ s0 (c .before .before .before .before .before .before .add-high2 .ensures) in
+    let s2 = more-high (a .t2) (f .t2) _ s1 (c .before .before .before .before .before .add-high3 .ensures) in
+    let s3 = more-high (a .t3) (f .t3) _ s2 (c .before .before .before .before .add-high4 .ensures) in
+    let s4 = more-high (a .t4) (f .t4) _ s3 (c .before .before .before .add-high5 .ensures) in
+    let s5 = more-high (a .t5) (f .t5) _ s4 (c .before .before .add-high6 .ensures) in
+    let s6 = more-high (a .t6) (f .t6) _ s5 (c .before .add-high7 .ensures) in
+    let s7 = more-high (a .t7) (f .t7) _ s6 (c .add-high8 .ensures) in
+    high-sum _ _ _ _ _ _ _ _ _ s7
 
 pub gain-high-spec : {M : Type 1} → statement M
 gain-high-spec =

@@ -4,9 +4,6 @@ use Rattle.word_pairs.proofs.Integers.{first-whole, more-whole, whole-s
 use borrow.Author.Needs.{needs}
 use Rattle.word_pairs.proofs.gain_whole.Statement.{statement}
 use Rattle.word_pairs.proofs.gain_whole.Tie as tie
-use Rattle.word_pairs.proofs.gain_whole.Reads as reads
-use Rattle.word_pairs.proofs.gain_whole.Lts as lts
-use Rattle.word_pairs.proofs.add_bits.Reads as add-bits-reads
 
 add-bits-requires : tie.Need-add-bits-requires
 add-bits-requires c κs = search needs
@@ -36,8 +33,15 @@ returns : tie.Need-returns
 returns c =
     let a = c .before .before .before .before .before .before .before .before .args in
     let f = c .before .before .before .before .before .before .before .before .fits in
-    whole-sum _ _ _ _ _ _ _ _ _
-    (more-whole (a .t7) (f .t7) _ (more-whole (a .t6) (f .t6) _ (more-whole (a .t5) (f .t5) _ (more-whole (a .t4) (f .t4) _ (more-whole (a .t3) (f .t3) _ (more-whole (a .t2) (f .t2) _ (more-whole (a .t1) (f .t1) _ (first-whole (a .t0) (f .t0) _ (c .before .before .before .before .before .before .before .add-bits .ensures)) (c .before .before .before .before .before .before .add-bits2 .ensures)) (c .before .before .before .before .before .add-bits3 .ensures)) (c .before .before .before .before .add-bits4 .ensures)) (c .before .before .before .add-bits5 .ensures)) (c .before .before .add-bits6 .ensures)) (c .before .add-bits7 .ensures)) (c .add-bits8 .ensures))
+    let s0 = first-whole (a .t0) (f .t0) _ (c .before .before .before .before .before .before .before .add-bits .ensures) in
+    let s1 = more-whole (a .t1) (f .t1) _ s0 (c .before .before .before .before .before .before .add-bits2 .ensures) in
+    let s2 = more-whole (a .t2) (f .t2) _ s1 (c .before .before .before .before .before .add-bits3 .ensures) in
+    let s3 = more-whole (a .t3) (f .t3) _ s2 (c .before .before .before .before .add-bits4 .ensures) in
+    let s4 = more-whole (a .t4) (f .t4) _ s3 (c .before .before .before .add-bits5 .ensures) in
+    let s5 = more-whole (a .t5) (f .t5) _ s4 (c .before .before .add-bits6 .ensures) in
+    let s6 = more-whole (a .t6) (f .t6) _ s5 (c .before .add-bits7 .ensures) in
+    let s7 = more-whole (a .t7) (f .t7) _ s6 (c .add-bits8 .ensures) in
+    whole-sum _ _ _ _ _ _ _ _ _ s7
 
 pub gain-whole-spec : {M : Type 1} → statement M
 gain-whole-spec =

@@ -1,11 +1,8 @@
 -- `word_pairs::high` meets its contract: the shift leaves the high half, which 2^15 makes a number.
 -- Assumes nothing.
 use Rattle.word_pairs.proofs.Integers.{high-fits, high-plain}
-use borrow.Author.Needs.{needs}
 use Rattle.word_pairs.proofs.high.Statement.{statement}
 use Rattle.word_pairs.proofs.high.Tie as tie
-use Rattle.word_pairs.proofs.high.Reads as reads
-use Rattle.word_pairs.proofs.high.Lts as lts
 
 add-result : tie.Need-add-result
 add-result c = high-fits (c .args .t) (c .fits .t)

@@ -1,14 +1,10 @@
 -- `word_pairs::pair` meets its contract: both products and their sum have 32 bits.
 -- Assumes nothing.
-use native.Mathlib.Omega.{arith}
-use Rattle.word_pairs.proofs.Integers.{rd-fits, signed-diff, signed-fits, fits-diff, rd-diff, mul-fits, sum-fits, sum-is, up-less}
+use Rattle.word_pairs.proofs.Integers.{rd-fits, mul-fits, sum-fits, sum-is, up-less}
 use Rattle.word_pairs.specs.Pairs.{up}
 use borrow.Author.Needs.{needs}
 use Rattle.word_pairs.proofs.pair.Statement.{statement}
 use Rattle.word_pairs.proofs.pair.Tie as tie
-use Rattle.word_pairs.proofs.pair.Reads as reads
-use Rattle.word_pairs.proofs.pair.Lts as lts
-use Rattle.word_pairs.proofs.signed.Reads as signed-reads
 
 signed-requires : tie.Need-signed-requires
 signed-requires c κs = search needs
@@ -17,7 +13,9 @@ signed-requires-2 : tie.Need-signed-requires-2
 signed-requires-2 c κs = search needs
 
 mul-result : tie.Need-mul-result
-mul-result c = mul-fits (c .before .signed .result) (c .signed2 .result) (up (c .before .before .args .w0)) (up (c .before .before .args .v0)) (c .before .signed .ensures) (c .signed2 .ensures) (c .before .before .pre .0) (up-less _) (up-less _)
+mul-result c =
+    let a = c .before .before .args in
+    mul-fits (c .before .signed .result) (c .signed2 .result) (up (a .w0)) (up (a .v0)) (c .before .signed .ensures) (c .signed2 .ensures) (c .before .before .pre .0) (up-less _) (up-less _)
 
 signed-requires-3 : tie.Need-signed-requires-3
 signed-requires-3 c κs = search needs
@@ -26,13 +24,25 @@ signed-requires-4 : tie.Need-signed-requires-4
 signed-requires-4 c κs = search needs
 
 mul-result-2 : tie.Need-mul-result-2
-mul-result-2 c = mul-fits (c .before .signed3 .result) (c .signed4 .result) (up (c .before .before .before .before .args .w1)) (up (c .before .before .before .before .args .v1)) (c .before .signed3 .ensures) (c .signed4 .ensures) (c .before .before .before .before .pre .1) (up-less _) (up-less _)
+mul-result-2 c =
+    let a = c .before .before .before .before .args in
+    mul-fits (c .before .signed3 .result) (c .signed4 .result) (up (a .w1)) (up (a .v1)) (c .before .signed3 .ensures) (c .signed4 .ensures) (c .before .before .before .before .pre .1) (up-less _) (up-less _)
 
 add-result : tie.Need-add-result
-add-result c = sum-fits (c .before .before .before .signed .result) (c .before .before .signed2 .result) (c .before .signed3 .result) (c .signed4 .result) (c .before .before .before .before .args .w0) (c .before .before .before .before .args .v0) (c .before .before .before .before .args .w1) (c .before .before .before .before .args .v1) (c .before .before .before .signed .ensures) (c .before .before .signed2 .ensures) (c .before .signed3 .ensures) (c .signed4 .ensures) (c .before .before .before .before .pre .0) (c .before .before .before .before .pre .1)
+add-result c =
+    let a = c .before .before .before .before .args in
+    sum-fits (c .before .before .before .signed .result) (c .before .before .signed2 .result) (c .before .signed3 .result) (c .signed4 .result) (a .w0) (a .v0) (a .w1) (a .v1)
+    (c .before .before .before .signed .ensures) (c .before .before .signed2 .ensures) (c .before .signed3 .ensures) (c .signed4 .ensures) (c .before .before .before .before .pre .0) (c .before .before .before .before .pre .1)
 
 returns : tie.Need-returns
-returns c = (rd-fits _ (sum-fits (c .before .before .before .signed .result) (c .before .before .signed2 .result) (c .before .signed3 .result) (c .signed4 .result) (c .before .before .before .before .args .w0) (c .before .before .before .before .args .v0) (c .before .before .before .before .args .w1) (c .before .before .before .before .args .v1) (c .before .before .before .signed .ensures) (c .before .before .signed2 .ensures) (c .before .signed3 .ensures) (c .signed4 .ensures) (c .before .before .before .before .pre .0) (c .before .before .before .before .pre .1)), sum-is (c .before .before .before .signed .result) (c .before .before .signed2 .result) (c .before .signed3 .result) (c .signed4 .result) (c .before .before .before .before .args .w0) (c .before .before .before .before .args .v0) (c .before .before .before .before .args .w1) (c .before .before .before .before .args .v1) (c .before .before .before .signed .ensures) (c .before .before .signed2 .ensures) (c .before .signed3 .ensures) (c .signed4 .ensures) (c .before .before .before .before .pre .0) (c .before .before .before .before .pre .1))
+returns c =
+    let a = c .before .before .before .before .args in (
+      rd-fits _
+          (sum-fits (c .before .before .before .signed .result) (c .before .before .signed2 .result) (c .before .signed3 .result) (c .signed4 .result) (a .w0) (a .v0) (a .w1) (a .v1)
+          (c .before .before .before .signed .ensures) (c .before .before .signed2 .ensures) (c .before .signed3 .ensures) (c .signed4 .ensures) (c .before .before .before .before .pre .0) (c .before .before .before .before .pre .1)),
+      sum-is (c .before .before .before .signed .result) (c .before .before .signed2 .result) (c .before .signed3 .result) (c .signed4 .result) (a .w0) (a .v0) (a .w1) (a .v1)
+          (c .before .before .before .signed .ensures) (c .before .before .signed2 .ensures) (c .before .signed3 .ensures) (c .signed4 .ensures) (c .before .before .before .before .pre .0) (c .before .before .before .before .pre .1),
+    )
 
 pub pair-spec : {M : Type 1} → statement M
 pair-spec =

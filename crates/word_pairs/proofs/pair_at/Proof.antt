@@ -4,9 +4,6 @@ use Rattle.word_pairs.proofs.Integers.{rd-fits, rd-up}
 use borrow.Author.Needs.{needs}
 use Rattle.word_pairs.proofs.pair_at.Statement.{statement}
 use Rattle.word_pairs.proofs.pair_at.Tie as tie
-use Rattle.word_pairs.proofs.pair_at.Reads as reads
-use Rattle.word_pairs.proofs.pair_at.Lts as lts
-use Rattle.word_pairs.proofs.pair.Reads as pair-reads
 
 add-pair : tie.Need-add-pair
 add-pair c = search needs

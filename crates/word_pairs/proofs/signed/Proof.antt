@@ -2,13 +2,10 @@
 -- Assumes nothing.
 use Prim.Native.Nat.{_+_, _%_}
 use native.Mathlib.Omega.{arith}
-use Rattle.word_pairs.proofs.Integers.{signed-diff, signed-is, signed-fits, fits-diff, rd-diff, mul-fits, sum-fits, sum-is, up-less}
-use Rattle.word_pairs.specs.Pairs.{up}
+use Rattle.word_pairs.proofs.Integers.{signed-is, signed-fits}
 use borrow.Author.Needs.{needs}
 use Rattle.word_pairs.proofs.signed.Statement.{statement}
 use Rattle.word_pairs.proofs.signed.Tie as tie
-use Rattle.word_pairs.proofs.signed.Reads as reads
-use Rattle.word_pairs.proofs.signed.Lts as lts
 
 add-result : tie.Need-add-result
 add-result c = search needs

@@ -14,9 +14,6 @@ use Rattle.word_product.proofs.Convolution.{convolution-turned}
 use borrow.Author.Needs.{needs}
 use Rattle.word_product.proofs.convolve.Statement.{statement}
 use Rattle.word_product.proofs.convolve.Tie as tie
-use Rattle.word_product.proofs.convolve.Reads as reads
-use Rattle.word_product.proofs.convolve.Lts as lts
-use Rattle.word_product.proofs.convolve_fitting.Reads as convolve-fitting-reads
 
 -- where nothing is wrong
 fits : (a b out : List ℕ) → length a ≤ maxWords → length b ≤ maxWords → length out + 1 ≡ length a + length b → convolveFits maxWords a b out ≡ true

@@ -6,9 +6,6 @@ use Rattle.lists.proofs.Words.{zeros-are}
 use borrow.Author.Needs.{needs}
 use Rattle.word_product.proofs.convolve_any.Statement.{statement}
 use Rattle.word_product.proofs.convolve_any.Tie as tie
-use Rattle.word_product.proofs.convolve_any.Reads as reads
-use Rattle.word_product.proofs.convolve_any.Lts as lts
-use Rattle.word_product.proofs.convolve_in.Reads as convolve-in-reads
 
 slice-aggregate-convolve-in : tie.Need-slice-aggregate-convolve-in
 slice-aggregate-convolve-in c = search needs

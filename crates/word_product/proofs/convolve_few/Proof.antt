@@ -6,9 +6,6 @@ use Rattle.word_product.specs.Sums.{fewWords}
 use borrow.Author.Needs.{needs}
 use Rattle.word_product.proofs.convolve_few.Statement.{statement}
 use Rattle.word_product.proofs.convolve_few.Tie as tie
-use Rattle.word_product.proofs.convolve_few.Reads as reads
-use Rattle.word_product.proofs.convolve_few.Lts as lts
-use Rattle.word_product.proofs.convolve_in.Reads as convolve-in-reads
 
 slice-aggregate-convolve-in : tie.Need-slice-aggregate-convolve-in
 slice-aggregate-convolve-in c = search needs

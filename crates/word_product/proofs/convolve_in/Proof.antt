@@ -1,7 +1,7 @@
 -- `word_product::convolve_in` meets its contract: the factors are laid, the rows added up, and the sums reduced.
 -- Assumes nothing.
-use mathlib.Core.Path.{_≡_, sym, _∙_}
-use Prim.Native.Nat.{_+_, _-_, _*_, _/_, _%_, _≤_, _<_}
+use mathlib.Core.Path.{sym, _∙_}
+use Prim.Native.Nat.{_+_, _-_, _*_, _/_, _≤_}
 use native.Mathlib.Omega.{arith}
 use lib.ListN.{length}
 use Rattle.field.specs.Fields.{fieldAt}
@@ -13,12 +13,6 @@ use Rattle.word_product.proofs.Fields.{modulus-low}
 use borrow.Author.Needs.{needs}
 use Rattle.word_product.proofs.convolve_in.Statement.{statement}
 use Rattle.word_product.proofs.convolve_in.Tie as tie
-use Rattle.word_product.proofs.convolve_in.Reads as reads
-use Rattle.word_product.proofs.convolve_in.Lts as lts
-use Rattle.field.proofs.modulus_of.Reads as modulus-of-reads
-use Rattle.word_grid.proofs.groups.Reads as groups-reads
-use Rattle.word_grid.proofs.reduce_words.Reads as reduce-words-reads
-use Rattle.word_product.proofs.lay.Reads as lay-reads
 
 modulus-of-requires : tie.Need-modulus-of-requires
 modulus-of-requires c κs = search needs
@@ -103,12 +97,12 @@ returns c =
     let b = c .before .before .before .before .before .before .before .before .before .before .before .before .before .before .before .before .before .before .before .before .before .before .before .before .before .before .before .before .before .before .before .before .before .before .before .before .before .before .args .b .now in
     let g = (length a + 15) / 16 in
     let n = (length b + 30) / 16 in
-    let kept = c .before .before .reduce-words .kept .1 .1 .0 in
+    let m = length (c .before .before .before .before .before .before .before .before .before .before .before .before .before .before .before .before .before .before .before .before .before .before .before .before .before .before .before .before .before .before .before .before .before .before .before .before .before .before .args .out .now) in
     let lp : 65497 ≤ c .before .before .before .before .before .before .before .before .before .before .before .before .before .before .before .before .before .before .before .before .before .before .before .before .before .before .before .before .modulus-of .result = omega (arith, modulus-low (c .before .before .before .before .before .before .before .before .before .before .before .before .before .before .before .before .before .before .before .before .before .before .before .before .before .before .before .before .before .before .before .before .before .before .before .before .before .before .args .field), c .before .before .before .before .before .before .before .before .before .before .before .before .before .before .before .before .before .before .before .before .before .before .before .before .before .before .before .before .modulus-of .ensures) in
     let hp : c .before .before .before .before .before .before .before .before .before .before .before .before .before .before .before .before .before .before .before .before .before .before .before .before .before .before .before .before .modulus-of .result ≤ 65521 = omega (arith, modulus-high (c .before .before .before .before .before .before .before .before .before .before .before .before .before .before .before .before .before .before .before .before .before .before .before .before .before .before .before .before .before .before .before .before .before .before .before .before .before .before .args .field), c .before .before .before .before .before .before .before .before .before .before .before .before .before .before .before .before .before .before .before .before .before .before .before .before .before .before .before .before .modulus-of .ensures) in
-    reduced-is a b lp hp g n (c .before .before .before .before .before .before .before .before .before .before .before .before .before .before .before .before .before .before .before .before .before .before .before .before .lay .ensures) (omega arith) (omega (arith, h .0)) (omega arith) (h .1 .1 .1 .3) (h .1 .1 .1 .4) (c .before .before .before .before .before .before .before .before .before .before .before .before .groups .ensures)
-    (rw kept (c .before .before .reduce-words .ensures))
-    ∙ convolution-is (fieldAt (c .before .before .before .before .before .before .before .before .before .before .before .before .before .before .before .before .before .before .before .before .before .before .before .before .before .before .before .before .before .before .before .before .before .before .before .before .before .before .args .field)) a b (p-at (c .before .before .before .before .before .before .before .before .before .before .before .before .before .before .before .before .before .before .before .before .before .before .before .before .before .before .before .before .before .before .before .before .before .before .before .before .before .before .args .field) ∙ sym (c .before .before .before .before .before .before .before .before .before .before .before .before .before .before .before .before .before .before .before .before .before .before .before .before .before .before .before .before .modulus-of .ensures)) _ (omega (arith, kept, h .0))
+    c .before .before .reduce-words .ensures
+    ∙ reduced-is a b lp hp g n m (c .before .before .before .before .before .before .before .before .before .before .before .before .before .before .before .before .before .before .before .before .before .before .before .before .lay .ensures) (omega arith) (omega (arith, h .0)) (omega arith) (h .1 .1 .1 .3) (h .1 .1 .1 .4) (c .before .before .before .before .before .before .before .before .before .before .before .before .groups .ensures)
+    ∙ convolution-is (fieldAt (c .before .before .before .before .before .before .before .before .before .before .before .before .before .before .before .before .before .before .before .before .before .before .before .before .before .before .before .before .before .before .before .before .before .before .before .before .before .before .args .field)) a b (p-at (c .before .before .before .before .before .before .before .before .before .before .before .before .before .before .before .before .before .before .before .before .before .before .before .before .before .before .before .before .before .before .before .before .before .before .before .before .before .before .args .field) ∙ sym (c .before .before .before .before .before .before .before .before .before .before .before .before .before .before .before .before .before .before .before .before .before .before .before .before .before .before .before .before .modulus-of .ensures)) m (omega (arith, h .0))
 
 pub convolve-in-spec : {M : Type 1} → statement M
 convolve-in-spec =

@@ -6,9 +6,6 @@ use Rattle.word_product.specs.Sums.{moreWords}
 use borrow.Author.Needs.{needs}
 use Rattle.word_product.proofs.convolve_more.Statement.{statement}
 use Rattle.word_product.proofs.convolve_more.Tie as tie
-use Rattle.word_product.proofs.convolve_more.Reads as reads
-use Rattle.word_product.proofs.convolve_more.Lts as lts
-use Rattle.word_product.proofs.convolve_in.Reads as convolve-in-reads
 
 slice-aggregate-convolve-in : tie.Need-slice-aggregate-convolve-in
 slice-aggregate-convolve-in c = search needs

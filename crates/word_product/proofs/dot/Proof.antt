@@ -1,20 +1,15 @@
 -- `word_product::dot` meets its contract: each turn is one row more. The measure is how many are left.
 -- Assumes nothing.
-use mathlib.Core.Path.{_≡_, sym, ap, _∙_}
-use Prim.Native.Nat.{_+_, _-_, _*_, _/_, _%_, _≤_, _<_}
+use mathlib.Core.Path.{_≡_, sym, _∙_}
+use Prim.Native.Nat.{_+_, _-_, _*_, _≤_}
 use native.Mathlib.Omega.{arith}
-use lib.ListN.{length, getD}
+use lib.ListN.{length}
 use Rattle.word_grid.specs.Grid.{sumTo}
 use Rattle.word_product.specs.Sums.{termOf}
 use Rattle.word_product.proofs.RowSums.{dot-start, dot-next, dot-end}
 use borrow.Author.Needs.{needs}
 use Rattle.word_product.proofs.dot.Statement.{statement}
 use Rattle.word_product.proofs.dot.Tie as tie
-use Rattle.word_product.proofs.dot.Reads as reads
-use Rattle.word_product.proofs.dot.Lts as lts
-use Rattle.word_product.proofs.end_row.Reads as end-row-reads
-use Rattle.word_product.proofs.first_row.Reads as first-row-reads
-use Rattle.word_product.proofs.times.Reads as times-reads
 
 abbrev Inv-loop : tie.InvT-loop
 Inv-loop a b k e s₀ j₀ s j = (k + 1 ≤ j + length b) × (j ≤ e) × (s ≤ j * 4294836225) × (s ≡ sumTo j (termOf a b k))

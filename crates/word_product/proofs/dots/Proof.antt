@@ -1,7 +1,7 @@
 -- `word_product::dots` meets its contract: the words below k are written. The measure is how many are not.
 -- Assumes nothing.
 use mathlib.Core.Path.{_≡_, sym, ap, _∙_}
-use Prim.Native.Nat.{_+_, _-_, _%_, _≤_}
+use Prim.Native.Nat.{_-_, _%_, _≤_}
 use native.Mathlib.Omega.{arith}
 use lib.ListN.{length, length-set}
 use Rattle.field.specs.Fields.{modulus, fieldAt}
@@ -12,10 +12,6 @@ use Rattle.word_product.proofs.Convolution.{length-remainders, getD-rem
 use borrow.Author.Needs.{needs}
 use Rattle.word_product.proofs.dots.Statement.{statement}
 use Rattle.word_product.proofs.dots.Tie as tie
-use Rattle.word_product.proofs.dots.Reads as reads
-use Rattle.word_product.proofs.dots.Lts as lts
-use Rattle.field.proofs.reduce.Reads as reduce-reads
-use Rattle.word_product.proofs.dot.Reads as dot-reads
 
 abbrev Inv-loop : tie.InvT-loop
 Inv-loop field a b out₀ k₀ out k = (k ≤ length out) × (length out ≡ length out₀) × Filled out k (remainders (modulus field) (length out₀) a b)

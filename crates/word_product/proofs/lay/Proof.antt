@@ -1,14 +1,9 @@
 -- `word_product::lay` meets its contract: the buffers are what the loops leave.
 -- Assumes nothing.
-use native.Mathlib.Omega.{arith}
 use Rattle.word_product.proofs.Laying.{ready}
 use borrow.Author.Needs.{needs}
 use Rattle.word_product.proofs.lay.Statement.{statement}
 use Rattle.word_product.proofs.lay.Tie as tie
-use Rattle.word_product.proofs.lay.Reads as reads
-use Rattle.word_product.proofs.lay.Lts as lts
-use Rattle.word_layout.proofs.centre.Reads as centre-reads
-use Rattle.word_layout.proofs.weave.Reads as weave-reads
 
 centre-requires : tie.Need-centre-requires
 centre-requires c κs = search needs

@@ -1,15 +1,12 @@
 -- `word_strips::group` meets its contract: each turn is sixteen outputs more.
 -- Assumes nothing.
-use Prim.Native.Nat.{_+_, _-_, _*_, _≤_, _<_}
+use Prim.Native.Nat.{_-_, _*_, _≤_}
 use native.Mathlib.Omega.{arith}
 use Rattle.word_strips.specs.Strips.{Span}
 use Rattle.word_strips.proofs.Turns.{start, joined, to}
 use borrow.Author.Needs.{needs}
 use Rattle.word_strips.proofs.group.Statement.{statement}
 use Rattle.word_strips.proofs.group.Tie as tie
-use Rattle.word_strips.proofs.group.Reads as reads
-use Rattle.word_strips.proofs.group.Lts as lts
-use Rattle.word_strips.proofs.strip.Reads as strip-reads
 
 abbrev Inv-loop : tie.InvT-loop
 Inv-loop lo₀ hi₀ w x v b n s₀ lo hi s = (s ≤ n) × Span w x b 0 (16 * s) lo₀ hi₀ lo hi

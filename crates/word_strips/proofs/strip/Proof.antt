@@ -11,11 +11,6 @@ use Rattle.word_strips.proofs.Turns.{pair-is, turn-gain, start, joined,
 use borrow.Author.Needs.{needs}
 use Rattle.word_strips.proofs.strip.Statement.{statement}
 use Rattle.word_strips.proofs.strip.Tie as tie
-use Rattle.word_strips.proofs.strip.Reads as reads
-use Rattle.word_strips.proofs.strip.Lts as lts
-use Rattle.word_pairs.proofs.gain_high.Reads as gain-high-reads
-use Rattle.word_pairs.proofs.gain_whole.Reads as gain-whole-reads
-use Rattle.word_pairs.proofs.pair_at.Reads as pair-at-reads
 
 abbrev Inv-loop : tie.InvT-loop
 Inv-loop lo₀ hi₀ w x v b q o l₀ lo hi l = (l ≤ 16) × Span w x b q (q + l) lo₀ hi₀ lo hi

@@ -31,20 +31,28 @@ pub fn shorten(
 {
     let mx = words::smaller(nx, x.len());
     let my = words::smaller(ny, y.len());
-    let steps = round(field, inverses, &mut x[..mx], &y[..my], q);
+    let steps = round(field, inverses, x, mx, y, my, q);
     let left = lists::significant_words(&x[..mx]);
     Shortened { steps, left }
 }
 
 // x becomes the remainder of x by y; the words of the quotient go to q. Their number.
 // The table of inverses saves time; nothing depends on it.
-fn round(field: u8, inverses: &[u16], x: &mut [u16], y: &[u16], q: &mut [u16]) -> usize
+fn round(
+    field: u8,
+    inverses: &[u16],
+    x: &mut [u16],
+    mx: usize,
+    y: &[u16],
+    my: usize,
+    q: &mut [u16],
+) -> usize
     ensures steps { λ r. ⌜ r ≡ stepsMade field (given x) (given y) (given q) ⌝ }
     ensures left { λ _. ⌜ now (x .exit) ≡ wordsLeft field (given x) (given y) (given q) ⌝ }
     ensures quotient { λ _. ⌜ now (q .exit) ≡ quotientLeft field (given x) (given y) (given q) ⌝ }
 {
-    let nx = lists::significant_words(x);
-    let ny = lists::significant_words(y);
+    let nx = lists::significant_words(&x[..mx]);
+    let ny = lists::significant_words(&y[..my]);
     if ny == 0 {
         return 0;
     }
@@ -60,7 +68,8 @@ fn round(field: u8, inverses: &[u16], x: &mut [u16], y: &[u16], q: &mut [u16]) -
         return 0;
     }
     let inv = field_inverse::inverse_or_zero(field, inverses, last);
-    word_division::reduce(field, &mut x[..nx], &y[..ny], inv, &mut q[..k]);
+    let wide = words::smaller(y.len(), (ny + 7) / 8 * 8);
+    word_division::reduce_padded(field, x, &y[..wide], ny, inv, &mut q[..k]);
     k
 }
 

@@ -109,8 +109,8 @@ fn take_off(field: u8, n: usize, s: &mut [u16], q: &[u16], t: &[u16], read: usiz
     requires { ⌜ (length (now s) ≡ n + n) × (length (now t) ≡ n + n) × (length (now q) ≤ n) × (read ≤ n) ⌝ }
     ensures { λ _. ⌜ now (s .exit) ≡ lessBoth (modulus field) n (given s) (given q) (given t) read ⌝ }
 {
-    word_division::sub_product(field, &mut s[..n], q, &t[..read]);
-    word_division::sub_product(field, &mut s[n..], q, &t[n..n + read]);
+    word_division::sub_product_below(field, &mut s[..n], q, &t[..read]);
+    word_division::sub_product_below(field, &mut s[n..], q, &t[n..n + read]);
 }
 
 // How many words of the cofactors a round reads, where the parts x have nu and nv significant words. The words that can differ from 0 are
@@ -380,7 +380,7 @@ fn cofactors_between(
     requires { ⌜ ZeroRows maxWords (now u) (now v) (now q) ⌝ }
     ensures { λ r. ⌜ Results (fieldAt field) (longest field) (given f) (given g) r (now (h .exit)) (now (a .exit)) (now (b .exit)) ⌝ }
 {
-    let n = words::larger(2, words::larger(f.len(), g.len()));
+    let n = words::smaller(refusal::MAX_WORDS, words::larger(f.len(), g.len()) + 7);
     let row = 3 * n;
     cofactors_in(
         field,

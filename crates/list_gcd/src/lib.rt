@@ -287,7 +287,7 @@ fn gcd_between(
     ensures { λ r. ⌜ r ≡ gcdDone (fieldAt field) (given f) (given g) ⌝ }
     ensures { λ _. ⌜ now (h .exit) ≡ padded (longest field) (gcdOf (fieldAt field) (given f) (given g)) ⌝ }
 {
-    let n = words::larger(f.len(), g.len());
+    let n = words::smaller(refusal::MAX_WORDS, words::larger(f.len(), g.len()) + 7);
     gcd_in(
         field,
         whole,

@@ -50,6 +50,30 @@ fn reduce_in(field: u8, x: &mut [u16], y: &[u16], inv: u16, q: &mut [u16])
     }
 }
 
+// The division of the first words of x by the first n words of y, where the words of x are below p and y is 0 after its first n words: the
+// rows may run on in these zeros.
+pub fn reduce_padded(field: u8, x: &mut [u16], y: &[u16], n: usize, inv: u16, q: &mut [u16]) {
+    let d = n - 1;
+    let lift = word_row::lift_of(field, inv);
+    let mut k = q.len();
+    while 0 < k {
+        k -= 1;
+        let top = x[d + k];
+        q[k] = field::mul(field, top, inv);
+        word_row::sub_row(field, &mut x[k..], top, lift, y);
+    }
+}
+
+// The product taken off, where the words of s are below p and the lengths fit.
+pub fn sub_product_below(field: u8, s: &mut [u16], q: &[u16], t: &[u16]) {
+    let lift = word_row::lift_of(field, 1);
+    let mut k = 0;
+    while k < q.len() {
+        word_row::sub_row(field, &mut s[k..], q[k], lift, t);
+        k += 1;
+    }
+}
+
 // The product taken off, where the lengths fit.
 fn sub_product_in(field: u8, s: &mut [u16], q: &[u16], t: &[u16])
     requires { ⌜ length (now q) ≤ length (now s) ⌝ }

@@ -16,7 +16,7 @@ use lib.Seq.{getD-set-same, getD-set-other, getD-drop, take-all}
 use borrow.Author.Tests.{lt-ltb, le-ltb}
 use Rattle.lists.proofs.Tabulate.{tabulated}
 use Rattle.word_row.proofs.RowWords.{length-rowFrom, rowFrom-low, rowFrom-at, rowFrom-above}
-use Rattle.word_row.specs.Rows.{rowAt, row, rowFrom, Partway}
+use Rattle.word_row.specs.Rows.{Tight, rowAt, row, rowFrom, Partway}
 
 pub start : (p : ℕ) (x : List ℕ) (m : ℕ) (y : List ℕ) → Partway p x m y x 0
 start p x m y = record { size = refl; done = λ j l. absurd (not-suc-le-zero l); rest = λ j l. refl }
@@ -49,8 +49,8 @@ pub kept-next : {old x : List ℕ} {i : ℕ} (v : ℕ) → Kept old x i → Kept
 kept-next {x = x} {i} v k =
     record { size = length-set x i v ∙ k .size; rest = λ j l. getD-set-other x i j v 0 (omega arith) ∙ k .rest j (omega arith) }
 
-pub kept-below : {p i : ℕ} {old x : List ℕ} → ((k : ℕ) → getD old k 0 < p) → Kept old x i → getD x i 0 < p
-kept-below {i = i} below k = rw (k .rest i (le-refl i)) (below i)
+pub kept-below : {p i : ℕ} {old x : List ℕ} → Tight p old → Kept old x i → getD x i 0 < p
+kept-below {i = i} t k = rw (k .rest i (le-refl i)) (t .at i)
 
 pub upto : {p m n i : ℕ} {old y x : List ℕ} → n ≤ i → i ≤ n → Partway p old m y x i → Partway p old m y x n
 upto h g w = record { size = w .size; done = λ j l. w .done j (omega arith); rest = λ j l. w .rest j (omega arith) }

@@ -2,7 +2,8 @@
 --     row-within, row-beyond                     a word of a row, where y reaches and where it does not
 --     row-cut                                    y need not be read where it is 0
 --     rowFrom-low, rowFrom-at, rowFrom-above     a word of the row step from word k on: before k, where y reaches, and past y
---     rowFrom-below                              the words stay below p
+--     rowFrom-below, tight-rowFrom               the words stay below p
+--     tight-at, tight-take, tight-drop, tight-rest     the same words by another name of p, and a part of them
 -- Assumes nothing.
 use mathlib.Core.Path.{_≡_, sym, _∙_, ap}
 use mathlib.Core.List.{List, _++_}
@@ -15,7 +16,7 @@ use lib.Seq.{getD-take, getD-drop, getD-append-add, length-take-le}
 use borrow.Author.Tests.{lt-ltb, le-ltb}
 use Rattle.lists.proofs.Tabulate.{length-tabulate, getD-tabulate, tabulate-ext}
 use Rattle.lists.specs.Words.{ZeroFrom}
-use Rattle.word_row.specs.Rows.{rowAt, row, rowFrom}
+use Rattle.word_row.specs.Rows.{Tight, rowAt, row, rowFrom}
 
 pub length-row : (p : ℕ) (x : List ℕ) (m : ℕ) (y : List ℕ) → length (row p x m y) ≡ length x
 unfolding row
@@ -106,3 +107,23 @@ rowFrom-below p k x m y pos h j = go (decLt j k) (decLt j (length x)) (decLt (j 
         at : (i : ℕ) → k + i < length x → Dec (i < length y) → getD (rowFrom p k x m y) (k + i) 0 < p
         at i lx (yes ly) = rw (rowFrom-at p k x m y i lx ly) (mod-lt (getD x (k + i) 0 + m * getD y i 0) pos)
         at i lx (no ly) = rw (rowFrom-above p k x m y i (omega arith)) (h (k + i))
+
+pub tight-at : {q p : ℕ} {x : List ℕ} → q ≡ p → Tight p x → Tight q x
+tight-at e t = rw e t
+
+module _ (p : ℕ) (pos : 0 < p) where
+  pub tight-rowFrom : (k : ℕ) (x : List ℕ) (m : ℕ) (y : List ℕ) {z : List ℕ} → Tight p x → z ≡ rowFrom p k x m y → Tight p z
+  tight-rowFrom k x m y t e = rw e (record { at = rowFrom-below p k x m y pos (t .at) })
+
+  pub tight-take : (n : ℕ) (x : List ℕ) → Tight p x → Tight p (take n x)
+  tight-take n x t = record { at = λ k. go k (decLt k n) }
+    where
+      go : (k : ℕ) → Dec (k < n) → getD (take n x) k 0 < p
+      go k (yes l) = rw (getD-take n x k 0 l) (t .at k)
+      go k (no l) = rw (List·getD-eq-default (take n x) 0 {n = k} (let e = length-take n x in omega arith)) pos
+
+  pub tight-drop : (n : ℕ) (x : List ℕ) → Tight p x → Tight p (drop n x)
+  tight-drop n x t = record { at = λ k. rw (getD-drop n x k 0) (t .at (n + k)) }
+
+  pub tight-rest : (n : ℕ) (x : List ℕ) → Tight p x → Tight p (take (length x - n) (drop n x))
+  tight-rest n x t = tight-take (length x - n) (drop n x) (tight-drop n x t)

@@ -1,4 +1,5 @@
 -- A row on words, for every input.
+--     Tight p x                 no word of x is loose: each is below p
 --     rowAt p x m y i           word i of x + m · y modulo p, where y reaches; else word i of x
 --     row p x m y               the words of x + m · y
 --     minusProduct p a m        -a · m modulo p
@@ -15,6 +16,9 @@ use Prim.Native.Nat.{ℕ, _+_, _-_, _*_, _%_, _≤_, _<_}
 use lib.Dec.{ltb}
 use lib.ListN.{length, getD, take, drop}
 use Rattle.lists.specs.Tabulate.{tabulate}
+
+pub record Tight (p : ℕ) (x : List ℕ) : Type 0 where
+  pub at : (k : ℕ) → getD x k 0 < p
 
 unfoldable pub rowAt : (p : ℕ) → List ℕ → ℕ → List ℕ → ℕ → ℕ
 rowAt p x m y i = cond (ltb i (length y)) ((getD x i 0 + m * getD y i 0) % p) (getD x i 0)

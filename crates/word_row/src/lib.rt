@@ -1,10 +1,10 @@
 // The row step on words: x plus m times y, by Montgomery's products.
 ghost use mathlib.Core.Path.{_≡_};
 ghost use Prim.Native.Nat.{ℕ, min, _+_, _-_, _*_, _%_, _<_, _≤_};
-ghost use lib.ListN.{length, getD};
+ghost use lib.ListN.{length};
 ghost use Rattle.refusal.specs.Contract.{given};
 ghost use Rattle.field.specs.Fields.{modulus, square};
-ghost use Rattle.word_row.specs.Rows.{row, minusProduct, Partway};
+ghost use Rattle.word_row.specs.Rows.{Tight, row, minusProduct, Partway};
 ghost use Rattle.word_row.specs.Montgomery.{Modulus, Factor, liftOf};
 
 // x plus m times y, as far as both reach: whole groups of 8 words by Montgomery's products, and the rest word by word.
@@ -35,7 +35,7 @@ pub fn lift_of(field: u8, m: u16) -> u16
 // x less a times m times y, as far as both reach, where the words of x are below p. What depends on a takes one Montgomery product. Where both
 // slices reach a multiple of 8 words, LLVM's loop has no rest.
 pub fn sub_row(field: u8, x: &mut [u16], a: u16, m: u16, lift: u16, y: &[u16])
-    requires { ⌜ ((k : ℕ) → getD (now x) k 0 < modulus field) ⌝ }
+    requires { ⌜ Tight (modulus field) (now x) ⌝ }
     requires { ⌜ lift ≡ liftOf (modulus field) (square field) m ⌝ }
     ensures { λ _. ⌜ now (x .exit) ≡ row (modulus field) (given x) (minusProduct (modulus field) a m) (given y) ⌝ }
 {
@@ -52,7 +52,7 @@ pub fn sub_row(field: u8, x: &mut [u16], a: u16, m: u16, lift: u16, y: &[u16])
 fn lifted_row(x: &mut [u16], y: &[u16], n: usize, g: u16, s: u16, p: u16)
     requires { ⌜ (32768 ≤ p) × (g < p) ⌝ }
     requires { ⌜ (n ≤ length (now x)) × (n ≤ length (now y)) ⌝ }
-    requires { ⌜ ((k : ℕ) → getD (now x) k 0 < p) ⌝ }
+    requires { ⌜ Tight p (now x) ⌝ }
     ensures { λ _. ⌜ ((e m : ℕ) → Factor p e m g s → Partway p (given x) m (given y) (now (x .exit)) n) ⌝ }
 {
     let mut j = 0;

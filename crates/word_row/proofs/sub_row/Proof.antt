@@ -1,11 +1,12 @@
 -- `word_row::sub_row` meets its contract: g and s are the constants of -a · m.
 -- Assumes nothing.
-use mathlib.Core.Path.{refl, sym, _∙_, ap}
+use mathlib.Core.Path.{refl, _∙_, ap}
 use native.Mathlib.Nat.{le-refl}
 use native.Mathlib.Omega.{arith}
 use Rattle.field.specs.Fields.{square}
 use Rattle.word_row.specs.Montgomery.{Modulus, Factor}
 use Rattle.word_row.specs.Rows.{row, minusProduct}
+use Rattle.word_row.proofs.RowWords.{tight-at}
 use Rattle.word_row.proofs.Loops.{finish}
 use Rattle.word_row.proofs.Montgomery.{modulus-at, lift-factor, lift-at, minus, minus-factor, factor-below}
 use borrow.Author.Needs.{needs}
@@ -47,7 +48,7 @@ smaller-requires c κs = search needs
 lifted-row-requires : tie.Need-lifted-row-requires
 lifted-row-requires c κs = (
   (lifted (c .before .before .before .before) .half, c .before .before .before .add-product-below .ensures .0),
-  ((omega arith, omega arith), rw (sym (c .before .before .before .before .before .before .modulus-of .ensures)) at (c .before .before .before .before .before .before .before .before .before .pre .0)),
+  ((omega arith, omega arith), tight-at (c .before .before .before .before .before .before .modulus-of .ensures) (c .before .before .before .before .before .before .before .before .before .pre .0)),
 )
 
 same-length : tie.Need-same-length

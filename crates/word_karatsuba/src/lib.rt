@@ -10,9 +10,9 @@ ghost use Rattle.refusal.specs.Limits.{maxWords};
 ghost use Rattle.field.specs.Fields.{modulus, fieldAt};
 ghost use Rattle.lists.specs.Words.{ZeroFrom};
 ghost use Rattle.word_product.specs.Convolution.{convolvedInto, convolution};
-ghost use Rattle.word_row.specs.Rows.{row};
+ghost use Rattle.word_row.specs.Rows.{Tight, row};
 ghost use Rattle.word_division.specs.Reduction.{negated};
-ghost use Rattle.word_karatsuba.specs.Halves.{Tight, Cut, Halving, Apart, halvesAdded, productsJoined};
+ghost use Rattle.word_karatsuba.specs.Halves.{Cut, Halving, Apart, halvesAdded, productsJoined};
 
 // Two factors of at most so many words together are not cut: `word_product` has small buffers for these, and cuts them itself.
 const SHORT: usize = 264;

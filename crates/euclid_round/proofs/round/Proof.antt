@@ -29,7 +29,7 @@ same-length : tie.Need-same-length
 same-length c = search needs
 
 returns : tie.Need-returns
-returns c = 
+returns c =
     let a = c .before .before .before .before .before .before .before .before .before .args in
     let nx = c .before .before .before .significant-words .ensures in
     let ny = c .before .significant-words2 .ensures in
@@ -39,12 +39,12 @@ sub-last : tie.Need-sub-last
 sub-last c = search needs
 
 mul-last : tie.Need-mul-last
-mul-last c = 
+mul-last c =
     let a = c .before .before .before .before .before .before .before .before .before .args in
     omega (arith, significant-le (take (a .my) (a .y .now)), length-take (a .my) (a .y .now))
 
 shared-slice-read-last : tie.Need-shared-slice-read-last
-shared-slice-read-last c = 
+shared-slice-read-last c =
     let a = c .before .before .before .before .before .before .before .before .before .before .args in
     omega (arith, significant-le (take (a .my) (a .y .now)), length-take (a .my) (a .y .now))
 
@@ -55,7 +55,7 @@ same-length-2 : tie.Need-same-length-2
 same-length-2 c = search needs
 
 returns-2 : tie.Need-returns-2
-returns-2 c = 
+returns-2 c =
     let a = c .before .before .before .before .before .before .before .before .before .before .before .before .args in
     let nx = c .before .before .before .before .before .before .significant-words .ensures in
     let ny = c .before .before .before .before .significant-words2 .ensures in
@@ -65,7 +65,7 @@ same-length-3 : tie.Need-same-length-3
 same-length-3 c = search needs
 
 returns-3 : tie.Need-returns-3
-returns-3 c = 
+returns-3 c =
     let a = c .before .before .before .before .before .before .before .before .before .before .before .before .before .args in
     let nx = c .before .before .before .before .before .before .before .significant-words .ensures in
     let ny = c .before .before .before .before .before .significant-words2 .ensures in
@@ -78,7 +78,7 @@ same-length-4 : tie.Need-same-length-4
 same-length-4 c = search needs
 
 returns-4 : tie.Need-returns-4
-returns-4 c = 
+returns-4 c =
     let a = c .before .before .before .before .before .before .before .before .before .before .before .before .before .before .args in
     let nx = c .before .before .before .before .before .before .before .before .significant-words .ensures in
     let ny = c .before .before .before .before .before .before .significant-words2 .ensures in
@@ -88,7 +88,7 @@ inverse-or-zero-requires : tie.Need-inverse-or-zero-requires
 inverse-or-zero-requires c κs = search needs
 
 whole-groups-requires : tie.Need-whole-groups-requires
-whole-groups-requires c κs = 
+whole-groups-requires c κs =
     let a = c .before .before .before .before .before .before .before .before .before .before .before .before .before .before .before .args in
     omega (arith, significant-le (take (a .my) (a .y .now)), length-take (a .my) (a .y .now))
 
@@ -102,11 +102,10 @@ slice-aggregate-reduce-padded-2 : tie.Need-slice-aggregate-reduce-padded-2
 slice-aggregate-reduce-padded-2 c = simp length-take (omega arith)
 
 reduce-padded-requires : tie.Need-reduce-padded-requires
-reduce-padded-requires c κs = 
+reduce-padded-requires c κs =
     let a = c .before .before .before .before .before .before .before .before .before .before .before .before .before .before .before .before .before .before .before .args in
     let nx = c .before .before .before .before .before .before .before .before .before .before .before .before .before .significant-words .ensures in
-    let ny = c .before .before .before .before .before .before .before .before .before .before .before .significant-words2 .ensures in
-    (
+    let ny = c .before .before .before .before .before .before .before .before .before .before .before .significant-words2 .ensures in (
       (omega arith, simp length-take (omega arith), simp length-take (omega (arith, significant-le (take (a .mx) (a .x .now)), length-take (a .mx) (a .x .now)))),
       (c .before .before .before .before .before .before .before .before .before .before .before .before .before .before .before .before .before .before .before .pre .1 .0, zeros-padded (c .before .before .before .before .before .before .before .before .before .before .before .before .before .before .before .before .before .before .before .pre .1 .1) (c .before .before .before .whole-groups .result) ny),
     )
@@ -118,7 +117,7 @@ same-length-6 : tie.Need-same-length-6
 same-length-6 c = search needs
 
 returns-5 : tie.Need-returns-5
-returns-5 c = 
+returns-5 c =
     let a = c .before .before .before .before .before .before .before .before .before .before .before .before .before .before .before .before .before .before .before .before .before .before .before .before .args in
     let nx = c .before .before .before .before .before .before .before .before .before .before .before .before .before .before .before .before .before .before .significant-words .ensures in
     let ny = c .before .before .before .before .before .before .before .before .before .before .before .before .before .before .before .before .significant-words2 .ensures in

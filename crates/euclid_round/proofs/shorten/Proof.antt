@@ -33,7 +33,7 @@ same-length-2 : tie.Need-same-length-2
 same-length-2 c = search needs
 
 returns : tie.Need-returns
-returns c = 
+returns c =
     let a = c .before .before .before .before .before .before .before .before .before .before .before .before .before .before .before .args in
     let r = c .before .before .before .before .before .before .round in
     shorten-front (a .field) (a .nx) (a .ny) (a .x .now) (a .y .now) (a .q .now) (c .before .before .before .before .before .before .before .before .before .before .smaller .ensures) (c .before .before .before .before .before .before .before .before .before .smaller2 .ensures) (c .before .before .before .before .before .before .round .kept .1 .1 .0) (r .ensures .0) (c .significant-words .ensures) (r .ensures .1 .0) (r .ensures .1 .1)

@@ -121,15 +121,15 @@ module _ (k nx ny : ℕ) (x y q : List ℕ) where
       × ((x′ ≡ wordsLeft k (take nx x) (take ny y) q ++ drop nx x) × (q′ ≡ quotientLeft k (take nx x) (take ny y) q)))
 
   -- its numbers may be too large
-  pub shorten-front : {mx my steps left : ℕ} {z q′ : List ℕ} → mx ≡ min nx (length x) → my ≡ min ny (length y) → length z ≡ mx
-      → steps ≡ stepsMade k (take mx x) (take my y) q → left ≡ significant (take mx (z ++ drop mx x))
-      → z ≡ wordsLeft k (take mx x) (take my y) q → q′ ≡ quotientLeft k (take mx x) (take my y) q
-      → Shorten steps left (z ++ drop mx x) q′
-  shorten-front {mx} {my} {z = z} ex ey ez es el ew eq = (
+  pub shorten-front : {mx my steps left : ℕ} {x′ q′ : List ℕ} → mx ≡ min nx (length x) → my ≡ min ny (length y) → length x′ ≡ length x
+      → steps ≡ stepsMade k (take mx x) (take my y) q → left ≡ significant (take mx x′)
+      → x′ ≡ wordsLeft k (take mx x) (take my y) q ++ drop mx x → q′ ≡ quotientLeft k (take mx x) (take my y) q
+      → Shorten steps left x′ q′
+  shorten-front {mx} {my} {x′ = x′} ex ey same es el ew eq = (
     es ∙ ap₂ (λ a b. stepsMade k a b q) fx fy,
     (
-      el ∙ ap significant (front nx (z ++ drop mx x) all .0),
-      (ap₂ _++_ (ew ∙ ap₂ (λ a b. wordsLeft k a b q) fx fy) (front nx x ex .1), eq ∙ ap₂ (λ a b. quotientLeft k a b q) fx fy),
+      el ∙ ap significant (front nx x′ all .0),
+      (ew ∙ ap₂ _++_ (ap₂ (λ a b. wordsLeft k a b q) fx fy) (front nx x ex .1), eq ∙ ap₂ (λ a b. quotientLeft k a b q) fx fy),
     ),
   )
     where
@@ -139,8 +139,8 @@ module _ (k nx ny : ℕ) (x y q : List ℕ) where
       fy : take my y ≡ take ny y
       fy = front ny y ey .0
 
-      all : mx ≡ min nx (length (z ++ drop mx x))
-      all = rw (length-append, length-drop) (omega arith)
+      all : mx ≡ min nx (length x′)
+      all = omega arith
 
   pub shortened : {steps left : ℕ} {x′ q′ : List ℕ} → nx ≡ significant x → ny ≡ significant y → length x′ ≡ length x
       → Shorten steps left x′ q′ → Rounded k x y q steps left x′ q′

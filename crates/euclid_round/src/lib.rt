@@ -1,10 +1,12 @@
-// One of Euclid's rounds on words, and the writing of a result. Each function is total: where its input does not fit, nothing is written.
+// One of Euclid's rounds on words, and the writing of a result. Where the input does not fit, nothing is written.
 ghost use mathlib.Core.Path.{_≡_};
 ghost use mathlib.Core.List.{_++_};
-ghost use lib.ListN.{take, drop};
+ghost use Prim.Native.Nat.{_≤_};
+ghost use lib.ListN.{length, take, drop};
 ghost use Rattle.refusal.specs.Contract.{given};
 ghost use Rattle.field.specs.Fields.{modulus};
 ghost use Rattle.lists.specs.Degrees.{significant};
+ghost use Rattle.lists.specs.Words.{ZeroFrom, Tight};
 ghost use Rattle.euclid_round.specs.Round.{stepsMade, wordsLeft, quotientLeft, formLeft, outLeft, multiplied, zeroedFrom};
 
 // What a round made: the number of words of its quotient, and of significant words that it left of x.
@@ -13,8 +15,8 @@ pub struct Shortened {
     pub left: usize,
 }
 
-// A round on the first nx words of x and the first ny of y. Where these are the significant ones it is the round on x and y, and each
-// search for the end of x or y begins at the end, and not at the top of the zeros.
+// A round on the first nx words of x and the first ny of y, where the words of x are below p, and y is 0 from word ny on. Where these are the
+// significant ones it is the round on x and y, and each search for the end of x or y begins at the end, and not at the top of the zeros.
 pub fn shorten(
     field: u8,
     inverses: &[u16],
@@ -24,6 +26,7 @@ pub fn shorten(
     ny: usize,
     q: &mut [u16],
 ) -> Shortened
+    requires { ⌜ Tight (modulus field) (now x) × ZeroFrom ny (now y) ⌝ }
     ensures steps { λ r. ⌜ r .steps ≡ stepsMade field (take nx (given x)) (take ny (given y)) (given q) ⌝ }
     ensures count { λ r. ⌜ r .left ≡ significant (take nx (now (x .exit))) ⌝ }
     ensures left { λ _. ⌜ now (x .exit) ≡ wordsLeft field (take nx (given x)) (take ny (given y)) (given q) ++ drop nx (given x) ⌝ }
@@ -31,20 +34,30 @@ pub fn shorten(
 {
     let mx = words::smaller(nx, x.len());
     let my = words::smaller(ny, y.len());
-    let steps = round(field, inverses, &mut x[..mx], &y[..my], q);
+    let steps = round(field, inverses, x, mx, y, my, q);
     let left = lists::significant_words(&x[..mx]);
     Shortened { steps, left }
 }
 
-// x becomes the remainder of x by y; the words of the quotient go to q. Their number.
+// The first mx words of x become the remainder by the first my of y; the words of the quotient go to q. Their number.
 // The table of inverses saves time; nothing depends on it.
-fn round(field: u8, inverses: &[u16], x: &mut [u16], y: &[u16], q: &mut [u16]) -> usize
-    ensures steps { λ r. ⌜ r ≡ stepsMade field (given x) (given y) (given q) ⌝ }
-    ensures left { λ _. ⌜ now (x .exit) ≡ wordsLeft field (given x) (given y) (given q) ⌝ }
-    ensures quotient { λ _. ⌜ now (q .exit) ≡ quotientLeft field (given x) (given y) (given q) ⌝ }
+fn round(
+    field: u8,
+    inverses: &[u16],
+    x: &mut [u16],
+    mx: usize,
+    y: &[u16],
+    my: usize,
+    q: &mut [u16],
+) -> usize
+    requires { ⌜ (mx ≤ length (now x)) × (my ≤ length (now y)) ⌝ }
+    requires { ⌜ Tight (modulus field) (now x) × ZeroFrom my (now y) ⌝ }
+    ensures steps { λ r. ⌜ r ≡ stepsMade field (take mx (given x)) (take my (given y)) (given q) ⌝ }
+    ensures left { λ _. ⌜ now (x .exit) ≡ wordsLeft field (take mx (given x)) (take my (given y)) (given q) ++ drop mx (given x) ⌝ }
+    ensures quotient { λ _. ⌜ now (q .exit) ≡ quotientLeft field (take mx (given x)) (take my (given y)) (given q) ⌝ }
 {
-    let nx = lists::significant_words(x);
-    let ny = lists::significant_words(y);
+    let nx = lists::significant_words(&x[..mx]);
+    let ny = lists::significant_words(&y[..my]);
     if ny == 0 {
         return 0;
     }
@@ -60,8 +73,20 @@ fn round(field: u8, inverses: &[u16], x: &mut [u16], y: &[u16], q: &mut [u16]) -
         return 0;
     }
     let inv = field_inverse::inverse_or_zero(field, inverses, last);
-    word_division::reduce(field, &mut x[..nx], &y[..ny], inv, &mut q[..k]);
+    let wide = whole_groups(ny, y.len());
+    word_division::reduce_padded(field, x, &y[..wide], ny, inv, &mut q[..k]);
     k
+}
+
+// n rounded up to a multiple of 8, as a row is added in groups of 8 words; `most` where that is too near.
+fn whole_groups(n: usize, most: usize) -> usize
+    requires { ⌜ n ≤ most ⌝ }
+    ensures { λ r. ⌜ (n ≤ r) × (r ≤ most) ⌝ }
+{
+    if most - n < 7 {
+        return most;
+    }
+    (n + 7) / 8 * 8
 }
 
 // With the factorials as whole and their inverses as part: the list of `words` words whose scaled form is m times the words of form, and zeros

@@ -3,6 +3,7 @@
 --     row-steps      its quotient has at most n words
 --     row-count      the number that it hands back is that of the row's significant words
 --     row-words      the row is then `remainingRow`
+--     cut-tight      the words of the cofactors are below p
 -- Assumes nothing.
 use mathlib.Core.Path.{_≡_, sym, _∙_, ap, ap₂}
 use mathlib.Core.Bool.{cond, true}
@@ -13,8 +14,10 @@ use lib.ListN.{length, take, drop}
 use lib.Seq.{take-at, drop-at, take-take}
 use Rattle.algebra.specs.PrimeField.{PrimeField, positive}
 use Rattle.field.specs.Fields.{modulus, fieldAt}
+use Rattle.field.proofs.Fields.{p-at}
 use Rattle.lists.specs.Degrees.{significant}
 use Rattle.lists.proofs.Words.{zero-later}
+use Rattle.lists.specs.Words.{Tight}
 use Rattle.word_division.specs.Reduction.{lessProduct}
 use Rattle.word_division.proofs.Cut.{lessProduct-cut}
 use Rattle.euclid_round.specs.Round.{roundSteps, roundFits, remaining, quotientWords}
@@ -22,7 +25,7 @@ use Rattle.euclid_round.proofs.Parts.{Rounded}
 use Rattle.euclid_round.proofs.Rounds.{round-fits, length-remaining, length-quotientWords, roundSteps-le}
 use Rattle.list_gcd.specs.Internal.{Buffer}
 use Rattle.list_cofactors.specs.Internal.{partX, partS, partT, reach, Cut, lessQuotient, remainingRow}
-use Rattle.list_cofactors.proofs.Parts.{rest, rest-is, put-back}
+use Rattle.list_cofactors.proofs.Parts.{rest, rest-is, second-half, put-back}
 use Rattle.list_cofactors.proofs.Rounds.{row-x}
 
 module _ (k n : ℕ) (u v q : List ℕ) (eu : length u ≡ n + (n + n)) (eq : length q ≡ n) (bu : Buffer (fieldAt k) n (partX n u)) (bv : Buffer (fieldAt k) n (partX n v)) (some : 0 < significant (partX n v)) where
@@ -79,3 +82,10 @@ module _ (k n : ℕ) (u v q : List ℕ) (eu : length u ≡ n + (n + n)) (eq : le
         (ap (lessProduct (F .p) (partS n u) digits) (sym (take-take c n (drop n v) inside))
         ∙ lessProduct-cut (F .p) (positive F) c (zero-later far (cut .short .part-s)) (partS n u) digits (cut .part-s))
         (lessProduct-cut (F .p) (positive F) c (zero-later far (cut .short .part-t)) (partT n u) digits (cut .part-t)))
+
+-- the words of the cofactors are below p, the part x being put back
+pub cut-tight : (k n : ℕ) (u v z : List ℕ) → length z ≡ n → Cut (fieldAt k) n u v
+    → Tight (modulus k) (take n (rest n (z ++ drop n u))) × Tight (modulus k) (drop n (rest n (z ++ drop n u)))
+cut-tight k n u v z long cut =
+    rw (second-half n u z long)
+    (record { at = λ i. rw (p-at k) at (cut .part-s i) }, record { at = λ i. rw (p-at k) at (cut .part-t i) })

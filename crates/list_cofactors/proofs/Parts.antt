@@ -1,15 +1,12 @@
 -- The parts of a row, and parts that are lent and put back.
 -- Assumes nothing.
 use mathlib.Core.Path.{_≡_, _∙_, ap, ap₂}
-use mathlib.Core.Bool.{cond}
 use mathlib.Core.List.{List, _++_, append-nil}
 use Prim.Native.Nat.{ℕ, _+_, _-_, _≤_}
 use native.Mathlib.Omega.{arith}
-use lib.Dec.{leb}
 use lib.ListN.{length, take, drop, length-append, length-drop, drop-of-length-le}
 use lib.Seq.{take-at, drop-at, take-all, length-take-le}
-use borrow.Author.Tests.{le-leb}
-use Rattle.word_division.specs.Reduction.{lessProduct, lessProductFits}
+use Rattle.word_division.specs.Reduction.{lessProduct}
 use Rattle.word_division.proofs.LessProduct.{length-lessProduct}
 use Rattle.list_cofactors.specs.Internal.{partX, partS, partT}
 
@@ -43,38 +40,25 @@ length-put k x z e l = simp (length-append, length-drop) (omega arith)
 pub put-back : (k : ℕ) (x z : List ℕ) → take k x ++ (z ++ drop (length x - k) (drop k x)) ≡ take k x ++ z
 put-back k x z = ap (λ l. take k x ++ l) (ap (λ l. z ++ l) (drop-of-length-le (drop k x) (rest-fits k x)) ∙ append-nil z)
 
+-- the second half after the first is put back
+pub second-half : (n : ℕ) (s a : List ℕ) → length a ≡ n → rest n (a ++ drop n s) ≡ drop n s
+second-half n s a e = rest-is n (a ++ drop n s) ∙ drop-at a (drop n s) n e
+
 -- a product by the first c words of t taken off each half
-pub taken-off : (p n c : ℕ) (s q t : List ℕ) {a b : List ℕ} → length s ≡ n + n → length q ≤ n
-    → a ≡ cond (lessProductFits (take n s) q) (lessProduct p (take n s) q (take c t)) (take n s)
-    → b ≡ cond (lessProductFits (rest n (a ++ drop n s)) q) (lessProduct p (rest n (a ++ drop n s)) q (take (n + c - n) (drop n t))) (rest n (a ++ drop n s))
-    → take n (a ++ drop n s) ++ (b ++ drop (length (a ++ drop n s) - n) (drop n (a ++ drop n s)))
-    ≡ lessProduct p (take n s) q (take c t) ++ lessProduct p (drop n s) q (take c (drop n t))
-unfolding lessProductFits
-taken-off p n c s q t {a} {b} es lq ea eb =
-    put-back n (a ++ drop n s) b ∙ ap₂ _++_ (take-at a (drop n s) n long ∙ first) second
-  where
-    front : length (take n s) ≡ n
-    front = length-take-le n s (omega arith)
+module _ (p n c : ℕ) (s q t : List ℕ) {a : List ℕ} (es : length s ≡ n + n) (first : a ≡ lessProduct p (take n s) q (take c t)) where
+  pub first-long : length a ≡ n
+  first-long = ap length first ∙ length-lessProduct p (take n s) q (take c t) ∙ length-take-le n s (omega arith)
 
-    back : length (drop n s) ≡ n
-    back = length-drop n s ∙ omega arith
+  pub taken-off : {b : List ℕ} → b ≡ lessProduct p (rest n (a ++ drop n s)) q (take (n + c - n) (drop n t))
+      → take n (a ++ drop n s) ++ (b ++ drop (length (a ++ drop n s) - n) (drop n (a ++ drop n s)))
+      ≡ lessProduct p (take n s) q (take c t) ++ lessProduct p (drop n s) q (take c (drop n t))
+  taken-off {b} eb = put-back n (a ++ drop n s) b ∙ ap₂ _++_ (take-at a (drop n s) n first-long ∙ first) second
+    where
+      words : n + c - n ≡ c
+      words = omega arith
 
-    first : a ≡ lessProduct p (take n s) q (take c t)
-    first = ea ∙ ap (λ z. cond z (lessProduct p (take n s) q (take c t)) (take n s)) (le-leb (length q) (length (take n s)) (omega (arith, front)))
-
-    long : length a ≡ n
-    long = ap length first ∙ length-lessProduct p (take n s) q (take c t) ∙ front
-
-    same : rest n (a ++ drop n s) ≡ drop n s
-    same = rest-is n (a ++ drop n s) ∙ drop-at a (drop n s) n long
-
-    words : n + c - n ≡ c
-    words = omega arith
-
-    second : b ≡ lessProduct p (drop n s) q (take c (drop n t))
-    second =
-        eb ∙ ap₂ (λ x i. cond (leb (length q) (length x)) (lessProduct p x q (take i (drop n t))) x) same words
-        ∙ ap (λ z. cond z (lessProduct p (drop n s) q (take c (drop n t))) (drop n s)) (le-leb (length q) (length (drop n s)) (omega (arith, back)))
+      second : b ≡ lessProduct p (drop n s) q (take c (drop n t))
+      second = eb ∙ ap₂ (λ x i. lessProduct p x q (take i (drop n t))) (second-half n s a first-long) words
 
 -- a row put together from its parts
 module _ (n : ℕ) (x s t : List ℕ) (lx : length x ≡ n) (ls : length s ≡ n) where

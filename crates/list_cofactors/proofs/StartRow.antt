@@ -7,7 +7,7 @@
 use mathlib.Core.Path.{_≡_, sym, _∙_, ap, subst}
 use mathlib.Core.Bool.{cond}
 use mathlib.Core.List.{List, _++_}
-use Prim.Native.Nat.{ℕ, max, _+_, _-_, _*_, _≤_, _<_}
+use Prim.Native.Nat.{ℕ, min, max, _+_, _-_, _*_, _≤_, _<_}
 use native.Mathlib.Decide.{decLt}
 use native.Mathlib.Omega.{arith}
 use lib.ListN.{getD, length, set, take, drop, length-append, length-drop, length-set, replicate, length-replicate, List·getD-eq-default}
@@ -44,7 +44,7 @@ rows-part n {u} {v} {q} l z =
       zeros-v = getD-part v (3 * n) (z .zeros-v);
     }
 
-pub part-words : (F : PrimeField) {m : ℕ} (n : ℕ) {f g : List ℕ} → 1 < m → Ready F m f g → n ≡ max 2 (max (length f) (length g))
+pub part-words : (F : PrimeField) {m : ℕ} (n : ℕ) {f g : List ℕ} → 1 < m → Ready F m f g → n ≡ min m (max (length f) (length g) + 7)
     → (1 < n) × (n ≤ m) × Ready F n f g
 part-words F n more r e =
     let short-f = r .short-f in

@@ -12,6 +12,7 @@ ghost use Rattle.field.specs.Fields.{modulus, fieldAt, longest};
 ghost use Rattle.field_tables.specs.Factorials.{Tables};
 ghost use Rattle.lists.specs.Degrees.{naiveDegree, significant};
 ghost use Rattle.lists.specs.Lists.{scaled};
+ghost use Rattle.lists.specs.Words.{Tight};
 ghost use Rattle.euclid_theory.specs.Gcd.{identityDegree};
 ghost use Rattle.list_gcd.specs.Calls.{gcdReply, Greatest};
 ghost use Rattle.list_gcd.specs.Internal.{Ready, Buffer};
@@ -104,9 +105,10 @@ fn start_row(
     row[n + one] = 1;
 }
 
-// s less q times the first `read` words of t, for both cofactors of a row.
+// s less q times the first `read` words of t, for both cofactors of a row; the words of s are below p.
 fn take_off(field: u8, n: usize, s: &mut [u16], q: &[u16], t: &[u16], read: usize)
     requires { ⌜ (length (now s) ≡ n + n) × (length (now t) ≡ n + n) × (length (now q) ≤ n) × (read ≤ n) ⌝ }
+    requires { ⌜ Tight (modulus field) (take n (now s)) × Tight (modulus field) (drop n (now s)) ⌝ }
     ensures { λ _. ⌜ now (s .exit) ≡ lessBoth (modulus field) n (given s) (given q) (given t) read ⌝ }
 {
     word_division::sub_product(field, &mut s[..n], q, &t[..read]);
@@ -358,8 +360,7 @@ fn cofactors_with(
     )
 }
 
-// The same in as much of three arrays of zeros as the lists take: as many words as the longer one has, but not below 2, as two constants have
-// cofactors of 2 words.
+// The same in as much of three arrays of zeros as the lists take.
 fn cofactors_between(
     field: u8,
     whole: &[u16],
@@ -380,7 +381,7 @@ fn cofactors_between(
     requires { ⌜ ZeroRows maxWords (now u) (now v) (now q) ⌝ }
     ensures { λ r. ⌜ Results (fieldAt field) (longest field) (given f) (given g) r (now (h .exit)) (now (a .exit)) (now (b .exit)) ⌝ }
 {
-    let n = words::larger(2, words::larger(f.len(), g.len()));
+    let n = list_gcd::buffer_words(field, f, g);
     let row = 3 * n;
     cofactors_in(
         field,

@@ -2,6 +2,7 @@
 --     LedOn                 the rounds go on after one that left x′ of x, and x′ has fewer significant words than y
 -- Theorems:
 --     led-start, led-on     before the first round; after one more
+--     round-wants           the words are below p, and 0 from the number of significant ones on
 --     led-end               where y is zero: all rounds are made, and x is the last x
 -- Assumes nothing.
 use mathlib.Core.Path.{_≡_, refl, sym, _∙_, ap, subst}
@@ -14,9 +15,11 @@ use Rattle.algebra.specs.Ring.{CommRing}
 use Rattle.algebra.specs.Euclid.{Euclid, next, done}
 use Rattle.algebra.proofs.Euclid.{done-last}
 use Rattle.algebra.specs.PrimeField.{PrimeField, scalarField}
-use Rattle.field.specs.Fields.{fieldAt}
+use Rattle.field.specs.Fields.{fieldAt, modulus}
+use Rattle.field.proofs.Fields.{p-at}
 use Rattle.lists.specs.Degrees.{significant}
-use Rattle.lists.specs.Words.{seriesOf}
+use Rattle.lists.specs.Words.{ZeroFrom, seriesOf, Tight}
+use Rattle.lists.proofs.Extents.{after-significant}
 use Rattle.euclid_round.specs.Round.{remaining}
 use Rattle.euclid_round.proofs.Parts.{Shorten, Rounded, shortened}
 use Rattle.euclid_round.proofs.Rounds.{end-euclid, rounds-few, length-remaining, remaining-low, round-euclid, round-smaller, round-fits}
@@ -100,6 +103,13 @@ module _ (F : PrimeField) (n : ℕ) where
               series = sym (ap (λ z. z .last) ended ∙ done-last (F .series) (scalarField F) (seriesOf F x)) ∙ t .last;
             };
           }
+
+-- what a round wants of its buffers
+pub round-wants : (k n : ℕ) {x y : List ℕ} {ny : ℕ} → Buffer (fieldAt k) n x → ny ≡ significant y → Tight (modulus k) x × ZeroFrom ny y
+round-wants k n {x} {y} b e = (
+  record { at = λ i. rw (p-at k) at (b .below i) },
+  record { at = λ i l. after-significant y i (omega arith) },
+)
 
 -- a round on words; n of them stand in each buffer
 pub led-on : (k n nx ny : ℕ) (x₀ y₀ x y q : List ℕ) (rounds : ℕ) {steps left : ℕ} {x′ q′ : List ℕ} → Buffer (fieldAt k) n x₀

@@ -2,7 +2,7 @@
 ghost use mathlib.Core.Path.{_≡_};
 ghost use mathlib.Core.Bool.{cond};
 ghost use mathlib.Core.List.{[], _∷_};
-ghost use Prim.Native.Nat.{ℕ, _+_, _<_, _≤_};
+ghost use Prim.Native.Nat.{ℕ, min, max, _+_, _<_, _≤_};
 ghost use lib.Dec.{eqb};
 ghost use lib.ListN.{length, getD};
 ghost use Rattle.refusal.specs.Contract.{given};
@@ -267,7 +267,18 @@ fn gcd_with(
     )
 }
 
-// The same in as much of three arrays of zeros as the longer list takes.
+// The words of a buffer: as many as the longer list has, and zeros after them, so that a row can be added in groups of 8 words.
+pub fn buffer_words(field: u8, f: &[u16], g: &[u16]) -> usize
+    requires { ⌜ (length (now f) ≤ longest field) × (length (now g) ≤ longest field) ⌝ }
+    ensures { λ r. ⌜ r ≡ min (longest field) (max (length (given f)) (length (given g)) + 7) ⌝ }
+{
+    words::smaller(
+        field::longest_of(field),
+        words::larger(f.len(), g.len()) + 7,
+    )
+}
+
+// The same in as much of three arrays of zeros as the lists take.
 fn gcd_between(
     field: u8,
     whole: &[u16],
@@ -287,7 +298,7 @@ fn gcd_between(
     ensures { λ r. ⌜ r ≡ gcdDone (fieldAt field) (given f) (given g) ⌝ }
     ensures { λ _. ⌜ now (h .exit) ≡ padded (longest field) (gcdOf (fieldAt field) (given f) (given g)) ⌝ }
 {
-    let n = words::larger(f.len(), g.len());
+    let n = buffer_words(field, f, g);
     gcd_in(
         field,
         whole,

@@ -1,6 +1,7 @@
 -- Division by powers of t: what the functions on words leave in the slices is the quotient and the remainder of the lists, for every prime
 -- field F.
 --     quotient-is, remainder-is      what is written to q and to r
+--     round-wants                    the words are below p, and 0 after those of the divisor
 --     ordinary-within                the same lists with tables for shorter ones
 --     buffers-part                   arrays of zeros, as much of them as is lent
 -- Assumes nothing.
@@ -23,7 +24,7 @@ use Rattle.algebra.specs.PrimeField.{PrimeField, scalarField, positive, residue
 use Rattle.algebra.proofs.PrimeField.{residue-0}
 use Rattle.lists.specs.Degrees.{naiveDegree, significant}
 use Rattle.lists.specs.Lists.{meaning}
-use Rattle.lists.specs.Words.{ZeroFrom, seriesOf}
+use Rattle.lists.specs.Words.{ZeroFrom, seriesOf, Tight}
 use Rattle.lists.proofs.Words.{zeros-are, zero-part, Carries, seriesOf-carries}
 use Rattle.lists.proofs.Parts.{prefix-length, getD-then-zeros}
 use Rattle.field_tables.specs.Factorials.{Tables}
@@ -100,6 +101,13 @@ module _ (F : PrimeField) where
 
       ny : length Y ≡ length x
       ny = ap length qy ∙ powers-long f y (fits .short-divisor) room-y (buffers .zero-y) refl ∙ buffers .equal-y
+
+      -- what a round wants of them
+      pub round-wants : {l : ℕ} → l ≡ length x → Tight p X × ZeroFrom l Y
+      round-wants e = (
+        record { at = λ i. rw is at (cx .below i) },
+        record { at = λ i h. List·getD-eq-default Y 0 (omega (arith, ny)) },
+      )
 
       sx : seriesOf F X ≡ meaning F g
       sx = seriesOf-carries F cx

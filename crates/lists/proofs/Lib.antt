@@ -15,3 +15,4 @@ pub mod Raises
 pub mod Sums
 pub mod Trims
 pub mod Calculus
+pub mod Tight

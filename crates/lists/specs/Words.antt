@@ -1,5 +1,6 @@
 -- Words that stand for series.
 --     ZeroFrom n buf     from word n on every word is 0
+--     Tight p x          no word of x is loose: each is below p
 --     seriesOf l         the series whose coefficient k is word k
 --     Low n buf s        the words are below p, and the first n stand for the coefficients of s
 -- Theorems (proofs/Words):
@@ -14,6 +15,9 @@ use Rattle.algebra.specs.PrimeField.{PrimeField, residue}
 
 pub record ZeroFrom (n : ℕ) (buf : List ℕ) : Type 0 where
   pub at : (k : ℕ) → n ≤ k → getD buf k 0 ≡ 0
+
+pub record Tight (p : ℕ) (x : List ℕ) : Type 0 where
+  pub at : (k : ℕ) → getD x k 0 < p
 
 module _ (F : PrimeField) where
   open CommRing (F .series .ring) using (Carrier as S)

@@ -24,20 +24,19 @@ use Rattle.algebra.proofs.PrimeField.{residue-0, residue-1, residue-mul-mod, re
 use Rattle.refusal.specs.Limits.{maxWords}
 use Rattle.words.specs.Transfer.{copiedInto}
 use Rattle.words.proofs.Transfer.{copied-fit}
-use Rattle.lists.specs.Words.{ZeroFrom, seriesOf}
+use Rattle.lists.specs.Words.{ZeroFrom, seriesOf, Tight}
 use Rattle.lists.proofs.Words.{Carries, carries-seriesOf, seriesOf-carries, coeff-seriesOf}
 use Rattle.lists.proofs.Parts.{getD-then-zeros}
+use Rattle.lists.proofs.Tight.{tight-append, tight-drop, tight-rest, tight-take}
 use Rattle.word_row.specs.Rows.{row}
 use Rattle.word_product.specs.Convolution.{convolution, convolvedInto}
 use Rattle.word_product.proofs.Convolution.{length-convolution, convolve-is}
 use Rattle.word_division.specs.Reduction.{negated, digits, wordsOfQuotient}
 use Rattle.word_division.proofs.Loops.{reduce-fits}
 use Rattle.word_division.proofs.Steps.{digits-quotient, length-digits}
-use Rattle.word_karatsuba.specs.Halves.{Tight}
 use Rattle.word_karatsuba.proofs.Products.{below-seriesOf, convolution-carries, row-minus, split-series}
 use Rattle.word_karatsuba.proofs.Karatsuba.{power-add, tight-product}
 use Rattle.word_karatsuba.proofs.Parts.{rest-is}
-use Rattle.word_karatsuba.proofs.Words.{tight-take, tight-drop}
 use Rattle.word_block_division.specs.Blocks.{Inverts, power, Reciprocal, Divided, Begun}
 use Rattle.word_block_division.proofs.Reciprocals.{block-rest}
 
@@ -46,13 +45,13 @@ pub part-length : (k n m : ℕ) (l : List ℕ) → m ≡ n → k + n ≤ length 
 part-length k n m l e h = length-take m (drop k l) ∙ omega (arith, length-drop k l)
 
 -- the top of a divisor, of e words
-pub top-inverts : (p inv : ℕ) (y : List ℕ) (e : ℕ) → 0 < p → 1 ≤ e → e ≤ length y → Inverts p inv y
+pub top-inverts : (p inv : ℕ) (y : List ℕ) (e : ℕ) → 1 ≤ e → e ≤ length y → Inverts p inv y
     → Inverts p inv (take (length y - (length y - e)) (drop (length y - e) y))
-top-inverts p inv y e pos l h i =
+top-inverts p inv y e l h i =
     rw (rest-is (length y - e) y)
     (record {
       some = omega (arith, words);
-      tight = tight-drop p pos (length y - e) y (i .tight);
+      tight = tight-drop (length y - e) (i .tight);
       inverse = ap (λ n. (inv * n) % p) (getD-drop (length y - e) y _ 0 ∙ ap (λ k. getD y k 0) last) ∙ i .inverse;
     })
   where
@@ -261,7 +260,7 @@ module _ (F : PrimeField) where
     pub block-is : Divided F y x q′ x′
     block-is =
         record {
-          tight-quotient = rw eq (tight-drop (F .p) (positive F) (e - 1) t′ (record { at = product-carries .below }));
+          tight-quotient = rw eq (tight-drop (e - 1) (record { at = product-carries .below }));
           tight-rest = record { at = left-carries .below };
           rest = record { at = λ k l. zero-word left-carries k (cleared .at k l) };
           whole = restored _ _ ∙ ap (λ z. seriesOf F q′ *ˢ seriesOf F y +ˢ z) (sym (seriesOf-carries F left-carries));
@@ -317,13 +316,6 @@ module _ (F : PrimeField) where
 
   series-none : seriesOf F [] ≡ 0ˢ
   series-none = ext (F .series) _ _ (λ k. coeff-seriesOf F [] k ∙ ap (residue F) (none-at k) ∙ residue-0 F ∙ sym (coeff-0 (F .series) k))
-
-  tight-append : (a b : List ℕ) → Tight (F .p) a → Tight (F .p) b → Tight (F .p) (a ++ b)
-  tight-append a b ta tb = record { at = λ k. go k (decLt k (length a)) }
-    where
-      go : (k : ℕ) → Dec (k < length a) → getD (a ++ b) k 0 < F .p
-      go k (yes l) = rw (List·getD-append a b 0 k l) (ta .at k)
-      go k (no l) = let e : k ≡ length a + (k - length a) = omega arith in rw (e, getD-append-add a b (k - length a) 0) (tb .at (k - length a))
 
   pub begun-start : (y x q : List ℕ) → Tight (F .p) x → 1 ≤ length y → length x + 1 ≡ length y + length q → Begun F y x (length q) x q
   begun-start y x q tx l e =
@@ -390,10 +382,10 @@ module _ (F : PrimeField) where
         record {
           tight-quotient =
               rw front-quotient
-              (tight-append b (drop i (drop k q)) (block .tight-quotient) (rw (rest-words) (begun .tight-quotient)));
+              (tight-append (block .tight-quotient) (rw (rest-words) (begun .tight-quotient)));
           tight-rest =
-              tight-append (take k x) (w ++ drop m (drop k x)) (tight-take (F .p) (positive F) k x (begun .tight-rest))
-              (tight-append w (drop m (drop k x)) (block .tight-rest) (record { at = λ j. rw (beyond j) (positive F) }));
+              tight-append (tight-take k (begun .tight-rest))
+              (tight-append (block .tight-rest) (record { at = λ j. rw (beyond j) (positive F) }));
           rest = record { at = λ j l. let e : j ≡ k + (j - k) = omega arith in rw e (zero (j - k) (omega arith)) };
           whole =
               begun .whole

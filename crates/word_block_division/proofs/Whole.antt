@@ -16,6 +16,7 @@ use Rattle.algebra.specs.PrimeField.{PrimeField, scalars, scalarField, residue}
 use Rattle.algebra.proofs.PrimeField.{residue-0}
 use Rattle.lists.specs.Words.{seriesOf}
 use Rattle.lists.proofs.Words.{Carries, value-is, carries-seriesOf, coeff-seriesOf}
+use Rattle.lists.proofs.Tight.{tight-rest}
 use Rattle.word_division.specs.Reduction.{reduced, digits, reduceFits, wordsReduced, wordsOfQuotient}
 use Rattle.word_division.proofs.Loops.{reduce-fits}
 use Rattle.word_division.proofs.Steps.{digits-quotient, reduced-remainder, length-digits, length-reduced}

@@ -18,8 +18,7 @@ use Rattle.algebra.specs.Ring.{CommRing}
 use Rattle.algebra.specs.Polynomial.{Below, monomial}
 use Rattle.algebra.specs.PrimeField.{PrimeField, scalars}
 use Rattle.refusal.specs.Limits.{maxWords}
-use Rattle.lists.specs.Words.{ZeroFrom, seriesOf}
-use Rattle.word_karatsuba.specs.Halves.{Tight}
+use Rattle.lists.specs.Words.{ZeroFrom, seriesOf, Tight}
 
 abbrev pub blockWords : ℕ
 blockWords = 64

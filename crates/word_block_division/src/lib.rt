@@ -9,9 +9,8 @@ ghost use lib.ListN.{length, drop};
 ghost use Rattle.refusal.specs.Contract.{given};
 ghost use Rattle.refusal.specs.Limits.{maxWords};
 ghost use Rattle.field.specs.Fields.{modulus, fieldAt};
-ghost use Rattle.lists.specs.Words.{ZeroFrom};
+ghost use Rattle.lists.specs.Words.{ZeroFrom, Tight};
 ghost use Rattle.word_division.specs.Reduction.{wordsReduced, wordsOfQuotient, reduced, digits};
-ghost use Rattle.word_karatsuba.specs.Halves.{Tight};
 ghost use Rattle.word_block_division.specs.Blocks.{blockWords, Inverts, Suits, Reciprocal, Divided, Begun};
 
 // The words of a block, for divisions that are long and for those that are shorter.

@@ -1,5 +1,7 @@
 -- A product taken off, where the second factor is 0 from word c on.
+--     rowFrom-cut          so in one row
 --     lessProduct-cut      its words from c on need not be read
+--     less-below           the words stay below p
 --     lessProduct-zero     where s is 0 from word c on, too, s - q · t is 0 from word c + length q - 1 on
 -- Assumes nothing.
 use mathlib.Core.Path.{_≡_, refl, _∙_, ap, ap₂}
@@ -16,13 +18,13 @@ use Rattle.word_row.proofs.RowWords.{row-cut, length-rowFrom, rowFrom-at, rowFr
 use Rattle.word_division.specs.Reduction.{negated, lessProductTo, lessProduct}
 
 module _ (p : ℕ) (pos : 0 < p) (c : ℕ) {t : List ℕ} (zt : ZeroFrom c t) where
-  rowFrom-cut : (k : ℕ) (x : List ℕ) (m : ℕ) → ((j : ℕ) → getD x j 0 < p) → rowFrom p k x m (take c t) ≡ rowFrom p k x m t
+  pub rowFrom-cut : (k : ℕ) (x : List ℕ) (m : ℕ) → ((j : ℕ) → getD x j 0 < p) → rowFrom p k x m (take c t) ≡ rowFrom p k x m t
   unfolding rowFrom
   rowFrom-cut k x m below =
       ap (λ l. take k x ++ l) (row-cut p c (drop k x) m t (λ j. rw (getD-drop k x j 0) (below (k + j))) zt)
 
   module _ (s q : List ℕ) where
-    less-below : ((j : ℕ) → getD s j 0 < p) → (k j : ℕ) → getD (lessProductTo p k s q t) j 0 < p
+    pub less-below : ((j : ℕ) → getD s j 0 < p) → (k j : ℕ) → getD (lessProductTo p k s q t) j 0 < p
     unfolding lessProductTo
     less-below below zero j = below j
     less-below below (suc k) j =

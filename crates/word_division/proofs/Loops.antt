@@ -16,7 +16,7 @@ use lib.ListN.{length, getD, drop, set, length-set}
 use lib.Seq.{getD-set-same, drop-length, drop-cons, drop-set-lt}
 use borrow.Author.Tests.{le-leb, lt-leb, eq-eqb, ne-eqb}
 use Rattle.word_row.specs.Rows.{rowFrom}
-use Rattle.word_division.specs.Reduction.{negated, digit, reduced, digits, lessProductTo, lessProduct, reduceFits, lessProductFits}
+use Rattle.word_division.specs.Reduction.{negated, digit, reduced, digits, lessProductTo, lessProduct, reduceFits}
 
 pub negated-is : (p a : ℕ) → (0 + (p - a % p)) % p ≡ negated p a
 unfolding negated
@@ -87,11 +87,3 @@ reduce-unfit x y q n = go (decLt 0 (length y))
     go : Dec (0 < length y) → (leb 1 (length y) && eqb (length x + 1) (length y + length q)) ≡ false
     go (yes l) = rw (le-leb 1 (length y) l, ne-eqb (length x + 1) (length y + length q) (n l))
     go (no l) = rw (lt-leb 1 (length y) (omega arith))
-
-pub less-fits : (s q : List ℕ) → length q ≤ length s → lessProductFits s q ≡ true
-unfolding lessProductFits
-less-fits s q l = le-leb (length q) (length s) l
-
-pub less-unfit : (s q : List ℕ) → length s < length q → lessProductFits s q ≡ false
-unfolding lessProductFits
-less-unfit s q l = lt-leb (length q) (length s) l

@@ -4,8 +4,8 @@
 --     reduced           the words that are left of x after k steps of the division by y, from the top
 --     digits            the k words of the quotient, c_0 first
 --     lessProduct       the words of s - q · t, in as many words as s has
---     reduceFits, lessProductFits                      the slices' lengths fit; where they do not, nothing is written
---     wordsReduced, wordsOfQuotient, wordsLessProduct  what the slices x, q and s hold at the end
+--     reduceFits        the slices' lengths fit; where they do not, `reduce` writes nothing
+--     wordsReduced, wordsOfQuotient     what the slices x and q hold after `reduce`
 -- Assumes nothing.
 use mathlib.Core.Bool.{Bool, cond, _&&_}
 use mathlib.Core.List.{List, [], _∷_, _++_}
@@ -40,14 +40,8 @@ lessProduct p s q t = lessProductTo p (length q) s q t
 unfoldable pub reduceFits : (x y q : List ℕ) → Bool
 reduceFits x y q = leb 1 (length y) && eqb (length x + 1) (length y + length q)
 
-unfoldable pub lessProductFits : (s q : List ℕ) → Bool
-lessProductFits s q = leb (length q) (length s)
-
 abbrev pub wordsReduced : (p inv : ℕ) → (x y q : List ℕ) → List ℕ
 wordsReduced p inv x y q = cond (reduceFits x y q) (reduced p inv y (length q) x) x
 
 abbrev pub wordsOfQuotient : (p inv : ℕ) → (x y q : List ℕ) → List ℕ
 wordsOfQuotient p inv x y q = cond (reduceFits x y q) (digits p inv y (length q) x) q
-
-abbrev pub wordsLessProduct : (p : ℕ) → (s q t : List ℕ) → List ℕ
-wordsLessProduct p s q t = cond (lessProductFits s q) (lessProduct p s q t) s

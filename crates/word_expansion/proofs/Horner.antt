@@ -29,10 +29,10 @@ use Rattle.algebra.proofs.Homogenise.{hom-zero, hom-snoc, C-neg}
 use Rattle.algebra.specs.PrimeField.{PrimeField, scalars, residue}
 use Rattle.algebra.proofs.PrimeField.{residue-0, residue-neg, residue-add-mod}
 use Rattle.lists.proofs.Words.{Carries, carries-below}
+use Rattle.lists.specs.Words.{Tight}
 use Rattle.ordinary_theory.specs.Form.{form}
 use Rattle.ordinary_theory.proofs.Form.{below-hom, form-zero, form-snoc, below-form}
 use Rattle.word_expansion.specs.Expansion.{signed, expandedTo, expanded}
-use Rattle.word_expansion.specs.Internal.{Tight}
 use Rattle.word_expansion.proofs.Loops.{before-below, stepped, stepped-low, stepped-high, tight-stepped, expandedTo-zero, expandedTo-suc, length-expandedTo}
 
 module _ (F : PrimeField) where

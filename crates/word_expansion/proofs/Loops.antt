@@ -1,5 +1,5 @@
 -- Laws of the loops that expand a sum of powers, and of the words that they leave.
---     taken-le, before-below, tight-take            bounds: what is taken off, the word before a word, the first words
+--     taken-le, before-below                        bounds: what is taken off, the word before a word
 --     length-gained, getD-gained                    the words of a list times 1 + t or 1 - t
 --     Gaining, gain-start, gain-next, gain-end      the loop over them: what holds before word i, its start, one turn and its end
 --     word-below, last-below                        both words of a turn are below p
@@ -25,8 +25,9 @@ use Rattle.lists.specs.Refused.{hasLoose}
 use Rattle.lists.proofs.Filled.{Filled, fill-start, fill-step, fill-end}
 use Rattle.lists.proofs.Tabulate.{length-tabulate, getD-tabulate}
 use Rattle.lists.proofs.Search.{tight}
+use Rattle.lists.specs.Words.{Tight}
+use Rattle.lists.proofs.Tight.{tight-take}
 use Rattle.word_expansion.specs.Expansion.{signed, gained, expandedTo, expanded, expandedInto}
-use Rattle.word_expansion.specs.Internal.{Tight}
 
 -- what is taken off has the other sign
 taken-signed : (p a b : ℕ) (plus : Bool) → b ≤ p → (a + (p - cond plus (p - b) b)) % p ≡ (a + signed p plus b) % p
@@ -46,13 +47,6 @@ before-below h (suc i) = h .at i
 before-take : (n : ℕ) (x : List ℕ) (i : ℕ) → i < n → getD (0 ∷ take n x) i 0 ≡ getD (0 ∷ x) i 0
 before-take n x zero l = refl
 before-take n x (suc i) l = getD-take n x i 0 (omega arith)
-
-pub tight-take : {p : ℕ} {x : List ℕ} (n : ℕ) → Tight p x → Tight p (take n x)
-tight-take {p} {x} n h = record { at = λ k. go k (decLt k n) }
-  where
-    go : (k : ℕ) → Dec (k < n) → getD (take n x) k 0 < p
-    go k (yes l) = rw (getD-take n x k 0 l) (h .at k)
-    go k (no l) = rw (List·getD-eq-default (take n x) 0 {n = k} (simp length-take (omega arith))) (before-below h 0)
 
 module _ (p : ℕ) (plus : Bool) where
   pub length-gained : (x : List ℕ) → length (gained p plus x) ≡ length x

@@ -1,2 +1,1 @@
 pub mod Expansion
-pub mod Internal

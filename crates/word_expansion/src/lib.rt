@@ -5,8 +5,8 @@ ghost use mathlib.Core.Bool.{cond};
 ghost use Prim.Native.Nat.{_+_, _-_, _%_, _<_, _≤_};
 ghost use Rattle.refusal.specs.Contract.{given};
 ghost use Rattle.field.specs.Fields.{modulus};
+ghost use Rattle.lists.specs.Words.{Tight};
 ghost use Rattle.word_expansion.specs.Expansion.{gained, expanded, expandedInto};
-ghost use Rattle.word_expansion.specs.Internal.{Tight};
 
 // The coefficients of the sum of x_k · t^k · (1 + t)^(n-k), or with 1 - t, n + 1 being the number of words; where a word is loose, nothing
 // is written.

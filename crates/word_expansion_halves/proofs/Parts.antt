@@ -21,8 +21,9 @@ use Rattle.refusal.specs.Limits.{maxWords}
 use Rattle.field.specs.Fields.{modulus, fieldAt}
 use Rattle.field.proofs.Fields.{p-at, modulus-half, longest-in, longest-room}
 use Rattle.field_tables.specs.Factorials.{TablesFor}
-use Rattle.lists.specs.Words.{seriesOf}
+use Rattle.lists.specs.Words.{seriesOf, Tight}
 use Rattle.lists.proofs.Words.{Carries, scaledWords, length-scaledWords, carries-seriesOf, seriesOf-carries}
+use Rattle.lists.proofs.Tight.{tight-drop}
 use Rattle.words.specs.Transfer.{copiedInto}
 use Rattle.words.proofs.Transfer.{copied-fit}
 use Rattle.word_scaling.specs.Scaling.{weighedInto}
@@ -35,10 +36,9 @@ use Rattle.word_product.proofs.Convolution.{length-convolution, convolve-is}
 use Rattle.word_division.proofs.Rows.{row-series}
 use Rattle.word_karatsuba.proofs.Products.{convolution-carries}
 use Rattle.word_karatsuba.proofs.Parts.{rest-is}
-use Rattle.word_expansion.specs.Internal.{Tight}
 use Rattle.word_expansion.proofs.Horner.{power-monomial}
 use Rattle.word_expansion_halves.specs.Halves.{signs, base, joinedSeries, joined}
-use Rattle.word_expansion_halves.proofs.Split.{tight-drop, powT, joined-carries}
+use Rattle.word_expansion_halves.proofs.Split.{powT, joined-carries}
 use Rattle.word_expansion_halves.proofs.Row.{signs-length, row-carries}
 
 module _ (F : PrimeField) where

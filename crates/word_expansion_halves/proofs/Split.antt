@@ -28,18 +28,15 @@ use Rattle.algebra.proofs.PrimeField.{residue-0}
 use Rattle.lists.specs.Degrees.{significant}
 use Rattle.lists.proofs.Extents.{after-significant}
 use Rattle.lists.proofs.Tabulate.{tabulated}
-use Rattle.lists.specs.Words.{seriesOf}
+use Rattle.lists.specs.Words.{seriesOf, Tight}
 use Rattle.lists.proofs.Words.{Carries, coeff-seriesOf, carries-seriesOf, seriesOf-carries, value-is}
+use Rattle.lists.proofs.Tight.{tight-append, tight-drop, tight-take}
 use Rattle.ordinary_theory.specs.Form.{form}
 use Rattle.word_expansion.specs.Expansion.{expanded}
-use Rattle.word_expansion.specs.Internal.{Tight}
-use Rattle.word_expansion.proofs.Loops.{length-expanded, tight-take}
+use Rattle.word_expansion.proofs.Loops.{length-expanded}
 use Rattle.word_expansion.proofs.Horner.{sign, less-t, plus-t, Horner, horner-hom, horner-form, expanded-horner}
 use Rattle.word_karatsuba.proofs.Parts.{rest-is}
 use Rattle.word_expansion_halves.specs.Halves.{base, joinedSeries, joined}
-
-pub tight-drop : {p : ℕ} {x : List ℕ} (n : ℕ) → Tight p x → Tight p (drop n x)
-tight-drop {p} {x} n h = record { at = λ k. rw (getD-drop n x k 0) (h .at (n + k)) }
 
 module _ (F : PrimeField) where
   open CommRing (scalars F) using (Carrier as K)
@@ -215,16 +212,6 @@ module _ (h : ℕ) (x z w : List ℕ) (lz : length z ≡ length (take h x)) (l :
   pub parts-length : length w ≡ length (take (length (z ++ drop h x) - h) (drop h (z ++ drop h x))) → length (z ++ w) ≡ length x
   parts-length lw = length-append z w ∙ omega (arith, front, lw ∙ ap length second-part ∙ length-drop h x, l)
 
--- no word of two tight lists is loose
-tight-both : {p : ℕ} {z w : List ℕ} → Tight p z → Tight p w → Tight p (z ++ w)
-tight-both {p} {z} {w} a b = record { at = λ k. go k (decLt k (length z)) }
-  where
-    go : (k : ℕ) → Dec (k < length z) → getD (z ++ w) k 0 < p
-    go k (yes l) = rw (List·getD-append z w 0 k l) (a .at k)
-    go k (no l) =
-        let e : k ≡ length z + (k - length z) = omega arith in
-        rw (e, getD-append-add z w (k - length z) 0) (b .at (k - length z))
-
 -- with p by another name, as the code has it
 module _ (F : PrimeField) {m : ℕ} (e : F .p ≡ m) (plus : Bool) (x : List ℕ) (tight : Tight m x) where
   tight-here : Tight (F .p) x
@@ -237,7 +224,7 @@ module _ (F : PrimeField) {m : ℕ} (e : F .p ≡ m) (plus : Bool) (x : List ℕ
     pub parts-tight : Tight m (z ++ w)
     parts-tight =
         rw (first, second)
-        (tight-both (tight-expanded (take h x) (tight-take h tight)) (tight-expanded (drop h x) (tight-drop h tight)))
+        (tight-append (tight-expanded (take h x) (tight-take h tight)) (tight-expanded (drop h x) (tight-drop h tight)))
       where
         tight-expanded : (y : List ℕ) → Tight m y → Tight m (expanded m plus y)
         tight-expanded y t =

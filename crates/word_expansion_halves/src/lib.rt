@@ -7,10 +7,10 @@ ghost use Prim.Native.Nat.{_+_, _-_, _≤_, _<_};
 ghost use lib.ListN.{length};
 ghost use Rattle.refusal.specs.Contract.{given};
 ghost use Rattle.field.specs.Fields.{modulus, fieldAt};
+ghost use Rattle.lists.specs.Words.{Tight};
 ghost use Rattle.field_tables.specs.Factorials.{TablesFor};
 ghost use Rattle.word_scaling.specs.Scaling.{weighedInto};
 ghost use Rattle.word_expansion.specs.Expansion.{signed, expanded, expandedInto};
-ghost use Rattle.word_expansion.specs.Internal.{Tight};
 ghost use Rattle.word_expansion_halves.specs.Halves.{signs, joined, Room};
 
 // So many words are not cut: Horner's rule is as quick.

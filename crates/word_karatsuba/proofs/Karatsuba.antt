@@ -20,14 +20,14 @@ use Rattle.algebra.proofs.Series.{coeff-0, C-one}
 use Rattle.algebra.specs.Polynomial.{monomial}
 use Rattle.algebra.specs.PrimeField.{PrimeField, scalars, positive, residue}
 use Rattle.algebra.proofs.PrimeField.{residue-0, residue-1}
-use Rattle.lists.specs.Words.{ZeroFrom, seriesOf}
+use Rattle.lists.specs.Words.{ZeroFrom, seriesOf, Tight}
 use Rattle.lists.proofs.Words.{Carries, seriesOf-carries, carries-zero}
 use Rattle.word_row.specs.Rows.{row, rowFrom}
 use Rattle.word_row.proofs.RowWords.{length-row, length-rowFrom}
 use Rattle.word_product.specs.Convolution.{convolution}
 use Rattle.word_division.specs.Reduction.{negated}
 use Rattle.word_division.proofs.Rows.{row-series}
-use Rattle.word_karatsuba.specs.Halves.{Tight, Cut, Apart, halvesAdded, productsJoined}
+use Rattle.word_karatsuba.specs.Halves.{Cut, Apart, halvesAdded, productsJoined}
 use Rattle.word_karatsuba.proofs.Products.{convolution-carries, carries-convolution, row-plus, row-minus, coeff-low, coeff-high, split-series}
 
 module _ (F : PrimeField) where

@@ -1,21 +1,18 @@
 -- Words modulo p, and lists of words below p.
 --     plus-is, minus-is     a sum and a difference, as a row has them
---     tight-..              lists whose words are below p: zeros, rows, parts
+--     tight-..              lists whose words are below p: zeros, rows
 -- Assumes nothing.
 use mathlib.Core.Path.{_≡_, sym, _∙_, ap, ap₂}
 use mathlib.Core.List.{List}
 use Prim.Native.Nat.{ℕ, _+_, _-_, _*_, _%_, _≤_, _<_}
-use native.Mathlib.Decide.{decLt}
 use native.Mathlib.Nat.{mod-lt, mod-eq-of-lt, add-mod-mod}
 use native.Mathlib.Omega.{arith}
-use lib.ListN.{length, getD, take, drop, length-take, List·getD-eq-default}
-use lib.Seq.{getD-take, getD-drop}
-use Rattle.lists.specs.Words.{ZeroFrom}
+use lib.ListN.{getD}
+use Rattle.lists.specs.Words.{ZeroFrom, Tight}
 use Rattle.word_montgomery.proofs.Words.{same}
 use Rattle.word_row.specs.Rows.{row, rowFrom, Partway}
 use Rattle.word_row.proofs.RowWords.{rowFrom-below}
 use Rattle.word_division.specs.Reduction.{negated}
-use Rattle.word_karatsuba.specs.Halves.{Tight}
 
 pub plus-is : (p a b : ℕ) {c r : ℕ} → 0 < p → c ≡ b % p → r ≡ (a + (p - (p - c))) % p → r ≡ (a + 1 * b) % p
 plus-is p a b {c} pos e f =
@@ -49,9 +46,6 @@ minus-is p a b l h e =
 pub still-below : {p m i : ℕ} {old y x : List ℕ} → Tight p old → Partway p old m y x i → getD x i 0 < p
 still-below {p} {m} {i} {old} {y} {x} t w = rw (w .rest i (omega arith)) (t .at i)
 
-pub tight-at : {q p : ℕ} {x : List ℕ} → q ≡ p → Tight p x → Tight q x
-tight-at e t = rw e t
-
 module _ (p : ℕ) (pos : 0 < p) where
   pub tight-zero : {x : List ℕ} → ZeroFrom 0 x → Tight p x
   tight-zero {x} z = record { at = λ k. rw (z .at k (omega arith)) pos }
@@ -59,16 +53,3 @@ module _ (p : ℕ) (pos : 0 < p) where
   pub tight-row : (x : List ℕ) (m : ℕ) (y : List ℕ) {z : List ℕ} → Tight p x → z ≡ row p x m y → Tight p z
   unfolding rowFrom
   tight-row x m y t e = rw e (record { at = rowFrom-below p 0 x m y pos (t .at) })
-
-  pub tight-take : (n : ℕ) (x : List ℕ) → Tight p x → Tight p (take n x)
-  tight-take n x t = record { at = λ k. go k (decLt k n) }
-    where
-      go : (k : ℕ) → Dec (k < n) → getD (take n x) k 0 < p
-      go k (yes l) = rw (getD-take n x k 0 l) (t .at k)
-      go k (no l) = rw (List·getD-eq-default (take n x) 0 {n = k} (let e = length-take n x in omega arith)) pos
-
-  pub tight-drop : (n : ℕ) (x : List ℕ) → Tight p x → Tight p (drop n x)
-  tight-drop n x t = record { at = λ k. rw (getD-drop n x k 0) (t .at (n + k)) }
-
-  pub tight-rest : (n : ℕ) (x : List ℕ) → Tight p x → Tight p (take (length x - n) (drop n x))
-  tight-rest n x t = tight-take (length x - n) (drop n x) (tight-drop n x t)

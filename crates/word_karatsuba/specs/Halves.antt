@@ -1,5 +1,4 @@
 -- Factors cut in two parts, the first of h words.
---     Tight p x                    no word of x is loose: each is below p
 --     Cut n m h                    factors of n and m words can be cut: the first has 2 h or 2 h - 1 words, the second from h + 2 to 2 h + 1
 --     Halving n m h                h is 0, or they can be cut
 --     Apart F h a b out            out has the product of the first parts and, from word 2 h on, that of the second, with a 0 between them
@@ -16,9 +15,6 @@ use Rattle.algebra.specs.PrimeField.{PrimeField}
 use Rattle.word_row.specs.Rows.{row, rowFrom}
 use Rattle.word_product.specs.Convolution.{convolution}
 use Rattle.word_division.specs.Reduction.{negated}
-
-pub record Tight (p : ℕ) (x : List ℕ) : Type 0 where
-  pub at : (k : ℕ) → getD x k 0 < p
 
 abbrev pub Cut : (n m h : ℕ) → Type 0
 Cut n m h = (4 ≤ h) × (2 * h ≤ n + 1) × (n ≤ 2 * h) × (h + 2 ≤ m) × (m ≤ 2 * h + 1)

@@ -8,11 +8,11 @@ ghost use lib.ListN.{length};
 ghost use Rattle.refusal.specs.Contract.{given};
 ghost use Rattle.refusal.specs.Limits.{maxWords};
 ghost use Rattle.field.specs.Fields.{modulus, fieldAt};
-ghost use Rattle.lists.specs.Words.{ZeroFrom};
+ghost use Rattle.lists.specs.Words.{ZeroFrom, Tight};
 ghost use Rattle.word_product.specs.Convolution.{convolvedInto, convolution};
 ghost use Rattle.word_row.specs.Rows.{row};
 ghost use Rattle.word_division.specs.Reduction.{negated};
-ghost use Rattle.word_karatsuba.specs.Halves.{Tight, Cut, Halving, Apart, halvesAdded, productsJoined};
+ghost use Rattle.word_karatsuba.specs.Halves.{Cut, Halving, Apart, halvesAdded, productsJoined};
 
 // Two factors of at most so many words together are not cut: `word_product` is about as quick with the whole as with the parts.
 const SHORT: usize = 400;

@@ -1,5 +1,6 @@
 -- Laws of the row's loops.
 --     start, next, finish     the row word by word: its start, one turn and its end
+--     Kept, kept-..           the words that the loop has not come to
 --     upto                    its end at word n
 --     part-row                the row step on the part of a list from word k on
 --     joined                  a row by its first words and a row of the rest
@@ -7,13 +8,14 @@
 use mathlib.Core.Path.{_≡_, refl, sym, _∙_, ap}
 use mathlib.Core.List.{List, _++_, append-nil}
 use Prim.Native.Nat.{ℕ, _+_, _-_, _*_, _%_, _≤_, _<_, min}
-use native.Mathlib.Nat.{not-suc-le-zero}
+use native.Mathlib.Nat.{not-suc-le-zero, le-refl}
 use native.Mathlib.Decide.{decLt, ℕ-discrete}
 use native.Mathlib.Omega.{arith}
 use lib.ListN.{length, getD, take, drop, set, length-set, length-drop, drop-of-length-le}
 use lib.Seq.{getD-set-same, getD-set-other, getD-drop, take-all}
 use borrow.Author.Tests.{lt-ltb, le-ltb}
 use Rattle.lists.proofs.Tabulate.{tabulated}
+use Rattle.lists.specs.Words.{Tight}
 use Rattle.word_row.proofs.RowWords.{length-rowFrom, rowFrom-low, rowFrom-at, rowFrom-above}
 use Rattle.word_row.specs.Rows.{rowAt, row, rowFrom, Partway}
 
@@ -35,6 +37,21 @@ next p old m y x i {v} lx ly w e =
     go : (j : ℕ) → j < i + 1 → Dec (j ≡ i) → getD (set x i v) j 0 ≡ rowAt p old m y j
     go j l (yes q) = rw (q, getD-set-same x i v 0 (let s = w .size in omega arith)) here
     go j l (no q) = getD-set-other x i j v 0 q ∙ w .done j (omega arith)
+
+-- what a loop has not come to is as it was
+pub record Kept (old x : List ℕ) (i : ℕ) : Type 0 where
+  pub size : length x ≡ length old
+  pub rest : (j : ℕ) → i ≤ j → getD x j 0 ≡ getD old j 0
+
+pub kept-start : (x : List ℕ) → Kept x x 0
+kept-start x = record { size = refl; rest = λ j l. refl }
+
+pub kept-next : {old x : List ℕ} {i : ℕ} (v : ℕ) → Kept old x i → Kept old (set x i v) (i + 1)
+kept-next {x = x} {i} v k =
+    record { size = length-set x i v ∙ k .size; rest = λ j l. getD-set-other x i j v 0 (omega arith) ∙ k .rest j (omega arith) }
+
+pub kept-below : {p i : ℕ} {old x : List ℕ} → Tight p old → Kept old x i → getD x i 0 < p
+kept-below {i = i} t k = rw (k .rest i (le-refl i)) (t .at i)
 
 pub upto : {p m n i : ℕ} {old y x : List ℕ} → n ≤ i → i ≤ n → Partway p old m y x i → Partway p old m y x n
 upto h g w = record { size = w .size; done = λ j l. w .done j (omega arith); rest = λ j l. w .rest j (omega arith) }

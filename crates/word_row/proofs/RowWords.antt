@@ -2,7 +2,8 @@
 --     row-within, row-beyond                     a word of a row, where y reaches and where it does not
 --     row-cut                                    y need not be read where it is 0
 --     rowFrom-low, rowFrom-at, rowFrom-above     a word of the row step from word k on: before k, where y reaches, and past y
---     rowFrom-below                              the words stay below p
+--     rowFrom-below, tight-rowFrom               the words stay below p
+--     tight-at, tight-take, tight-drop, tight-rest     the same words by another name of p, and a part of them
 -- Assumes nothing.
 use mathlib.Core.Path.{_≡_, sym, _∙_, ap}
 use mathlib.Core.List.{List, _++_}
@@ -14,7 +15,8 @@ use lib.ListN.{length, getD, take, drop, length-append, length-take, length-drop
 use lib.Seq.{getD-take, getD-drop, getD-append-add, length-take-le}
 use borrow.Author.Tests.{lt-ltb, le-ltb}
 use Rattle.lists.proofs.Tabulate.{length-tabulate, getD-tabulate, tabulate-ext}
-use Rattle.lists.specs.Words.{ZeroFrom}
+use Rattle.lists.specs.Words.{ZeroFrom, Tight}
+use Rattle.lists.proofs.Tight.{tight-at, tight-drop, tight-rest, tight-take}
 use Rattle.word_row.specs.Rows.{rowAt, row, rowFrom}
 
 pub length-row : (p : ℕ) (x : List ℕ) (m : ℕ) (y : List ℕ) → length (row p x m y) ≡ length x
@@ -106,3 +108,7 @@ rowFrom-below p k x m y pos h j = go (decLt j k) (decLt j (length x)) (decLt (j 
         at : (i : ℕ) → k + i < length x → Dec (i < length y) → getD (rowFrom p k x m y) (k + i) 0 < p
         at i lx (yes ly) = rw (rowFrom-at p k x m y i lx ly) (mod-lt (getD x (k + i) 0 + m * getD y i 0) pos)
         at i lx (no ly) = rw (rowFrom-above p k x m y i (omega arith)) (h (k + i))
+
+module _ (p : ℕ) (pos : 0 < p) where
+  pub tight-rowFrom : (k : ℕ) (x : List ℕ) (m : ℕ) (y : List ℕ) {z : List ℕ} → Tight p x → z ≡ rowFrom p k x m y → Tight p z
+  tight-rowFrom k x m y t e = rw e (record { at = rowFrom-below p k x m y pos (t .at) })

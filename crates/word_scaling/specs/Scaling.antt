@@ -3,7 +3,6 @@
 --     weighted p whole part n x     the first n words of x, weighed so
 --     weighFits                     the words and both tables are as long as the result
 --     weighedInto                   what the result slice holds at the end: the weighed words where they fit, else what it held
---     Tight p x                     no word of x is loose: each is below p
 --     partly p e x a b              x times a times b divided by 2^32 modulo p, where e is 1/p modulo 2^16
 --     partlyWeighted p e part n x   the first n words of x, word k times entry k of part and entry n - 1 - k of part, divided by 2^32
 -- Theorems (proofs/Weights):
@@ -31,9 +30,6 @@ weighFits words whole part out =
 
 abbrev pub weighedInto : (p : ℕ) → (words whole part out : List ℕ) → List ℕ
 weighedInto p words whole part out = cond (weighFits words whole part out) (weighted p whole part (length out) words) out
-
-pub record Tight (p : ℕ) (x : List ℕ) : Type 0 where
-  pub at : (k : ℕ) → getD x k 0 < p
 
 unfoldable pub partly : (p e x a b : ℕ) → ℕ
 partly p e x a b = montgomery p e b (montgomery p e a x)

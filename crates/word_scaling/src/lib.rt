@@ -5,8 +5,9 @@ ghost use Prim.Native.Nat.{_*_, _%_, _<_, _≤_};
 ghost use lib.ListN.{length};
 ghost use Rattle.refusal.specs.Contract.{given};
 ghost use Rattle.field.specs.Fields.{modulus, wordInverse};
+ghost use Rattle.lists.specs.Words.{Tight};
 ghost use Rattle.word_montgomery.specs.Montgomery.{montgomery};
-ghost use Rattle.word_scaling.specs.Scaling.{weighedInto, weighted, partly, Tight, partlyWeighted};
+ghost use Rattle.word_scaling.specs.Scaling.{weighedInto, weighted, partly, partlyWeighted};
 
 // x times y divided by 2^16 modulo p, where e is 1/p modulo 2^16: the multiple of p that has the low half of x times y is taken off. The
 // two high halves are compared by their differences from p: themselves LLVM would compare in 32 bits.

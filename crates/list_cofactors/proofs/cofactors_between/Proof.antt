@@ -1,7 +1,6 @@
 -- `list_cofactors::cofactors_between` meets its contract: parts of zeros are zeros, and they have enough words.
 -- Assumes nothing.
-use mathlib.Core.Path.{_∙_, ap}
-use Prim.Native.Nat.{max, _≤_, _<_}
+use Prim.Native.Nat.{_≤_, _<_}
 use native.Mathlib.Omega.{arith}
 use lib.ListN.{length-take}
 use Rattle.refusal.specs.Limits.{maxWords}
@@ -15,19 +14,16 @@ use Rattle.list_cofactors.proofs.cofactors_between.Statement.{statement
 use Rattle.list_cofactors.proofs.cofactors_between.Tie as tie
 
 -- the parts of a row have enough words, and stand in the arrays
-enough : (c : tie.After-larger2) → let start = c .before .before .before .before .before .before .before .before .before .before .before .before .before in let n = c .larger2 .result in (1 < n) × (n ≤ longest (start .args .field)) × Ready (fieldAt (start .args .field)) n (start .args .f .now) (start .args .g .now)
+enough : (c : tie.After-buffer-words) → let start = c .before .before .before .before .before .before .before .before .before .before .before .before in let n = c .buffer-words .result in (1 < n) × (n ≤ longest (start .args .field)) × Ready (fieldAt (start .args .field)) n (start .args .f .now) (start .args .g .now)
 enough c =
-    let start = c .before .before .before .before .before .before .before .before .before .before .before .before .before in
-    part-words (fieldAt (start .args .field)) _ (longest-more (start .args .field)) (start .pre .1 .0) (c .larger2 .ensures ∙ ap (max 2) (c .before .larger .ensures))
+    let start = c .before .before .before .before .before .before .before .before .before .before .before .before in
+    part-words (fieldAt (start .args .field)) _ (longest-more (start .args .field)) (start .pre .1 .0) (c .buffer-words .ensures)
 
-fits : (c : tie.After-larger2) → c .larger2 .result ≤ maxWords
-fits c = omega (arith, enough c .1, longest-room (c .before .before .before .before .before .before .before .before .before .before .before .before .before .args .field))
+fits : (c : tie.After-buffer-words) → c .buffer-words .result ≤ maxWords
+fits c = omega (arith, enough c .1, longest-room (c .before .before .before .before .before .before .before .before .before .before .before .before .args .field))
 
-larger-requires : tie.Need-larger-requires
-larger-requires c κs = search needs
-
-larger-requires-2 : tie.Need-larger-requires-2
-larger-requires-2 c κs = search needs
+buffer-words-requires : tie.Need-buffer-words-requires
+buffer-words-requires c κs = let ready = c .before .before .before .before .before .before .before .before .before .before .before .pre .1 .0 in (ready .short-f, ready .short-g)
 
 mul-row : tie.Need-mul-row
 mul-row c = search needs
@@ -52,8 +48,8 @@ slice-aggregate-cofactors-in-3 c = simp length-take (omega (arith, fits (c .befo
 
 cofactors-in-requires : tie.Need-cofactors-in-requires
 cofactors-in-requires c κs =
-    let pre = c .before .before .before .before .before .before .before .before .before .before .before .before .before .before .before .before .before .before .before .pre in
-    let n = c .before .before .before .before .before .before .larger2 .result in
+    let pre = c .before .before .before .before .before .before .before .before .before .before .before .before .before .before .before .before .before .before .pre in
+    let n = c .before .before .before .before .before .before .buffer-words .result in
     let known = enough (c .before .before .before .before .before .before) in
     ((known .0, known .1), (tables-within (fieldAt _) n (known .1) (pre .0), (known .2, (pre .1 .1 .0, rows-part n (fits (c .before .before .before .before .before .before)) (pre .1 .1 .1)))))
 
@@ -82,8 +78,7 @@ pub cofactors-between-spec : {M : Type 1} → statement M
 cofactors-between-spec =
     tie.close
     (tie.spec
-    larger-requires
-    larger-requires-2
+    buffer-words-requires
     mul-row
     slice-relend-prefix-cofactors-in
     slice-aggregate-cofactors-in

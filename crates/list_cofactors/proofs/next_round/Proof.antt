@@ -10,9 +10,10 @@ use Rattle.field.specs.Fields.{fieldAt}
 use Rattle.lists.specs.Degrees.{significant}
 use Rattle.lists.proofs.Extents.{significant-le}
 use Rattle.euclid_round.proofs.Parts.{Rounded, shortened}
+use Rattle.list_gcd.proofs.Alternating.{round-wants}
 use Rattle.list_cofactors.specs.Internal.{partX, reach}
 use Rattle.list_cofactors.proofs.Parts.{length-rest, length-put}
-use Rattle.list_cofactors.proofs.OneRound.{row-steps, row-count, row-words}
+use Rattle.list_cofactors.proofs.OneRound.{row-steps, row-count, row-words, cut-tight}
 use Rattle.list_cofactors.proofs.next_round.Statement.{statement}
 use Rattle.list_cofactors.proofs.next_round.Tie as tie
 
@@ -49,7 +50,7 @@ slice-aggregate-shorten-2 : tie.Need-slice-aggregate-shorten-2
 slice-aggregate-shorten-2 c = simp length-take (omega arith)
 
 shorten-requires : tie.Need-shorten-requires
-shorten-requires c κs = search needs
+shorten-requires c κs = let pre = c .before .before .before .before .before .before .before .pre in round-wants _ _ (pre .1 .0) (pre .1 .1 .1 .0 .1)
 
 mul-take-off : tie.Need-mul-take-off
 mul-take-off c = search needs
@@ -92,7 +93,7 @@ take-off-requires c κs =
     let size = long (c .before .before .before .before .before .before .before .before) in
     let z = c .before .before .before .before .before .before .before .before .shorten .last .1 .1 .0 in
     let s = c .before .before .before .before .before .before .before .before .before .before .before .before .before .before .before .before in
-    (length-rest (s .args .n) _ (z ++ drop (s .args .n) (s .args .u .now)) (length-put _ _ z size (omega arith) ∙ s .pre .0 .0), length-rest (s .args .n) _ (s .args .v .now) (s .pre .0 .1), simp length-take (omega arith), c .words-read .ensures .1)
+    ((length-rest (s .args .n) _ (z ++ drop (s .args .n) (s .args .u .now)) (length-put _ _ z size (omega arith) ∙ s .pre .0 .0), length-rest (s .args .n) _ (s .args .v .now) (s .pre .0 .1), simp length-take (omega arith), c .words-read .ensures .1), cut-tight (s .args .field) (s .args .n) (s .args .u .now) (s .args .v .now) z size (s .pre .1 .1 .1 .1 .0))
 
 same-length : tie.Need-same-length
 same-length c = search needs

@@ -1,10 +1,10 @@
 -- `list_cofactors::take_off` meets its contract: a product is taken off each half of the slice.
 -- Assumes nothing.
 use native.Mathlib.Omega.{arith}
-use lib.ListN.{length-take}
+use lib.ListN.{length-take, length-drop}
 use borrow.Author.Needs.{needs}
 use Rattle.field.specs.Fields.{modulus}
-use Rattle.list_cofactors.proofs.Parts.{taken-off}
+use Rattle.list_cofactors.proofs.Parts.{second-half, first-long, taken-off}
 use Rattle.list_cofactors.proofs.take_off.Statement.{statement}
 use Rattle.list_cofactors.proofs.take_off.Tie as tie
 
@@ -18,7 +18,7 @@ slice-aggregate-sub-product-2 : tie.Need-slice-aggregate-sub-product-2
 slice-aggregate-sub-product-2 c = simp length-take (omega arith)
 
 sub-product-requires : tie.Need-sub-product-requires
-sub-product-requires c κs = search needs
+sub-product-requires c κs = (simp length-take (omega arith), c .before .before .before .before .before .pre .1 .0)
 
 mul-sub-product : tie.Need-mul-sub-product
 mul-sub-product c = search needs
@@ -48,15 +48,18 @@ part-sub-product-end-2 : tie.Need-part-sub-product-end-2
 part-sub-product-end-2 c = search needs
 
 sub-product-requires-2 : tie.Need-sub-product-requires-2
-sub-product-requires-2 c κs = search needs
+sub-product-requires-2 c κs =
+    let a = c .before .before .before .before .before .before .before .before .before .before .args in
+    let long = first-long (modulus (a .field)) (a .n) (a .read) (a .s .now) (a .q .now) (a .t .now) (c .before .before .before .before .before .before .before .before .before .before .pre .0 .0) (c .before .before .before .before .sub-product .ensures) in
+    rw (second-half (a .n) (a .s .now) _ long) (rw length-drop (omega arith), c .before .before .before .before .before .before .before .before .before .before .pre .1 .1)
 
 same-length : tie.Need-same-length
 same-length c = search needs
 
 returns : tie.Need-returns
 returns c =
-    let start = c .before .before .before .before .before .before .before .before .before .before .before .before .before in
-    taken-off (modulus (start .args .field)) (start .args .n) (start .args .read) (start .args .s .now) (start .args .q .now) (start .args .t .now) (start .pre .0) (start .pre .2) (c .before .before .before .before .before .before .before .sub-product .ensures) (c .before .before .sub-product2 .ensures)
+    let a = c .before .before .before .before .before .before .before .before .before .before .before .before .before .args in
+    taken-off (modulus (a .field)) (a .n) (a .read) (a .s .now) (a .q .now) (a .t .now) (c .before .before .before .before .before .before .before .before .before .before .before .before .before .pre .0 .0) (c .before .before .before .before .before .before .before .sub-product .ensures) (c .before .before .sub-product2 .ensures)
 
 pub take-off-spec : {M : Type 1} → statement M
 take-off-spec =

@@ -9,7 +9,7 @@ use borrow.Author.Needs.{needs}
 use Rattle.field.specs.Fields.{fieldAt}
 use Rattle.lists.specs.Degrees.{significant}
 use Rattle.list_gcd.specs.Internal.{Led}
-use Rattle.list_gcd.proofs.Alternating.{LedOn, led-start, led-on, led-end}
+use Rattle.list_gcd.proofs.Alternating.{LedOn, led-start, led-on, led-end, round-wants}
 use Rattle.list_gcd.proofs.all_rounds.Statement.{statement}
 use Rattle.list_gcd.proofs.all_rounds.Tie as tie
 
@@ -64,7 +64,7 @@ second c =
     led-on _ _ _ _ _ _ _ _ _ _ (start .pre .0) (start .pre .1 .0) (made .0 .next) (t .3) (made .1) (omega arith) (omega arith) (c .shorten2 .kept .1 .1 .0) (c .shorten2 .ensures)
 
 shorten-requires : tie.Need-shorten-requires Inv-loop μ-loop
-shorten-requires c κs = search needs
+shorten-requires c κs = let t = c .before .before .before .before .loop .inv in round-wants _ _ (t .0 .buffer-x) (t .3)
 
 add-rounds : tie.Need-add-rounds Inv-loop μ-loop
 add-rounds c = let few = first (c .before .before .before .before) .0 .few in search needs
@@ -85,7 +85,9 @@ returns-2 c =
     led-end (fieldAt _) _ _ _ _ _ _ (made .0 .next) zero
 
 shorten-requires-2 : tie.Need-shorten-requires-2 Inv-loop μ-loop
-shorten-requires-2 c κs = search needs
+shorten-requires-2 c κs =
+    let made = first (c .before .before .before .before .before .before .before .before) in
+    round-wants _ _ (made .0 .next .buffer-x) (made .1)
 
 add-rounds-2 : tie.Need-add-rounds-2 Inv-loop μ-loop
 add-rounds-2 c =

@@ -14,18 +14,18 @@ use Rattle.list_gcd.proofs.gcd_between.Statement.{statement}
 use Rattle.list_gcd.proofs.gcd_between.Tie as tie
 
 -- the buffers stand in the arrays, and have enough words
-enough : (c : tie.After-larger) → let start = c .before .before .before .before .before .before .before .before .before .before in let n = c .larger .result in (n ≤ longest (start .args .field)) × (n ≤ maxWords) × Ready (fieldAt (start .args .field)) n (start .args .f .now) (start .args .g .now)
+enough : (c : tie.After-buffer-words) → let start = c .before .before .before .before .before .before .before .before .before .before in let n = c .buffer-words .result in (n ≤ longest (start .args .field)) × (n ≤ maxWords) × Ready (fieldAt (start .args .field)) n (start .args .f .now) (start .args .g .now)
 enough c =
     let start = c .before .before .before .before .before .before .before .before .before .before in
     let ready = start .pre .1 .0 in
     let short-f = ready .short-f in
     let short-g = ready .short-g in
     let most = longest-room (start .args .field) in
-    let is = c .larger .ensures in
+    let is = c .buffer-words .ensures in
     (omega arith, omega arith, ready-within (fieldAt _) _ ready (omega arith) (omega arith))
 
-larger-requires : tie.Need-larger-requires
-larger-requires c κs = search needs
+buffer-words-requires : tie.Need-buffer-words-requires
+buffer-words-requires c κs = let ready = c .before .before .before .before .before .before .before .before .before .pre .1 .0 in (ready .short-f, ready .short-g)
 
 slice-relend-prefix-gcd-in : tie.Need-slice-relend-prefix-gcd-in
 slice-relend-prefix-gcd-in c = omega (arith, enough c .1)
@@ -48,7 +48,7 @@ slice-aggregate-gcd-in-3 c = simp length-take (omega (arith, enough (c .before .
 gcd-in-requires : tie.Need-gcd-in-requires
 gcd-in-requires c κs =
     let pre = c .before .before .before .before .before .before .before .before .before .before .before .before .before .before .pre in
-    let n = c .before .before .before .before .larger .result in
+    let n = c .before .before .before .before .buffer-words .result in
     let known = enough (c .before .before .before .before) in
     let lent = zeros-lent (fieldAt _) n (known .1) (known .0) (known .2) (pre .1 .1 .0) in
     (pre .0, (lent .0, (lent .1, pre .1 .1 .1)))
@@ -72,7 +72,7 @@ pub gcd-between-spec : {M : Type 1} → statement M
 gcd-between-spec =
     tie.close
     (tie.spec
-    larger-requires
+    buffer-words-requires
     slice-relend-prefix-gcd-in
     slice-aggregate-gcd-in
     slice-relend-prefix-gcd-in-2

@@ -4,7 +4,7 @@ use mathlib.Core.Path.{refl}
 use native.Mathlib.Omega.{arith}
 use Rattle.field.specs.Fields.{fieldAt}
 use Rattle.field.proofs.Fields.{p-at, longest-in}
-use Rattle.list_ordinary_division.proofs.Forms.{quotient-is, remainder-is}
+use Rattle.list_ordinary_division.proofs.Forms.{quotient-is, remainder-is, round-wants}
 use borrow.Author.Needs.{needs}
 use Rattle.list_ordinary_division.proofs.divide_in.Statement.{statement}
 use Rattle.list_ordinary_division.proofs.divide_in.Tie as tie
@@ -24,7 +24,12 @@ place-requires-2 c κs =
     (s .pre .0, (omega (arith, buffers .long-divisor, buffers .equal-y), omega (arith, fits .short-divisor)))
 
 shorten-requires : tie.Need-shorten-requires
-shorten-requires c κs = search needs
+shorten-requires c κs =
+    let a = c .before .before .before .before .before .before .before .before .before .before .before .before .before .before .before .before .before .before .before .before .before .args in
+    let tables = c .before .before .before .before .before .before .before .before .before .before .before .before .before .before .before .before .before .before .before .before .before .pre .0 .tables in
+    let few = c .before .before .before .before .before .before .before .before .before .before .before .before .before .before .before .before .before .before .before .before .before .pre .0 .few in
+    let wide = longest-in (a .field) in
+    round-wants (fieldAt _) (p-at _) _ (omega arith) _ _ tables (a .g .now) (a .f .now) (a .x .now) (a .y .now) (a .k .now) (a .q .now) (a .r .now) (c .before .before .before .before .before .before .before .before .before .before .before .before .before .before .before .before .before .before .before .before .before .pre .1 .0) (c .before .before .before .before .before .before .before .before .before .before .before .before .before .before .before .before .before .before .before .before .before .pre .1 .1) (c .before .before .before .before .before .before .before .before .before .place .ensures) (c .before .before .before .before .before .place2 .ensures) refl
 
 write-back-requires : tie.Need-write-back-requires
 write-back-requires c κs =

@@ -7,7 +7,7 @@ use lib.ListN.{length}
 use lib.Seq.{length-take-le}
 use Rattle.field.specs.Fields.{fieldAt}
 use Rattle.field.proofs.Fields.{modulus-some}
-use Rattle.word_karatsuba.proofs.Words.{tight-take, tight-drop}
+use Rattle.lists.proofs.Tight.{tight-drop, tight-take}
 use Rattle.word_block_division.proofs.Blocks.{part-length, begun-turn}
 use borrow.Author.Needs.{needs}
 use Rattle.word_block_division.proofs.reduce_at.Statement.{statement}
@@ -79,7 +79,7 @@ reduce-block-requires c κs =
     let wide = part-length k n (k + n - k) (a .q .now) (omega arith) (omega arith) in
     let first = length-take-le (n + length (a .s .now) - 1) (a .t .now) (omega arith) in
     let second = length-take-le m (a .v .now) (omega arith) in (
-      (start .pre .0 .0, tight-take _ (modulus-some (a .field)) (k + m - k) _ (tight-drop _ (modulus-some (a .field)) k x (start .pre .0 .1))),
+      (start .pre .0 .0, tight-take (k + m - k) (tight-drop k (start .pre .0 .1))),
       ((start .pre .1 .0 .0, start .pre .1 .0 .1, omega arith, omega arith), (omega arith, omega arith, omega arith)),
     )
 

@@ -6,7 +6,7 @@ use native.Mathlib.Omega.{arith}
 use lib.ListN.{length}
 use Rattle.field.specs.Fields.{fieldAt}
 use Rattle.field.proofs.Fields.{p-at, modulus-half}
-use Rattle.word_karatsuba.proofs.Words.{tight-at}
+use Rattle.lists.proofs.Tight.{tight-at}
 use Rattle.word_block_division.proofs.Blocks.{block-at, taken-tight}
 use borrow.Author.Needs.{needs}
 use Rattle.word_block_division.proofs.reduce_block.Statement.{statement}

@@ -33,7 +33,7 @@ invert-requires c κs =
     let a = start .args in
     let e = length (a .s .now) in
     let words = length-rest (length (a .y .now) - e) (a .y .now) in
-    (top-inverts (modulus (a .field)) (a .inv) (a .y .now) e (modulus-some (a .field)) (start .pre .0 .1) (start .pre .0 .2) (start .pre .0 .0 .inverts), omega arith, omega arith, start .pre .1 .2)
+    (top-inverts (modulus (a .field)) (a .inv) (a .y .now) e (start .pre .0 .1) (start .pre .0 .2) (start .pre .0 .0 .inverts), omega arith, omega arith, start .pre .1 .2)
 
 reduce-blocks-requires : tie.Need-reduce-blocks-requires
 reduce-blocks-requires c κs =

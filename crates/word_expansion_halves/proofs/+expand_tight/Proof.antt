@@ -9,9 +9,9 @@ use lib.Seq.{length-take-le}
 use Rattle.field.specs.Fields.{modulus, fieldAt}
 use Rattle.field.proofs.Fields.{p-at}
 use Rattle.word_expansion.specs.Expansion.{expanded}
-use Rattle.word_expansion.proofs.Loops.{into-tight, tight-take}
+use Rattle.word_expansion.proofs.Loops.{into-tight}
 use Rattle.word_expansion_halves.specs.Halves.{joined}
-use Rattle.word_expansion_halves.proofs.Split.{tight-drop, second-part, both-parts, parts-length, zeros-expanded, parts-tight, parts-expanded}
+use Rattle.word_expansion_halves.proofs.Split.{second-part, both-parts, parts-length, zeros-expanded, parts-tight, parts-expanded}
 use borrow.Author.Needs.{needs}
 use borrow.Fn.Kinds.{In}
 use borrow.Fn.PlainCycle.{Measures, is, falls, and}
@@ -19,6 +19,7 @@ use Rattle.word_expansion_halves.proofs.expand_tight.Reads as expand-ti
 use Rattle.word_expansion_halves.proofs.expand_tight.Kinds as expand-tight-kinds
 use Rattle.word_expansion_halves.proofs.+expand_tight.Lts-expand_tight as expand-tight-lts
 use Rattle.lists.proofs.significant_words.Reads as significant-words-reads
+use Rattle.lists.proofs.Tight.{tight-drop, tight-take}
 use Rattle.word_expansion.proofs.expand.Reads as expand-reads
 use Rattle.word_expansion_halves.proofs.join.Reads as join-reads
 use Rattle.word_expansion_halves.proofs.+expand_tight.{statement}

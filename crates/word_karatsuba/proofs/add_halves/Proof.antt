@@ -6,7 +6,8 @@ use native.Mathlib.Omega.{arith}
 use lib.ListN.{length, take, drop}
 use lib.Seq.{length-take-le}
 use Rattle.field.proofs.Fields.{modulus-half}
-use Rattle.word_karatsuba.proofs.Words.{tight-at, tight-row}
+use Rattle.lists.proofs.Tight.{tight-at}
+use Rattle.word_karatsuba.proofs.Words.{tight-row}
 use Rattle.word_karatsuba.proofs.Parts.{length-rest, halves-are}
 use borrow.Author.Needs.{needs}
 use Rattle.word_karatsuba.proofs.add_halves.Statement.{statement}

@@ -6,7 +6,8 @@ use native.Mathlib.Omega.{arith}
 use lib.ListN.{length, take, drop}
 use lib.Seq.{length-take-le}
 use Rattle.field.proofs.Fields.{modulus-half}
-use Rattle.word_karatsuba.proofs.Words.{tight-at, tight-row, tight-take, tight-rest}
+use Rattle.lists.proofs.Tight.{tight-at, tight-rest, tight-take}
+use Rattle.word_karatsuba.proofs.Words.{tight-row}
 use Rattle.word_karatsuba.proofs.Parts.{length-rest, joined-are}
 use borrow.Author.Needs.{needs}
 use Rattle.word_karatsuba.proofs.join.Statement.{statement}
@@ -35,7 +36,7 @@ sub-words-requires c κs =
     let n = 2 * start .args .h - 1 in
     let first = length-take-le n (start .args .out .now) (omega arith) in
     let fits : length (take n (start .args .out .now)) ≤ length (start .args .s .now) = omega arith in
-    (fits, omega arith, tight-at e (start .pre .1 .1), tight-take _ (omega arith) n _ (tight-at e (start .pre .1 .2)))
+    (fits, omega arith, tight-at e (start .pre .1 .1), tight-take n (tight-at e (start .pre .1 .2)))
 
 mul-sub-words-2 : tie.Need-mul-sub-words-2
 mul-sub-words-2 c = search needs
@@ -63,7 +64,7 @@ sub-words-requires-2 c κs =
     let kept : length (less .last .0) ≡ length (start .args .s .now) = less .kept .0 in
     let rest = length-rest n out in
     let fits : length (take (length out - n) (drop n out)) ≤ length (less .last .0) = omega arith in
-    (fits, omega arith, tight-row _ (omega arith) _ _ _ (tight-at e (start .pre .1 .1)) (less .ensures), tight-rest _ (omega arith) n _ (tight-at e (start .pre .1 .2)))
+    (fits, omega arith, tight-row _ (omega arith) _ _ _ (tight-at e (start .pre .1 .1)) (less .ensures), tight-rest n (tight-at e (start .pre .1 .2)))
 
 mul-add-words : tie.Need-mul-add-words
 mul-add-words c = search needs
@@ -90,7 +91,7 @@ add-words-requires c κs =
     let kept2 : length (less .last .0) ≡ length (first .last .0) = less .kept .0 in
     let rest = length-rest h out in
     let fits : length (less .last .0) ≤ length (take (length out - h) (drop h out)) = omega arith in
-    (fits, half, tight-rest _ (omega arith) h _ (tight-at e (start .pre .1 .2)))
+    (fits, half, tight-rest h (tight-at e (start .pre .1 .2)))
 
 same-length : tie.Need-same-length
 same-length c = search needs

@@ -1,64 +1,23 @@
--- `word_row::add_product` meets its contract: the difference of the high halves is the product.
+-- `word_row::add_product` meets its contract: x is reduced first.
 -- Assumes nothing.
 use mathlib.Core.Path.{ap, _∙_}
-use Prim.Native.Nat.{_+_, _-_, _*_, _/_, _%_, _<_}
-use native.Mathlib.Nat.{mod-lt, le-of-lt, le-refl}
+use Prim.Native.Nat.{_+_, _*_, _%_}
+use native.Mathlib.Nat.{mod-lt, mod-add-mod}
 use native.Mathlib.Omega.{arith}
-use Rattle.word_montgomery.proofs.Words.{high-below}
-use Rattle.word_row.proofs.Montgomery.{added}
 use borrow.Author.Needs.{needs}
 use Rattle.word_row.proofs.add_product.Statement.{statement}
 use Rattle.word_row.proofs.add_product.Tie as tie
 
--- both high halves are below p
-less-below : (c : tie.After-high-half) → c .high-half .result < c .before .before .args .p
-less-below c = rw (c .high-half .ensures) (high-below (c .before .low-half .result) (omega arith) (le-refl _) (omega arith))
-
-more-below : (c : tie.After-high-half2) → c .high-half2 .result < c .before .before .before .before .before .args .p
-more-below c =
-    let a = c .before .before .before .before .before in
-    rw (c .high-half2 .ensures) (high-below (a .args .y) (a .fits .y .fits) (le-of-lt (a .pre .1)) (omega arith))
-
-low-half-requires : tie.Need-low-half-requires
-low-half-requires c κs = search needs
-
-high-half-requires : tie.Need-high-half-requires
-high-half-requires c κs = search needs
-
 once-reduced-requires : tie.Need-once-reduced-requires
 once-reduced-requires c κs = search needs
 
-sub-below-requires : tie.Need-sub-below-requires
-sub-below-requires c κs =
-    let a = c .before .before .before in
-    (rw (c .once-reduced .ensures) (mod-lt (a .args .x) (omega arith)), le-of-lt (less-below (c .before)))
-
-high-half-requires-2 : tie.Need-high-half-requires-2
-high-half-requires-2 c κs = search needs
-
-sub-sub-below : tie.Need-sub-sub-below
-sub-sub-below c = omega (arith, more-below c)
-
-sub-below-requires-2 : tie.Need-sub-below-requires-2
-sub-below-requires-2 c κs = (rw (c .before .sub-below .ensures) (mod-lt _ (omega arith)), omega arith)
+add-product-below-requires : tie.Need-add-product-below-requires
+add-product-below-requires c κs = (omega arith, omega arith, rw (c .once-reduced .ensures) (mod-lt _ (omega arith)))
 
 returns : tie.Need-returns
 returns c e m f =
-    let a = c .before .before .before .before .before .before .args in
-    added (a .x) (a .y) _ _ _ _ f (more-below (c .before)) (less-below (c .before .before .before .before)) (c .before .high-half2 .ensures)
-    (c .before .before .before .before .high-half .ensures ∙ ap (λ l. l * a .p / 65536) (c .before .before .before .before .before .low-half .ensures))
-    (c .before .before .sub-below .ensures ∙ ap (λ n. (n + (a .p - c .before .before .before .before .high-half .result)) % a .p) (c .before .before .before .once-reduced .ensures))
-    (c .sub-below2 .ensures)
+    let a = c .before .before .args in
+    c .add-product-below .ensures .1 e m f ∙ ap (λ n. (n + m * a .y) % a .p) (c .before .once-reduced .ensures) ∙ mod-add-mod (a .x) (a .p) (m * a .y)
 
 pub add-product-spec : {M : Type 1} → statement M
-add-product-spec =
-    tie.close
-    (tie.spec
-    low-half-requires
-    high-half-requires
-    once-reduced-requires
-    sub-below-requires
-    high-half-requires-2
-    sub-sub-below
-    sub-below-requires-2
-    returns)
+add-product-spec = tie.close (tie.spec once-reduced-requires add-product-below-requires returns)

@@ -155,15 +155,15 @@ module _ (F : PrimeField) where
           (ap (λ a. C (F .series) a *ˢ seriesOf F last) last-inverse ∙ sym (monic-is (F .series) (scalarField F) n (seriesOf F last))))
 
       -- k and m as the code finds them
-      pub gcd-written : {p room : ℕ} → F .p ≡ p → room ≤ F .p → (whole part : List ℕ) → Tables F room whole part → (h : List ℕ) (k m : ℕ)
+      pub gcd-written : {p room : ℕ} → F .p ≡ p → n ≤ F .p → (whole part : List ℕ) → Tables F n whole part → (h : List ℕ) (k m : ℕ)
           {last′ h′ : List ℕ} → length h ≡ room → n ≤ room → k ≡ significant last → m ≡ inverseOrZero F (getD last (k - 1) 0)
           → (last′ ≡ cond (writeFits k whole part last h) (multiplied p m last) last)
           × (h′ ≡ cond (writeFits k whole part last h) (writtenWords p whole part k m last h) h)
           → h′ ≡ padded room (monicList F n (seriesOf F last))
-      gcd-written {room = room} at short whole part t h k m {last′} {h′} e fits ek em q =
+      gcd-written at short whole part t h k m {last′} {h′} e fits ek em q =
           let l = significant-le last in
           let s = b .size in
-          write-is F at room short whole part t k m last h (omega arith) (omega arith) (omega arith) q .1
+          write-is F at n short whole part t k m last h (omega arith) (omega arith) (omega arith) q .1
           ∙ ap₂ (λ i j. writtenList F i j last h) ek (em ∙ ap (λ i. inverseOrZero F (getD last (i - 1) 0)) ek)
           ∙ monic-written h ∙ ap (λ i. padded i (monicList F n (seriesOf F last))) e
 

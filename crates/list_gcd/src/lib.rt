@@ -13,7 +13,7 @@ ghost use Rattle.lists.specs.Degrees.{significant};
 ghost use Rattle.lists.specs.Lists.{scaled};
 ghost use Rattle.euclid_theory.specs.Gcd.{gcdOf, roundsOf, commonPower};
 ghost use Rattle.lists.specs.Padded.{padded};
-ghost use Rattle.field_tables.specs.Factorials.{Tables};
+ghost use Rattle.field_tables.specs.Factorials.{fewWords, Tables};
 ghost use Rattle.list_gcd.specs.Calls.{gcdReply, gcdRows, gcdAnswer, gcdWritten, Greatest};
 ghost use Rattle.list_gcd.specs.Internal.{Ready, Zeros, Buffer, Holds, Ends, monicWords, LastOf, gcdDone};
 use lists::NaiveDegree;
@@ -94,7 +94,7 @@ pub fn common_power(f: &[u16], g: &[u16]) -> Power
 
 // The words of the scaled form of a list, to a buffer of zeros.
 fn scale_into(field: u8, whole: &[u16], part: &[u16], list: &[u16], buffer: &mut [u16])
-    requires { ⌜ Tables (fieldAt field) (longest field) (now whole) (now part) ⌝ }
+    requires { ⌜ Tables (fieldAt field) (length (now buffer)) (now whole) (now part) ⌝ }
     requires { ⌜ (length (now list) ≤ length (now buffer)) × (length (now buffer) ≤ longest field) ⌝ }
     requires { ⌜ ((k : ℕ) → getD (now buffer) k 0 ≡ 0) ⌝ }
     ensures { λ _. ⌜ Holds (fieldAt field) (length (given buffer)) (now (buffer .exit)) (scaled (fieldAt field) (given list)) ⌝ }
@@ -150,7 +150,7 @@ fn write_gcd(
     last: &mut [u16],
     h: &mut [u16],
 ) -> NaiveDegree
-    requires { ⌜ Tables (fieldAt field) (longest field) (now whole) (now part) ⌝ }
+    requires { ⌜ Tables (fieldAt field) (length (now last)) (now whole) (now part) ⌝ }
     requires { ⌜ Buffer (fieldAt field) (length (now last)) (now last) × (length (now last) ≤ longest field) ⌝ }
     requires { ⌜ (0 < significant (now last)) × (length (now h) ≡ longest field) ⌝ }
     ensures { λ r. ⌜ r .0 + 1 ≡ significant (given last) ⌝ }
@@ -173,7 +173,7 @@ fn write_last(
     y: &mut [u16],
     h: &mut [u16],
 ) -> NaiveDegree
-    requires { ⌜ Tables (fieldAt field) (longest field) (now whole) (now part) ⌝ }
+    requires { ⌜ Tables (fieldAt field) (length (cond first (now x) (now y))) (now whole) (now part) ⌝ }
     requires { ⌜ Buffer (fieldAt field) (length (cond first (now x) (now y))) (cond first (now x) (now y)) × (length (cond first (now x) (now y)) ≤ longest field) ⌝ }
     requires { ⌜ (0 < significant (cond first (now x) (now y))) × (length (now h) ≡ longest field) ⌝ }
     ensures { λ r. ⌜ r .0 + 1 ≡ significant (cond first (given x) (given y)) ⌝ }
@@ -197,7 +197,7 @@ fn find_last(
     y: &mut [u16],
     q: &mut [u16],
 ) -> Ended
-    requires { ⌜ Tables (fieldAt field) (longest field) (now whole) (now part) ⌝ }
+    requires { ⌜ Tables (fieldAt field) (length (now x)) (now whole) (now part) ⌝ }
     requires { ⌜ Ready (fieldAt field) (length (now x)) (now f) (now g) × (length (now x) ≤ longest field) ⌝ }
     requires { ⌜ Zeros (length (now x)) (now x) (now y) (now q) ⌝ }
     ensures { λ r. ⌜ r .rounds ≡ roundsOf (fieldAt field) (given f) (given g) ⌝ }
@@ -221,7 +221,7 @@ fn gcd_in(
     q: &mut [u16],
     h: &mut [u16],
 ) -> Gcd
-    requires { ⌜ Tables (fieldAt field) (longest field) (now whole) (now part) ⌝ }
+    requires { ⌜ Tables (fieldAt field) (length (now x)) (now whole) (now part) ⌝ }
     requires { ⌜ Ready (fieldAt field) (length (now x)) (now f) (now g) × (length (now x) ≤ longest field) ⌝ }
     requires { ⌜ Zeros (length (now x)) (now x) (now y) (now q) ⌝ }
     requires { ⌜ length (now h) ≡ longest field ⌝ }
@@ -232,39 +232,6 @@ fn gcd_in(
     let w = write_last(field, whole, part, inverses, ended.first, x, y, h);
     let c = common_power(f, g);
     Gcd::Done(w, c, Rounds(ended.rounds))
-}
-
-// The GCD where nothing is refused, with tables that are lent.
-fn gcd_with(
-    field: u8,
-    whole: &[u16],
-    part: &[u16],
-    inverses: &[u16],
-    f: &[u16],
-    g: &[u16],
-    h: &mut [u16],
-) -> Gcd
-    requires { ⌜ Tables (fieldAt field) (longest field) (now whole) (now part) ⌝ }
-    requires { ⌜ Ready (fieldAt field) (longest field) (now f) (now g) ⌝ }
-    requires { ⌜ length (now h) ≡ longest field ⌝ }
-    ensures { λ r. ⌜ r ≡ gcdDone (fieldAt field) (given f) (given g) ⌝ }
-    ensures { λ _. ⌜ now (h .exit) ≡ padded (longest field) (gcdOf (fieldAt field) (given f) (given g)) ⌝ }
-{
-    let mut x = [0u16; refusal::MAX_WORDS];
-    let mut y = [0u16; refusal::MAX_WORDS];
-    let mut q = [0u16; refusal::MAX_WORDS];
-    gcd_between(
-        field,
-        whole,
-        part,
-        inverses,
-        f,
-        g,
-        &mut x,
-        &mut y,
-        &mut q,
-        h,
-    )
 }
 
 // The words of a buffer: as many as the longer list has, and zeros after them, so that a row can be added in groups of 8 words.
@@ -278,32 +245,25 @@ pub fn buffer_words(field: u8, f: &[u16], g: &[u16]) -> usize
     )
 }
 
-// The same in as much of three arrays of zeros as the lists take.
-fn gcd_between(
-    field: u8,
-    whole: &[u16],
-    part: &[u16],
-    inverses: &[u16],
-    f: &[u16],
-    g: &[u16],
-    x: &mut [u16],
-    y: &mut [u16],
-    q: &mut [u16],
-    h: &mut [u16],
-) -> Gcd
-    requires { ⌜ Tables (fieldAt field) (longest field) (now whole) (now part) ⌝ }
-    requires { ⌜ Ready (fieldAt field) (longest field) (now f) (now g) ⌝ }
-    requires { ⌜ Zeros maxWords (now x) (now y) (now q) ⌝ }
+// The GCD of short lists, where nothing is refused, in buffers of n words, with small tables and small arrays: tables are copied, and arrays are
+// filled with zeros.
+fn gcd_few(field: u8, f: &[u16], g: &[u16], n: usize, h: &mut [u16]) -> Gcd
+    requires { ⌜ Ready (fieldAt field) n (now f) (now g) × (n ≤ fewWords) ⌝ }
     requires { ⌜ length (now h) ≡ longest field ⌝ }
     ensures { λ r. ⌜ r ≡ gcdDone (fieldAt field) (given f) (given g) ⌝ }
     ensures { λ _. ⌜ now (h .exit) ≡ padded (longest field) (gcdOf (fieldAt field) (given f) (given g)) ⌝ }
 {
-    let n = buffer_words(field, f, g);
+    let whole = field_tables::few_factorials(field);
+    let part = field_tables::few_inverse_factorials(field);
+    let inverses = field_tables::inverses(field);
+    let mut x = [0u16; field_tables::FEW_WORDS];
+    let mut y = [0u16; field_tables::FEW_WORDS];
+    let mut q = [0u16; field_tables::FEW_WORDS];
     gcd_in(
         field,
-        whole,
-        part,
-        inverses,
+        &whole,
+        &part,
+        &inverses,
         f,
         g,
         &mut x[..n],
@@ -313,9 +273,9 @@ fn gcd_between(
     )
 }
 
-// The same with our own tables.
-fn gcd_into(field: u8, f: &[u16], g: &[u16], h: &mut [u16]) -> Gcd
-    requires { ⌜ Ready (fieldAt field) (longest field) (now f) (now g) ⌝ }
+// The GCD of any lists, where nothing is refused, in buffers of n words.
+fn gcd_many(field: u8, f: &[u16], g: &[u16], n: usize, h: &mut [u16]) -> Gcd
+    requires { ⌜ Ready (fieldAt field) n (now f) (now g) × (n ≤ longest field) ⌝ }
     requires { ⌜ length (now h) ≡ longest field ⌝ }
     ensures { λ r. ⌜ r ≡ gcdDone (fieldAt field) (given f) (given g) ⌝ }
     ensures { λ _. ⌜ now (h .exit) ≡ padded (longest field) (gcdOf (fieldAt field) (given f) (given g)) ⌝ }
@@ -323,5 +283,33 @@ fn gcd_into(field: u8, f: &[u16], g: &[u16], h: &mut [u16]) -> Gcd
     let whole = field_tables::factorials(field);
     let part = field_tables::inverse_factorials(field);
     let inverses = field_tables::inverses(field);
-    gcd_with(field, &whole, &part, &inverses, f, g, h)
+    let mut x = [0u16; refusal::MAX_WORDS];
+    let mut y = [0u16; refusal::MAX_WORDS];
+    let mut q = [0u16; refusal::MAX_WORDS];
+    gcd_in(
+        field,
+        &whole,
+        &part,
+        &inverses,
+        f,
+        g,
+        &mut x[..n],
+        &mut y[..n],
+        &mut q[..n],
+        h,
+    )
+}
+
+// The same with tables and arrays of the size that the longer list needs.
+fn gcd_into(field: u8, f: &[u16], g: &[u16], h: &mut [u16]) -> Gcd
+    requires { ⌜ Ready (fieldAt field) (longest field) (now f) (now g) ⌝ }
+    requires { ⌜ length (now h) ≡ longest field ⌝ }
+    ensures { λ r. ⌜ r ≡ gcdDone (fieldAt field) (given f) (given g) ⌝ }
+    ensures { λ _. ⌜ now (h .exit) ≡ padded (longest field) (gcdOf (fieldAt field) (given f) (given g)) ⌝ }
+{
+    let n = buffer_words(field, f, g);
+    if n <= field_tables::FEW_WORDS {
+        return gcd_few(field, f, g, n, h);
+    }
+    gcd_many(field, f, g, n, h)
 }

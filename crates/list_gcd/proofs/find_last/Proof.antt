@@ -20,7 +20,7 @@ scale-into-requires-2 c κs =
     let short = pre .1 .0 .0 .short-f in
     let size = pre .1 .1 .size-y in
     let few = pre .1 .0 .1 in
-    (pre .0, ((omega arith, omega arith), pre .1 .1 .zeros-y))
+    (rw size (pre .0), ((omega arith, omega arith), pre .1 .1 .zeros-y))
 
 all-rounds-requires : tie.Need-all-rounds-requires
 all-rounds-requires c κs =

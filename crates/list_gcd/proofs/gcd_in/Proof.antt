@@ -20,7 +20,7 @@ write-last-requires c κs =
     let size = last .size in
     let same = last .buffer .size in
     let few = pre .1 .0 .1 in
-    (pre .0, ((buffer-as (fieldAt _) (sym (last .buffer .size)) (last .buffer), omega arith), (omega arith, pre .1 .1 .1)))
+    (rw same (pre .0), ((buffer-as (fieldAt _) (sym (last .buffer .size)) (last .buffer), omega arith), (omega arith, pre .1 .1 .1)))
 
 common-power-requires : tie.Need-common-power-requires
 common-power-requires c κs = search needs

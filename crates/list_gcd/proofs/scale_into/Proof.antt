@@ -5,7 +5,6 @@ use native.Mathlib.Omega.{arith}
 use lib.ListN.{length-take}
 use Rattle.field.specs.Fields.{fieldAt}
 use Rattle.field.proofs.Fields.{p-at, longest-in}
-use Rattle.field_tables.proofs.Entries.{tables-within}
 use Rattle.list_gcd.proofs.Buffers.{holds-scaled}
 use borrow.Author.Needs.{needs}
 use Rattle.list_gcd.proofs.scale_into.Statement.{statement}
@@ -27,8 +26,7 @@ returns : tie.Need-returns
 returns c =
     let start = c .before .before .before .before .before .before .before .before in
     let pre = start .pre in
-    let tables = tables-within (fieldAt _) _ (pre .1 .0 .1) (pre .0) in
-    holds-scaled (fieldAt _) (p-at _) _ (omega (arith, longest-in (start .args .field))) _ _ tables _ _ (pre .1 .0 .0) refl (pre .1 .1) (c .before .before .weigh .ensures)
+    holds-scaled (fieldAt _) (p-at _) _ (omega (arith, longest-in (start .args .field))) _ _ (pre .0) _ _ (pre .1 .0 .0) refl (pre .1 .1) (c .before .before .weigh .ensures)
 
 pub scale-into-spec : {M : Type 1} → statement M
 scale-into-spec =

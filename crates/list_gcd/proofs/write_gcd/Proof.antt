@@ -41,7 +41,7 @@ returns c =
     let start = c .before .before .before .before .before .before .before .before .before .before .before .before .before .before .before .before in
     let n = c .before .before .before .before .before .before .before .before .before .significant-words in (
       omega arith,
-      gcd-written (fieldAt _) _ _ (start .pre .1 .0 .0) (start .pre .1 .1 .0) (p-at _) (longest-in _) _ _ (start .pre .0) _ _ _ (start .pre .1 .1 .1) (start .pre .1 .0 .1) (n .ensures) (c .before .before .before .before .before .before .before .inverse-or-zero .ensures) (c .before .before .before .before .write-list .ensures),
+      gcd-written (fieldAt _) _ _ (start .pre .1 .0 .0) (start .pre .1 .1 .0) (p-at _) (omega (arith, start .pre .1 .0 .1, longest-in (start .args .field))) _ _ (start .pre .0) _ _ _ (start .pre .1 .1 .1) (start .pre .1 .0 .1) (n .ensures) (c .before .before .before .before .before .before .before .inverse-or-zero .ensures) (c .before .before .before .before .write-list .ensures),
     )
 
 pub write-gcd-spec : {M : Type 1} → statement M

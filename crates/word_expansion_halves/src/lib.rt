@@ -6,6 +6,7 @@ ghost use mathlib.Core.Bool.{cond};
 ghost use Prim.Native.Nat.{_+_, _-_, _≤_, _<_};
 ghost use lib.ListN.{length};
 ghost use Rattle.refusal.specs.Contract.{given};
+ghost use Rattle.refusal.specs.Limits.{maxWords};
 ghost use Rattle.field.specs.Fields.{modulus, fieldAt};
 ghost use Rattle.lists.specs.Words.{Tight};
 ghost use Rattle.field_tables.specs.Factorials.{TablesFor};
@@ -14,7 +15,7 @@ ghost use Rattle.word_expansion.specs.Expansion.{signed, expanded, expandedInto
 ghost use Rattle.word_expansion_halves.specs.Halves.{signs, joined, Room};
 
 // So many words are not cut: Horner's rule is as quick.
-const SHORT: usize = 384;
+const SHORT: usize = 512;
 
 // The words of (1 ± t)^m, where half of the words are cut off.
 const ROW: usize = refusal::MAX_WORDS / 2 + 1;
@@ -43,13 +44,30 @@ fn expand_tight(field: u8, whole: &[u16], part: &[u16], plus: bool, x: &mut [u16
         word_expansion::expand(field, plus, x);
         return;
     }
-    if lists::significant_words(x) == 0 {
+    let s = lists::significant_words(x);
+    if s == 0 {
         return;
     }
-    let h = (n + 1) / 2;
+    let h = cut(n, s);
     expand_tight(field, whole, part, plus, &mut x[..h]);
     expand_tight(field, whole, part, plus, &mut x[h..]);
     join(field, whole, part, plus, h, x);
+}
+
+// How many of n words are the first part, where from word s on all are 0: the first s where these are from half to three quarters of them, so
+// that the second part is 0 throughout; else half.
+fn cut(n: usize, s: usize) -> usize
+    requires { ⌜ (4 ≤ n) × (n ≤ maxWords) ⌝ }
+    ensures { λ h. ⌜ (1 ≤ h) × (h < n) × (n ≤ h + h) ⌝ }
+{
+    let half = (n + 1) / 2;
+    if s <= half {
+        return half;
+    }
+    if n - n / 4 < s {
+        return half;
+    }
+    s
 }
 
 // (1 ± t)^m times the first h words of x plus t^h times the other m.

@@ -74,7 +74,7 @@ fn round(
     }
     let inv = field_inverse::inverse_or_zero(field, inverses, last);
     let wide = whole_groups(ny, y.len());
-    word_division::reduce_padded(field, x, &y[..wide], ny, inv, &mut q[..k]);
+    word_block_division::reduce_padded(field, x, &y[..wide], ny, inv, &mut q[..k]);
     k
 }
 

@@ -8,8 +8,8 @@ use mathlib.Core.List.{List, [], _++_}
 use Prim.Native.Nat.{ℕ, zero, suc, _+_, _-_, _*_, _%_, _≤_, _<_}
 use native.Mathlib.Decide.{decLt, ℕ-discrete}
 use native.Mathlib.Omega.{arith}
-use lib.ListN.{length, getD, take, drop, set, length-take, length-drop, length-set, List·getD-eq-default, List·getD-append, take-append-drop}
-use lib.Seq.{getD-drop, getD-set-same, getD-set-other, take-at, drop-at, drop-length, drop-drop, length-take-le, getD-append-add}
+use lib.ListN.{length, getD, take, drop, set, length-take, length-drop, length-set, List·getD-eq-default, take-append-drop}
+use lib.Seq.{getD-drop, getD-set-same, getD-set-other, take-at, drop-at, drop-length, drop-drop, length-take-le}
 use Rattle.algebra.specs.RingLaws as R
 use Rattle.algebra.specs.Ring.{CommRing}
 use Rattle.algebra.specs.RingLaws.{RING}
@@ -27,7 +27,7 @@ use Rattle.words.proofs.Transfer.{copied-fit}
 use Rattle.lists.specs.Words.{ZeroFrom, seriesOf, Tight}
 use Rattle.lists.proofs.Words.{Carries, carries-seriesOf, seriesOf-carries, coeff-seriesOf}
 use Rattle.lists.proofs.Parts.{getD-then-zeros}
-use Rattle.lists.proofs.Tight.{tight-append, tight-drop, tight-rest, tight-take}
+use Rattle.lists.proofs.Tight.{tight-append, tight-drop, tight-take}
 use Rattle.word_row.specs.Rows.{row}
 use Rattle.word_product.specs.Convolution.{convolution, convolvedInto}
 use Rattle.word_product.proofs.Convolution.{length-convolution, convolve-is}

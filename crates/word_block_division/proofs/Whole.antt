@@ -1,12 +1,15 @@
 -- A quotient and a remainder with no loose word are those of the division row by row, for every prime field F.
+--     divided-digits, divided-reduced     the words of the quotient, and what is left
+--     digits-at, reduced-at               the same as the code has it
+--     part-digits, part-reduced           the same on the words of longer slices
 -- Assumes nothing.
 use mathlib.Core.Path.{_≡_, refl, sym, _∙_, ap, subst}
 use mathlib.Core.Bool.{true}
-use mathlib.Core.List.{List}
+use mathlib.Core.List.{List, _++_}
 use Prim.Native.Nat.{ℕ, zero, _+_, _-_, _≤_}
 use native.Mathlib.Omega.{arith}
-use lib.ListN.{length, getD}
-use lib.Seq.{ext-getD}
+use lib.ListN.{length, getD, take, drop, take-append-drop}
+use lib.Seq.{ext-getD, length-take-le}
 use Rattle.algebra.specs.Ring.{CommRing}
 use Rattle.algebra.specs.Polynomial.{Below}
 use Rattle.algebra.proofs.Polynomial.{below-mono, polynomial}
@@ -16,9 +19,9 @@ use Rattle.algebra.specs.PrimeField.{PrimeField, scalars, scalarField, residue}
 use Rattle.algebra.proofs.PrimeField.{residue-0}
 use Rattle.lists.specs.Words.{seriesOf}
 use Rattle.lists.proofs.Words.{Carries, value-is, carries-seriesOf, coeff-seriesOf}
-use Rattle.lists.proofs.Tight.{tight-rest}
 use Rattle.word_division.specs.Reduction.{reduced, digits, reduceFits, wordsReduced, wordsOfQuotient}
 use Rattle.word_division.proofs.Loops.{reduce-fits}
+use Rattle.word_division.proofs.Longer.{reduced-longer, digits-longer}
 use Rattle.word_division.proofs.Steps.{digits-quotient, reduced-remainder, length-digits, length-reduced}
 use Rattle.word_karatsuba.proofs.Products.{below-seriesOf}
 use Rattle.word_block_division.specs.Blocks.{Suits, Divided}
@@ -86,3 +89,32 @@ module _ (F : PrimeField) where
 
     pub reduced-at : r ≡ wordsReduced p inv x y q₀
     reduced-at = divided-reduced inv x y (length q₀) (rw is suits) lq lr d ∙ rw (is, fits) refl
+
+-- the same on the words of longer slices that the division reaches
+module _ (p inv n m : ℕ) (x y q : List ℕ) (some : 1 ≤ n) (ly : n ≤ length y) (lx : m ≤ length x) (reach : m ≡ n - 1 + length q) where
+  part-y : length (take n y) ≡ n
+  part-y = length-take-le n y ly
+
+  part-x : length (take m x) ≡ m
+  part-x = length-take-le m x lx
+
+  part-fits : reduceFits (take m x) (take n y) q ≡ true
+  part-fits = reduce-fits (take m x) (take n y) q (omega (arith, part-y)) (omega (arith, part-x, part-y))
+
+  pub part-reduced : {z : List ℕ} → z ≡ wordsReduced p inv (take m x) (take n y) q → z ++ drop m x ≡ reduced p inv (take n y) (length q) x
+  part-reduced {z} e =
+      ap (λ l. l ++ drop m x) (e ∙ fitting)
+      ∙ sym (reduced-longer p inv (take n y) (drop m x) (omega (arith, part-y)) (length q) (take m x) (omega (arith, part-x, part-y)))
+      ∙ ap (reduced p inv (take n y) (length q)) (take-append-drop m x)
+    where
+      fitting : wordsReduced p inv (take m x) (take n y) q ≡ reduced p inv (take n y) (length q) (take m x)
+      fitting = rw part-fits refl
+
+  pub part-digits : {z : List ℕ} → z ≡ wordsOfQuotient p inv (take m x) (take n y) q → z ≡ digits p inv (take n y) (length q) x
+  part-digits {z} e =
+      e ∙ fitting
+      ∙ sym (digits-longer p inv (take n y) (drop m x) (omega (arith, part-y)) (length q) (take m x) (omega (arith, part-x, part-y)))
+      ∙ ap (digits p inv (take n y) (length q)) (take-append-drop m x)
+    where
+      fitting : wordsOfQuotient p inv (take m x) (take n y) q ≡ digits p inv (take n y) (length q) (take m x)
+      fitting = rw part-fits refl

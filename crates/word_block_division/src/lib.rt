@@ -5,7 +5,7 @@ ghost use mathlib.Core.Path.{_≡_};
 ghost use mathlib.Core.Bool.{true};
 ghost use mathlib.Core.List.{List};
 ghost use Prim.Native.Nat.{ℕ, _+_, _-_, _*_, _≤_};
-ghost use lib.ListN.{length, drop};
+ghost use lib.ListN.{length, take, drop};
 ghost use Rattle.refusal.specs.Contract.{given};
 ghost use Rattle.refusal.specs.Limits.{maxWords};
 ghost use Rattle.field.specs.Fields.{modulus, fieldAt};
@@ -196,4 +196,21 @@ pub fn reduce(field: u8, x: &mut [u16], y: &[u16], inv: u16, q: &mut [u16])
         return;
     }
     word_division::reduce(field, x, y, inv, q);
+}
+
+// The division of x by the first n words of y, where the words of x are below p, and y is 0 after these. x may have more words than the division
+// reaches.
+pub fn reduce_padded(field: u8, x: &mut [u16], y: &[u16], n: usize, inv: u16, q: &mut [u16])
+    requires { ⌜ (1 ≤ n) × (n ≤ length (now y)) × (n - 1 + length (now q) ≤ length (now x)) ⌝ }
+    requires { ⌜ Tight (modulus field) (now x) ⌝ }
+    requires { ⌜ ZeroFrom n (now y) ⌝ }
+    ensures left { λ _. ⌜ now (x .exit) ≡ reduced (modulus field) inv (take n (given y)) (length (given q)) (given x) ⌝ }
+    ensures quotient { λ _. ⌜ now (q .exit) ≡ digits (modulus field) inv (take n (given y)) (length (given q)) (given x) ⌝ }
+{
+    if q.len() < SHORT {
+        word_division::reduce_padded(field, x, y, n, inv, q);
+        return;
+    }
+    let m = n - 1 + q.len();
+    reduce(field, &mut x[..m], &y[..n], inv, q);
 }

@@ -6,7 +6,6 @@ use native.Mathlib.Omega.{arith}
 use lib.ListN.{length}
 use lib.Seq.{length-take-le}
 use Rattle.field.specs.Fields.{fieldAt}
-use Rattle.field.proofs.Fields.{modulus-some}
 use Rattle.lists.proofs.Tight.{tight-drop, tight-take}
 use Rattle.word_block_division.proofs.Blocks.{part-length, begun-turn}
 use borrow.Author.Needs.{needs}

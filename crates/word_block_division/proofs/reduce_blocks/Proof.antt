@@ -7,7 +7,7 @@ use native.Mathlib.Omega.{arith}
 use lib.ListN.{length}
 use Rattle.field.specs.Fields.{fieldAt}
 use Rattle.field.proofs.Fields.{p-at}
-use Rattle.lists.proofs.Tight.{tight-at, tight-rest}
+use Rattle.lists.proofs.Tight.{tight-at}
 use Rattle.word_block_division.specs.Blocks.{Begun}
 use Rattle.word_block_division.proofs.Blocks.{begun-start, begun-end}
 use borrow.Author.Needs.{needs}

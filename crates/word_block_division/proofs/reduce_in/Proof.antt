@@ -5,7 +5,6 @@ use Prim.Native.Nat.{_-_}
 use native.Mathlib.Omega.{arith}
 use lib.ListN.{length}
 use Rattle.field.specs.Fields.{modulus, fieldAt}
-use Rattle.field.proofs.Fields.{modulus-some}
 use Rattle.word_karatsuba.proofs.Parts.{length-rest}
 use Rattle.word_block_division.proofs.Blocks.{top-inverts, reciprocal-top}
 use borrow.Author.Needs.{needs}

@@ -15,7 +15,7 @@ ghost use Rattle.word_expansion.specs.Expansion.{signed, expanded, expandedInto
 ghost use Rattle.word_expansion_halves.specs.Halves.{signs, joined, Room};
 
 // So many words are not cut: Horner's rule is as quick.
-const SHORT: usize = 512;
+const SHORT: usize = 448;
 
 // The words of (1 ± t)^m, where half of the words are cut off.
 const ROW: usize = refusal::MAX_WORDS / 2 + 1;

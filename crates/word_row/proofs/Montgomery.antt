@@ -1,14 +1,14 @@
 -- Montgomery's products on words: the difference of two high halves is a product modulo p.
---     once               one subtraction of p reduces a word
---     sum-most, sum-less           the word that `add_below` chooses
---     product-halves     with the constants of m, the high half of y · g less that of (y · s modulo 2^16) · p is m · y
---     added              the word that a row's turn stores
---     square-factor      the constants of 2^16 itself
---     lifted-factor      those of m, from a product with them
---     factor-below       g is below p
---     square-below, modulus-at     the constants of a field
---     lift-factor, lift-at         the lift of m, as the constants of -m · 2^16
---     minus-factor       the constants of -a · m, from a product with them
+--     once                        one subtraction of p reduces a word
+--     sum-most, sum-less          the word that `add_below` chooses
+--     product-halves              with the constants of m, the high half of y · g less that of (y · s modulo 2^16) · p is m · y
+--     added                       the word that a row's turn stores
+--     square-factor               the constants of 2^16 itself
+--     lifted-factor               those of m, from a product with them
+--     factor-below                g is below p
+--     square-below, modulus-at    the constants of a field
+--     lift-factor, lift-at        the lift of m, as the constants of -m · 2^16
+--     minus-factor                the constants of -a · m, from a product with them
 -- Assumes nothing.
 use mathlib.Core.Path.{_≡_, sym, ap, _∙_}
 use Prim.Native.Nat.{ℕ, min, _+_, _-_, _*_, _/_, _%_, _<_, _≤_}

@@ -1,7 +1,7 @@
 -- `word_division::sub_product` meets its contract. The loop's invariant: the product with the first k words of q is taken off, and the words of s
 -- are below p. The measure is how many words of q are left.
 -- Assumes nothing.
-use mathlib.Core.Path.{_≡_, refl, _∙_}
+use mathlib.Core.Path.{_≡_, refl}
 use Prim.Native.Nat.{_<_, _≤_, _-_}
 use native.Mathlib.Omega.{arith}
 use lib.ListN.{length}

@@ -1,5 +1,10 @@
 -- What the words mean that the loops leave: for every prime field, series by Horner's rule.
---     Horner m s T        T k is the sum of s_j · t^j · (1 + m·t)^(k-j) over j from 0 to k
+--     sign, residue-signed          the sign of t, and a word with it
+--     less-t, plus-t                1 - t and 1 + t are 1 + m·t with m the sign
+--     coeff-factor                  a factor 1 + m·t, by coefficients
+--     power-monomial                t^k times a constant is a monomial
+--     Horner m s T                  T k is the sum of s_j · t^j · (1 + m·t)^(k-j) over j from 0 to k
+--     horner-hom, horner-form       so are homogenisations with 1 - t, and forms with 1 + t
 -- Theorems:
 --     expanded-horner     the words of a series s, expanded, are those of the last T
 --     expanded-hom        with 1 - t that is the homogenisation of s

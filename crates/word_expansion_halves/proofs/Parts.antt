@@ -83,9 +83,9 @@ module _ (F : PrimeField) where
 
 -- what the code writes: `power` is the buffer for the words of (1 ± t)^m, `out` the one for the product
 module _ (k : ℕ) (plus : Bool) (h : ℕ) {whole part x : List ℕ} (t : TablesFor k whole part) (short : length x ≤ length whole) (tight : Tight (modulus k) x) where
-  weighed-length : (power : List ℕ) {w : List ℕ} → h + length power ≡ length x + 1 → 1 ≤ h
+  weighed-is : (power : List ℕ) {w : List ℕ} → h + length power ≡ length x + 1 → 1 ≤ h
       → w ≡ weighedInto (modulus k) (signs (modulus k) plus (length power)) whole part power → w ≡ scaledWords (fieldAt k) (signs (modulus k) plus (length power))
-  weighed-length power e some q =
+  weighed-is power e some q =
       let size = signs-length (modulus k) plus (length power) in
       scale-is (fieldAt k) (p-at k) (length whole) (omega (arith, t .few, longest-in k)) whole part (t .tables) (signs (modulus k) plus (length power)) power (sym size) (omega (arith, size)) q
 
@@ -113,7 +113,7 @@ module _ (k : ℕ) (plus : Bool) (h : ℕ) {whole part x : List ℕ} (t : Tables
       more = omega arith
 
       power-is : w ≡ scaledWords (fieldAt k) (signs (modulus k) plus (suc n))
-      power-is = weighed-length power (fits .2) (fits .0) qw ∙ ap (λ i. scaledWords (fieldAt k) (signs (modulus k) plus i)) more
+      power-is = weighed-is power (fits .2) (fits .0) qw ∙ ap (λ i. scaledWords (fieldAt k) (signs (modulus k) plus i)) more
 
       power-size : length w ≡ suc n
       power-size = ap length power-is ∙ length-scaledWords (fieldAt k) _ ∙ signs-length (modulus k) plus (suc n)

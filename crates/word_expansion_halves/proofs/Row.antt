@@ -1,5 +1,7 @@
 -- The words of a power of 1 + t or 1 - t: binomial coefficients with their signs.
---     signs-length, signs-start, signs-next, sign-below     the loop that writes the signs
+--     signs-length, signs-at              how many signs there are, and each of them
+--     sign-zero, sign-suc, sign-next      the first sign, and the one after another
+--     sign-inside, sign-fits              a sign is above 0 and below p
 -- Theorems:
 --     coeff-power     coefficient k of (1 + m·t)^n is m^k · C(n,k)
 --     row-carries     the scaled form of n + 1 signs has the words of (1 ± t)^n

@@ -1,8 +1,12 @@
 -- Horner's rule over two parts of the words.
---     base-is             1 + t and 1 - t are 1 + m·t with m the sign
---     joined-carries      words that stand for the sum of both parts, as many as there are, are those
---     second-part, both-parts     the two parts of a list that are written one after the other
---     parts-tight, parts-expanded, zeros-expanded     what the code hands on, and what it leaves
+--     tight-drop                      the last words of a tight list are tight
+--     factor m, powT k                1 + m·t, and t^k
+--     base-is                         1 + t and 1 - t are 1 + m·t with m the sign
+--     joined-carries                  words that stand for the sum of both parts, as many as there are, are `joined`
+--     second-part, both-parts         a list whose first words are written, and then the others: the part that is left, and the whole
+--     parts-length, parts-tight       the two parts, one after the other, are as many words as before, and tight
+--     zeros-expanded                  words that are all 0 stay so, with p as the code has it
+--     parts-expanded                  what the code leaves is all words expanded, with p as the code has it
 -- Theorems:
 --     split               for series: (1 + m·t)^(j+1) times the sum over the first h + 1 terms plus t^(h+1) times that over the other j + 1
 --     expanded-joined     for words: the two parts, expanded and joined, are all words expanded
@@ -15,7 +19,7 @@ use Prim.Native.Nat.{ℕ, zero, suc, _+_, _-_, _≤_, _<_}
 use native.Mathlib.Decide.{decLt}
 use native.Mathlib.Omega.{arith}
 use lib.ListN.{length, getD, take, drop, length-append, length-drop, drop-of-length-le, List·getD-append}
-use lib.Seq.{length-take-le, length-front, getD-take, getD-drop, getD-append-add, ext-getD, take-at, drop-at}
+use lib.Seq.{length-take-le, getD-take, getD-drop, getD-append-add, ext-getD, take-at, drop-at}
 use Rattle.algebra.specs.RingLaws as R
 use Rattle.algebra.specs.Ring.{CommRing, pow}
 use Rattle.algebra.specs.RingLaws.{RING}
@@ -196,9 +200,6 @@ module _ (F : PrimeField) where
 module _ (h : ℕ) (x z w : List ℕ) (lz : length z ≡ length (take h x)) (l : h ≤ length x) where
   front : length z ≡ h
   front = lz ∙ length-take-le h x l
-
-  pub after-first : length (z ++ drop h x) ≡ length x
-  after-first = length-front x z h lz
 
   pub second-part : take (length (z ++ drop h x) - h) (drop h (z ++ drop h x)) ≡ drop h x
   second-part = rest-is h (z ++ drop h x) ∙ drop-at z (drop h x) h front

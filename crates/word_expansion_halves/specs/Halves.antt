@@ -2,7 +2,8 @@
 --     signAt p plus k         1, or (-1)^k modulo p
 --     signs p plus n          the first n of these
 --     base F plus             the polynomial 1 + t, or 1 - t
---     joined F plus h x       the words of (1 ± t)^m times the first h words of x plus t^h times the other m
+--     joinedSeries            (1 ± t)^m times the first h words of x plus t^h times the other m, as a series
+--     joined F plus h x       the words of it, as many as x has
 --     Room h n k o            the lengths fit: h of n words, k of a power of 1 ± t, and o of the result
 -- Theorems (proofs/Split):
 --     expanded-joined         the two parts, expanded and joined, are all words expanded
@@ -36,7 +37,6 @@ module _ (F : PrimeField) where
   unfoldable pub base : Bool → S
   base plus = cond plus (⟨1+u⟩ (F .series)) (⟨1-t⟩ (F .series))
 
-  -- their sum as a series
   unfoldable pub joinedSeries : Bool → (h : ℕ) → List ℕ → S
   joinedSeries plus h x =
       pow (F .series .ring) (base plus) (length x - h) *ˢ seriesOf F (take h x) +ˢ pow (F .series .ring) (t (F .series)) h *ˢ seriesOf F (drop h x)

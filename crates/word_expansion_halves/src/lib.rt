@@ -2,8 +2,7 @@
 // takes steps that grow with the square of the number of words. The first h of n words and the other m are expanded by themselves, and
 // (1 ± t)^m times the first plus t^h times the second are all of them.
 ghost use mathlib.Core.Path.{_≡_};
-ghost use mathlib.Core.Bool.{cond};
-ghost use Prim.Native.Nat.{_+_, _-_, _≤_, _<_};
+ghost use Prim.Native.Nat.{_+_, _≤_, _<_};
 ghost use lib.ListN.{length};
 ghost use Rattle.refusal.specs.Contract.{given};
 ghost use Rattle.refusal.specs.Limits.{maxWords};
@@ -17,7 +16,7 @@ ghost use Rattle.word_expansion_halves.specs.Halves.{signs, joined, Room
 // So many words are not cut: Horner's rule is as quick.
 const SHORT: usize = 448;
 
-// The words of (1 ± t)^m, where half of the words are cut off.
+// The words of (1 ± t)^m, where at most half of the words are the second part.
 const ROW: usize = refusal::MAX_WORDS / 2 + 1;
 
 // The coefficients of the sum of x_k · t^k · (1 + t)^(n-k), or with 1 - t, n + 1 being the number of words; where a word is loose, nothing

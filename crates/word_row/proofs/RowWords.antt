@@ -3,8 +3,6 @@
 --     row-cut                                    y need not be read where it is 0
 --     rowFrom-low, rowFrom-at, rowFrom-above     a word of the row step from word k on: before k, where y reaches, and past y
 --     rowFrom-below, tight-rowFrom               the words stay below p
---     tight-at                                   words below p by another name of p
---     tight-take, tight-drop, tight-rest         a part of words below p
 -- Assumes nothing.
 use mathlib.Core.Path.{_≡_, sym, _∙_, ap}
 use mathlib.Core.List.{List, _++_}

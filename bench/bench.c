@@ -288,10 +288,10 @@ static void draw_multiple(const list *shared, list *to, size_t n) {
   memcpy(to->bytes, out.first, 2 * to->words);
 }
 
-/* Two lists of naive degrees f and g with a factor of degree 100. */
+/* Two lists of naive degrees f and g with a factor of degree 100, or of degree 400 where f is above 511. */
 static void draw_shared(pair *in, size_t f, size_t g) {
   list shared;
-  draw_list(&shared, 100);
+  draw_list(&shared, f < 512 ? 100 : 400);
   draw_multiple(&shared, &in->f, f);
   draw_multiple(&shared, &in->g, g);
 }
@@ -333,6 +333,7 @@ static const task tasks[] = {
     {"division, 1,023 by 512", draw_two, 512, 1023, engine_division, flint_division, 512, 512, 0, -1},
     {"ordinary division, 1,023 by 512", draw_ordinary_division, 512, 1023, engine_ordinary_division, flint_ordinary_division, 1024, 1024, 0, -1},
     {"GCD, 1,023 and 1,023, coprime", draw_two, 1023, 1023, engine_gcd, flint_gcd, MAX_WORDS, 2, 0, 0},
+    {"GCD, 1,023 and 1,023, factor of 400", draw_shared, 1023, 1023, engine_gcd, flint_gcd, MAX_WORDS, 2, 0, 400},
     {"cofactors, 1,023 and 1,023", draw_two, 1023, 1023, engine_cofactors, flint_cofactors, MAX_WORDS, 1023, 1023, 0},
     {"evaluation, 1,023", draw_evaluation, 1023, 0, engine_evaluation, flint_evaluation, 1, 0, 0, -1},
 };
@@ -401,7 +402,7 @@ static void measure(const task *t) {
     flint[i] = batch(t->flint, in);
   }
   double e = median(engine) / 1000, f = median(flint) / 1000;
-  printf("%-32s %10.3f us %10.3f us %8.2f\n", t->name, e, f, e / f);
+  printf("%-36s %10.3f us %10.3f us %8.2f\n", t->name, e, f, e / f);
   fflush(stdout);
 }
 
@@ -412,7 +413,7 @@ int main(void) {
   const char *compiler = "gcc ";
 #endif
   printf("FLINT %s, GMP %s, compiler %s%s\n", flint_version, gmp_version, compiler, __VERSION__);
-  printf("%-32s %13s %13s %8s\n", "naive degrees", "engine", "FLINT", "ratio");
+  printf("%-36s %13s %13s %8s\n", "naive degrees", "engine", "FLINT", "ratio");
   prepare_flint();
   for (size_t i = 0; i < sizeof tasks / sizeof *tasks; i++) measure(&tasks[i]);
   return 0;

@@ -3,9 +3,11 @@
 --     Inverts p inv y          no word of y is loose, and inv is the inverse of its last word
 --     Suits p inv x y k        a division of x by y that has k steps and no loose word, y being short enough for a product
 --     power k                  u^k
---     Reciprocal top s         s has as many words as the divisor's top, e, and is the quotient of u^(2 e - 2) by it: what s · top leaves of it is below e - 1
+--     Reciprocal top s         s is the quotient of u^(2 e - 2) by the divisor's top, both of e words: what s · top leaves of that is
+--                              below e - 1
 --     Divided y x q r          x = q · y + r; no word of q and r is loose, and r is 0 from y's last word on
---     Begun y x₀ k x q         the same where the words of q below k are still to come, and x is what is left: x₀ = u^k · q_k.. · y + x
+--     Begun y x₀ k x q         the same where the words of q below k are still to come, and x is what is left: x₀ is u^k times the words
+--                              of q from k on times y, and x
 -- Theorems, each in the module of proofs/ that is named:
 --     block-rest          a block's words clear as many words of x (Reciprocals)
 --     divided-reduced, divided-digits      q and r are those of the division row by row (Whole)

@@ -1,6 +1,6 @@
-// Division of words in blocks of the quotient. A block's words are the top of a product: that of the words of x that the block clears and of the
-// reciprocal of the divisor's top, which is made once. The block's product with the divisor is then taken off x. Both products are those of crate
-// `word_product`. Short divisions go to crate `word_division`, row by row.
+// Division of words in blocks of the quotient. A block's words are the top of a product: that of the words of x that the block clears and
+// of the reciprocal of the divisor's top, which is made once. The block's product with the divisor is then taken off x. Both products are
+// those of crate `word_product`. Short divisions go to crate `word_division`, row by row.
 ghost use mathlib.Core.Path.{_≡_};
 ghost use mathlib.Core.Bool.{true};
 ghost use mathlib.Core.List.{List};
@@ -198,8 +198,8 @@ pub fn reduce(field: u8, x: &mut [u16], y: &[u16], inv: u16, q: &mut [u16])
     word_division::reduce(field, x, y, inv, q);
 }
 
-// The division of x by the first n words of y, where the words of x are below p, and y is 0 after these. x may have more words than the division
-// reaches.
+// The division of x by the first n words of y, where the words of x are below p, and y is 0 after these. x may have more words than the
+// division reaches.
 pub fn reduce_padded(field: u8, x: &mut [u16], y: &[u16], n: usize, inv: u16, q: &mut [u16])
     requires { ⌜ (1 ≤ n) × (n ≤ length (now y)) × (n - 1 + length (now q) ≤ length (now x)) ⌝ }
     requires { ⌜ Tight (modulus field) (now x) ⌝ }

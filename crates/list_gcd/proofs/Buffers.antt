@@ -3,7 +3,7 @@
 use mathlib.Core.Path.{_≡_, sym, _∙_, ap, subst}
 use mathlib.Core.Bool.{cond}
 use mathlib.Core.List.{List, _++_}
-use Prim.Native.Nat.{ℕ, _≤_}
+use Prim.Native.Nat.{ℕ, _*_, _≤_}
 use native.Mathlib.Omega.{arith}
 use lib.ListN.{getD, length, take, drop, replicate, length-append, length-take, length-drop, length-replicate}
 use lib.Seq.{getD-drop}
@@ -24,22 +24,22 @@ pub length-part : (x : List ℕ) {m : ℕ} (n : ℕ) → length x ≡ m → n �
 length-part x n e l = simp length-take (omega arith)
 
 -- three arrays of zeros, and as much of them as is lent
-pub zeros-arrays : (n : ℕ) → Zeros n (replicate n 0) (replicate n 0) (replicate n 0)
+pub zeros-arrays : (n : ℕ) → Zeros n (replicate n 0) (replicate n 0) (replicate (3 * n) 0)
 zeros-arrays n =
     record {
       size-x = length-replicate n 0;
       size-y = length-replicate n 0;
-      size-q = length-replicate n 0;
+      size-kept = length-replicate (3 * n) 0;
       zeros-x = getD-zeros n;
       zeros-y = getD-zeros n;
     }
 
-zeros-part : {m : ℕ} (n : ℕ) {x y q : List ℕ} → n ≤ m → Zeros m x y q → Zeros n (take n x) (take n y) (take n q)
-zeros-part n {x} {y} {q} l z =
+zeros-part : {m : ℕ} (n : ℕ) {x y kept : List ℕ} → n ≤ m → Zeros m x y kept → Zeros n (take n x) (take n y) (take (3 * n) kept)
+zeros-part n {x} {y} {kept} l z =
     record {
       size-x = length-part x n (z .size-x) l;
       size-y = length-part y n (z .size-y) l;
-      size-q = length-part q n (z .size-q) l;
+      size-kept = length-part kept (3 * n) (z .size-kept) (omega arith);
       zeros-x = getD-part x n (z .zeros-x);
       zeros-y = getD-part y n (z .zeros-y);
     }
@@ -48,10 +48,10 @@ module _ (F : PrimeField) where
   open CommRing (F .series .ring) using (Carrier as S)
 
   -- as much of three arrays of zeros as n words take
-  pub zeros-lent : {m most : ℕ} (n : ℕ) {f g x y q : List ℕ} → n ≤ m → n ≤ most → Ready F n f g → Zeros m x y q
-      → (Ready F (length (take n x)) f g × (length (take n x) ≤ most)) × Zeros (length (take n x)) (take n x) (take n y) (take n q)
-  zeros-lent {most = most} n {f} {g} {x} {y} {q} l few r z =
-      subst (λ i. (Ready F i f g × (i ≤ most)) × Zeros i (take n x) (take n y) (take n q)) (sym (length-part x n (z .size-x) l))
+  pub zeros-lent : {m most : ℕ} (n : ℕ) {f g x y kept : List ℕ} → n ≤ m → n ≤ most → Ready F n f g → Zeros m x y kept
+      → (Ready F (length (take n x)) f g × (length (take n x) ≤ most)) × Zeros (length (take n x)) (take n x) (take n y) (take (3 * n) kept)
+  zeros-lent {most = most} n {f} {g} {x} {y} {kept} l few r z =
+      subst (λ i. (Ready F i f g × (i ≤ most)) × Zeros i (take n x) (take n y) (take (3 * n) kept)) (sym (length-part x n (z .size-x) l))
       ((r, few), zeros-part n l z)
 
   -- the series of two buffers that agree

@@ -10,7 +10,7 @@ use lib.Seq.{take-at}
 use Rattle.algebra.specs.Ring.{CommRing}
 use Rattle.algebra.specs.Series.{C}
 use Rattle.algebra.specs.Degree.{size}
-use Rattle.algebra.specs.Euclid.{euclid}
+use Rattle.algebra.specs.Euclid.{done, euclid}
 use Rattle.algebra.specs.Monic.{topInverse}
 use Rattle.algebra.proofs.Monic.{monic-is}
 use Rattle.algebra.specs.PrimeField.{PrimeField, scalarField, residue, inverse}
@@ -34,7 +34,7 @@ use Rattle.euclid_theory.specs.Gcd.{gcdOf, roundsOf, commonPower}
 use Rattle.lists.specs.Padded.{padded}
 use Rattle.euclid_theory.proofs.Gcd.{length-gcd, size-last, gcd-ends, gcd-rounds}
 use Rattle.euclid_theory.proofs.Greatest.{gcd-is-greatest}
-use Rattle.euclid_theory.proofs.Loops.{count-room, size-room, gcd-room}
+use Rattle.euclid_theory.proofs.Loops.{count-room, size-room, gcd-room, rounds-room, topInverse-room}
 use Rattle.lists.proofs.Padded.{getD-padded}
 use Rattle.euclid_round.specs.Round.{multiplied, writeFits, writtenWords, writtenList}
 use Rattle.euclid_round.proofs.Significant.{significant-series}
@@ -43,7 +43,8 @@ use Rattle.list_gcd.specs.declared.Gcd.{Gcd}
 use Rattle.list_gcd.specs.declared.Rounds.{Rounds}
 use Rattle.list_gcd.specs.declared.Gcd.the-variants as G
 use Rattle.list_gcd.specs.Calls.{gcdReply, gcdValues, GreatestSo, Greatest}
-use Rattle.list_gcd.specs.Internal.{Ready, Buffer, Holds, euclidOn, Ends, monicList, monicWords, LastOf, gcdDone}
+use Rattle.list_gcd.specs.Quotients.{Trail}
+use Rattle.list_gcd.specs.Internal.{Ready, Buffer, Holds, euclidOn, Ends, monicList, monicWords, LastOf, TrailOf, gcdDone}
 use Rattle.list_gcd.proofs.Ready.{ready}
 
 module _ (F : PrimeField) where
@@ -99,16 +100,29 @@ module _ (F : PrimeField) where
                 ∙ ap₂ (size (F .series) (scalarField F)) (hl .buffer .size) is
                 ∙ sym (size-room F n f g (r .short-f) (r .short-g)) ∙ size-last F f g (r .coefficients-f) (r .coefficients-g) (r .some);
             list = unfold monicList in ap (monicList F n) is ∙ sym (gcd-room F n f g (r .short-f) (r .short-g));
+            inverse =
+                ap₂ (topInverse (F .series) (scalarField F)) (hl .buffer .size) is ∙ sym (topInverse-room F n f g (r .short-f) (r .short-g));
           }
         where
           is : seriesOf F last ≡ euclid (F .series) (scalarField F) n n (scaled F g) (scaled F f) .last
           is = hl .series ∙ ap (λ z. z .last) ready-euclid
 
       -- the rounds on buffers of one length
-      pub ready-ends : {last : List ℕ} {rounds : ℕ} → Ends F (length x) x y last rounds → (rounds ≡ roundsOf F f g) × LastOf F n f g last
-      ready-ends {last} {rounds} ends =
-          let same = subst (λ i. Ends F i x y last rounds) (hx .buffer .size) ends in
-          (same .count ∙ ready-count, ready-last (same .holds))
+      pub ready-ends : {last : List ℕ} {rounds : ℕ} {words : List ℕ} → Ends F (length x) x y last rounds words
+          → (rounds ≡ roundsOf F f g) × (LastOf F n f g last × TrailOf F n f g words)
+      ready-ends {last} {rounds} {words} ends =
+          let same = subst (λ i. Ends F i x y last rounds words) (hx .buffer .size) ends in (
+            same .count ∙ ready-count,
+            (
+              ready-last (same .holds),
+              record {
+                last = seriesOf F last;
+                trail =
+                    subst (λ z. Trail F n z (done (F .series) (scalarField F) (seriesOf F last)) words)
+                    (ready-euclid ∙ sym (rounds-room F n f g (r .short-f) (r .short-g))) (same .trail);
+              },
+            ),
+          )
 
   -- a buffer's length in other words
   pub buffer-as : {n m : ℕ} {x : List ℕ} → n ≡ m → Buffer F n x → Buffer F m x
@@ -137,13 +151,18 @@ module _ (F : PrimeField) where
       inverse-word = let w = last-word in inverse-some F (getD last (significant last - 1) 0) (omega arith) (b .below _)
 
       -- 1 over the last coefficient
-      pub last-inverse : residue F (inverseOrZero F (getD last (significant last - 1) 0))
+      last-inverse : residue F (inverseOrZero F (getD last (significant last - 1) 0))
           ≡ topInverse (F .series) (scalarField F) n (seriesOf F last)
       unfolding topInverse inverse
       last-inverse =
           ap (residue F) inverse-word ∙ residue-inverse F _
           ∙ ap (λ a. inverse F a) (sym (coeff-seriesOf F last (significant last - 1)))
           ∙ ap (λ k. inverse F (F .series .coeff (seriesOf F last) (k - 1))) (sym size-last-is)
+
+      -- as the code finds it
+      pub inverse-found : (k m : ℕ) → k ≡ significant last → m ≡ inverseOrZero F (getD last (k - 1) 0)
+          → residue F m ≡ topInverse (F .series) (scalarField F) n (seriesOf F last)
+      inverse-found k m ek em = ap (residue F) (em ∙ ap (λ i. inverseOrZero F (getD last (i - 1) 0)) ek) ∙ last-inverse
 
       monic-written : (h : List ℕ)
           → writtenList F (significant last) (inverseOrZero F (getD last (significant last - 1) 0)) last h

@@ -2,10 +2,11 @@
 ghost use mathlib.Core.Path.{_≡_};
 ghost use mathlib.Core.Bool.{cond};
 ghost use mathlib.Core.List.{[], _∷_};
-ghost use Prim.Native.Nat.{ℕ, min, max, _+_, _<_, _≤_};
+ghost use Prim.Native.Nat.{ℕ, min, max, _+_, _*_, _<_, _≤_};
 ghost use lib.Dec.{eqb};
-ghost use lib.ListN.{length, getD};
+ghost use lib.ListN.{length, getD, take};
 ghost use Rattle.refusal.specs.Contract.{given};
+ghost use Rattle.algebra.specs.PrimeField.{residue};
 ghost use Rattle.field.specs.Fields.{modulus, fieldAt, longest};
 ghost use Rattle.refusal.specs.Limits.{maxWords};
 ghost use Rattle.refusal.specs.Lowest.{lowest};
@@ -15,7 +16,8 @@ ghost use Rattle.euclid_theory.specs.Gcd.{gcdOf, roundsOf, commonPower};
 ghost use Rattle.lists.specs.Padded.{padded};
 ghost use Rattle.field_tables.specs.Factorials.{fewWords, Tables};
 ghost use Rattle.list_gcd.specs.Calls.{gcdReply, gcdRows, gcdAnswer, gcdWritten, Greatest};
-ghost use Rattle.list_gcd.specs.Internal.{Ready, Zeros, Buffer, Holds, Ends, monicWords, LastOf, gcdDone};
+ghost use Rattle.list_gcd.specs.Internal.{Ready, Zeros, Buffer, Holds, RoundKept, Ends, monicWords, lastInverse, LastOf, TrailOf, gcdDone};
+use euclid_round::Shortened;
 use lists::NaiveDegree;
 use lists::Power;
 use refusal::Outcome;
@@ -103,20 +105,51 @@ fn scale_into(field: u8, whole: &[u16], part: &[u16], list: &[u16], buffer: &mut
     word_scaling::weigh(field, list, whole, part, &mut buffer[..n]);
 }
 
-// Where the rounds ended: how many they were, and whether the last x stands in the first buffer.
+// Where the rounds ended: how many they were, whether the last x stands in the first buffer, and how many words of quotients were kept.
 pub struct Ended {
     pub rounds: usize,
     pub first: bool,
+    pub kept: usize,
 }
 
-// Euclid's rounds on two buffers that alternate, until one of them is zero.
-fn all_rounds(field: u8, inverses: &[u16], x: &mut [u16], y: &mut [u16], q: &mut [u16]) -> Ended
+// One of Euclid's rounds on buffers with nx and ny significant words. Its quotient is kept: its words from word `at` on, then their number.
+fn keep_round(
+    field: u8,
+    inverses: &[u16],
+    x: &mut [u16],
+    nx: usize,
+    y: &[u16],
+    ny: usize,
+    kept: &mut [u16],
+    at: usize,
+) -> Shortened
     requires { ⌜ Buffer (fieldAt field) (length (now x)) (now x) ⌝ }
     requires { ⌜ Buffer (fieldAt field) (length (now x)) (now y) ⌝ }
-    requires { ⌜ (length (now x) ≤ maxWords) × (length (now x) ≤ length (now q)) ⌝ }
-    ensures { λ r. ⌜ Ends (fieldAt field) (length (given x)) (given x) (given y) (cond (r .first) (now (x .exit)) (now (y .exit))) (r .rounds) ⌝ }
+    requires { ⌜ (nx ≡ significant (now x)) × (ny ≡ significant (now y)) × (0 < ny) ⌝ }
+    requires { ⌜ (length (now x) ≤ maxWords) × (at + (max nx ny + 2 * ny) ≤ length (now kept)) ⌝ }
+    ensures { λ r. ⌜ RoundKept (fieldAt field) (given x) (given y) (take at (given kept)) (r .steps) (r .left) (now (x .exit)) (take (at + (r .steps + 1)) (now (kept .exit))) ⌝ }
+{
+    let made = euclid_round::shorten(field, inverses, x, nx, y, ny, &mut kept[at..]);
+    kept[at + made.steps] = made.steps as u16;
+    made
+}
+
+// Euclid's rounds on two buffers that alternate, until one of them is zero. The quotients are kept for whoever wants the cofactors.
+fn all_rounds(
+    field: u8,
+    inverses: &[u16],
+    x: &mut [u16],
+    y: &mut [u16],
+    kept: &mut [u16],
+) -> Ended
+    requires { ⌜ Buffer (fieldAt field) (length (now x)) (now x) ⌝ }
+    requires { ⌜ Buffer (fieldAt field) (length (now x)) (now y) ⌝ }
+    requires { ⌜ (length (now x) ≤ maxWords) × (length (now kept) ≡ 3 * length (now x)) ⌝ }
+    ensures { λ r. ⌜ Ends (fieldAt field) (length (given x)) (given x) (given y) (cond (r .first) (now (x .exit)) (now (y .exit))) (r .rounds) (take (r .kept) (now (kept .exit))) ⌝ }
+    ensures { λ r. ⌜ r .kept ≤ length (given kept) ⌝ }
 {
     let mut rounds = 0;
+    let mut at = 0;
     let mut nx = lists::significant_words(x);
     let mut ny = lists::significant_words(y);
     loop {
@@ -124,24 +157,34 @@ fn all_rounds(field: u8, inverses: &[u16], x: &mut [u16], y: &mut [u16], q: &mut
             return Ended {
                 rounds,
                 first: true,
+                kept: at,
             };
         }
-        let of_x = euclid_round::shorten(field, inverses, x, nx, y, ny, q);
+        let of_x = keep_round(field, inverses, x, nx, y, ny, kept, at);
         nx = of_x.left;
+        at += of_x.steps + 1;
         rounds += 1;
         if nx == 0 {
             return Ended {
                 rounds,
                 first: false,
+                kept: at,
             };
         }
-        let of_y = euclid_round::shorten(field, inverses, y, ny, x, nx, q);
+        let of_y = keep_round(field, inverses, y, ny, x, nx, kept, at);
         ny = of_y.left;
+        at += of_y.steps + 1;
         rounds += 1;
     }
 }
 
-// h from the last x: made to end in 1, unscaled, zeros after it. Its naive degree.
+// What was written: the naive degree of h, and the inverse of the last word of the last x, by which it was multiplied.
+pub struct Monic {
+    pub degree: usize,
+    pub inverse: u16,
+}
+
+// h from the last x: made to end in 1, unscaled, zeros after it.
 fn write_gcd(
     field: u8,
     whole: &[u16],
@@ -149,21 +192,25 @@ fn write_gcd(
     inverses: &[u16],
     last: &mut [u16],
     h: &mut [u16],
-) -> NaiveDegree
+) -> Monic
     requires { ⌜ Tables (fieldAt field) (length (now last)) (now whole) (now part) ⌝ }
     requires { ⌜ Buffer (fieldAt field) (length (now last)) (now last) × (length (now last) ≤ longest field) ⌝ }
     requires { ⌜ (0 < significant (now last)) × (length (now h) ≡ longest field) ⌝ }
-    ensures { λ r. ⌜ r .0 + 1 ≡ significant (given last) ⌝ }
+    ensures { λ r. ⌜ r .degree + 1 ≡ significant (given last) ⌝ }
+    ensures { λ r. ⌜ residue (fieldAt field) (r .inverse) ≡ lastInverse (fieldAt field) (given last) ⌝ }
     ensures { λ _. ⌜ now (h .exit) ≡ monicWords (fieldAt field) (longest field) (given last) ⌝ }
 {
     let n = lists::significant_words(last);
     let inv = field_inverse::inverse_or_zero(field, inverses, last[n - 1]);
     euclid_round::write_list(field, whole, part, last, inv, n, h);
-    NaiveDegree(n - 1)
+    Monic {
+        degree: n - 1,
+        inverse: inv,
+    }
 }
 
 // The same from the buffer that holds the last x.
-fn write_last(
+pub fn write_last(
     field: u8,
     whole: &[u16],
     part: &[u16],
@@ -172,11 +219,12 @@ fn write_last(
     x: &mut [u16],
     y: &mut [u16],
     h: &mut [u16],
-) -> NaiveDegree
+) -> Monic
     requires { ⌜ Tables (fieldAt field) (length (cond first (now x) (now y))) (now whole) (now part) ⌝ }
     requires { ⌜ Buffer (fieldAt field) (length (cond first (now x) (now y))) (cond first (now x) (now y)) × (length (cond first (now x) (now y)) ≤ longest field) ⌝ }
     requires { ⌜ (0 < significant (cond first (now x) (now y))) × (length (now h) ≡ longest field) ⌝ }
-    ensures { λ r. ⌜ r .0 + 1 ≡ significant (cond first (given x) (given y)) ⌝ }
+    ensures { λ r. ⌜ r .degree + 1 ≡ significant (cond first (given x) (given y)) ⌝ }
+    ensures { λ r. ⌜ residue (fieldAt field) (r .inverse) ≡ lastInverse (fieldAt field) (cond first (given x) (given y)) ⌝ }
     ensures { λ _. ⌜ now (h .exit) ≡ monicWords (fieldAt field) (longest field) (cond first (given x) (given y)) ⌝ }
 {
     if first {
@@ -185,8 +233,8 @@ fn write_last(
     write_gcd(field, whole, part, inverses, y, h)
 }
 
-// Euclid's rounds on the scaled forms of g and f, in buffers x and y of zeros.
-fn find_last(
+// Euclid's rounds on the scaled forms of g and f, in buffers x and y of zeros, with their quotients kept.
+pub fn find_last(
     field: u8,
     whole: &[u16],
     part: &[u16],
@@ -195,17 +243,18 @@ fn find_last(
     g: &[u16],
     x: &mut [u16],
     y: &mut [u16],
-    q: &mut [u16],
+    kept: &mut [u16],
 ) -> Ended
     requires { ⌜ Tables (fieldAt field) (length (now x)) (now whole) (now part) ⌝ }
     requires { ⌜ Ready (fieldAt field) (length (now x)) (now f) (now g) × (length (now x) ≤ longest field) ⌝ }
-    requires { ⌜ Zeros (length (now x)) (now x) (now y) (now q) ⌝ }
+    requires { ⌜ Zeros (length (now x)) (now x) (now y) (now kept) ⌝ }
     ensures { λ r. ⌜ r .rounds ≡ roundsOf (fieldAt field) (given f) (given g) ⌝ }
     ensures { λ r. ⌜ LastOf (fieldAt field) (length (given x)) (given f) (given g) (cond (r .first) (now (x .exit)) (now (y .exit))) ⌝ }
+    ensures { λ r. ⌜ TrailOf (fieldAt field) (length (given x)) (given f) (given g) (take (r .kept) (now (kept .exit))) × (r .kept ≤ length (given kept)) ⌝ }
 {
     scale_into(field, whole, part, g, x);
     scale_into(field, whole, part, f, y);
-    all_rounds(field, inverses, x, y, q)
+    all_rounds(field, inverses, x, y, kept)
 }
 
 // The GCD by way of buffers.
@@ -218,20 +267,20 @@ fn gcd_in(
     g: &[u16],
     x: &mut [u16],
     y: &mut [u16],
-    q: &mut [u16],
+    kept: &mut [u16],
     h: &mut [u16],
 ) -> Gcd
     requires { ⌜ Tables (fieldAt field) (length (now x)) (now whole) (now part) ⌝ }
     requires { ⌜ Ready (fieldAt field) (length (now x)) (now f) (now g) × (length (now x) ≤ longest field) ⌝ }
-    requires { ⌜ Zeros (length (now x)) (now x) (now y) (now q) ⌝ }
+    requires { ⌜ Zeros (length (now x)) (now x) (now y) (now kept) ⌝ }
     requires { ⌜ length (now h) ≡ longest field ⌝ }
     ensures { λ r. ⌜ r ≡ gcdDone (fieldAt field) (given f) (given g) ⌝ }
     ensures { λ _. ⌜ now (h .exit) ≡ padded (longest field) (gcdOf (fieldAt field) (given f) (given g)) ⌝ }
 {
-    let ended = find_last(field, whole, part, inverses, f, g, x, y, q);
-    let w = write_last(field, whole, part, inverses, ended.first, x, y, h);
+    let ended = find_last(field, whole, part, inverses, f, g, x, y, kept);
+    let made = write_last(field, whole, part, inverses, ended.first, x, y, h);
     let c = common_power(f, g);
-    Gcd::Done(w, c, Rounds(ended.rounds))
+    Gcd::Done(NaiveDegree(made.degree), c, Rounds(ended.rounds))
 }
 
 // The words of a buffer: as many as the longer list has, and zeros after them, so that a row can be added in groups of 8 words.
@@ -258,7 +307,7 @@ fn gcd_few(field: u8, f: &[u16], g: &[u16], n: usize, h: &mut [u16]) -> Gcd
     let inverses = field_tables::inverses(field);
     let mut x = [0u16; field_tables::FEW_WORDS];
     let mut y = [0u16; field_tables::FEW_WORDS];
-    let mut q = [0u16; field_tables::FEW_WORDS];
+    let mut kept = [0u16; 3 * field_tables::FEW_WORDS];
     gcd_in(
         field,
         &whole,
@@ -268,7 +317,7 @@ fn gcd_few(field: u8, f: &[u16], g: &[u16], n: usize, h: &mut [u16]) -> Gcd
         g,
         &mut x[..n],
         &mut y[..n],
-        &mut q[..n],
+        &mut kept[..3 * n],
         h,
     )
 }
@@ -285,7 +334,7 @@ fn gcd_many(field: u8, f: &[u16], g: &[u16], n: usize, h: &mut [u16]) -> Gcd
     let inverses = field_tables::inverses(field);
     let mut x = [0u16; refusal::MAX_WORDS];
     let mut y = [0u16; refusal::MAX_WORDS];
-    let mut q = [0u16; refusal::MAX_WORDS];
+    let mut kept = [0u16; 3 * refusal::MAX_WORDS];
     gcd_in(
         field,
         &whole,
@@ -295,7 +344,7 @@ fn gcd_many(field: u8, f: &[u16], g: &[u16], n: usize, h: &mut [u16]) -> Gcd
         g,
         &mut x[..n],
         &mut y[..n],
-        &mut q[..n],
+        &mut kept[..3 * n],
         h,
     )
 }

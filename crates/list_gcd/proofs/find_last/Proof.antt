@@ -30,7 +30,7 @@ all-rounds-requires c κs =
     let y = c .before .before .before .before .before .scale-into2 .ensures .buffer in
     let few = start .pre .1 .0 .1 in
     let same = x .size in
-    let room = zeros .size-q in
+    let room = zeros .size-kept in
     (buffer-as (fieldAt _) (sym (x .size)) x, (buffer-as (fieldAt _) (zeros .size-y ∙ sym (x .size)) y, (omega (arith, longest-room (start .args .field)), omega arith)))
 
 same-length : tie.Need-same-length
@@ -48,7 +48,8 @@ returns c =
     let x = c .before .before .before .before .before .before .before .before .before .before .before .before .before .before .before .before .scale-into .ensures in
     let y = c .before .before .before .before .before .before .before .before .before .before .before .before .scale-into2 .ensures in
     let ended = c .before .before .before .before .before .before .all-rounds .ensures in
-    ready-ends (fieldAt _) _ _ _ (start .pre .1 .0 .0) x (holds-as (fieldAt _) (start .pre .1 .1 .size-y) y) ended
+    let found = ready-ends (fieldAt _) _ _ _ (start .pre .1 .0 .0) x (holds-as (fieldAt _) (start .pre .1 .1 .size-y) y) (ended .0) in
+    (found .0, (found .1 .0, (found .1 .1, ended .1)))
 
 pub find-last-spec : {M : Type 1} → statement M
 find-last-spec =

@@ -16,7 +16,7 @@ find-last-requires c κs =
 write-last-requires : tie.Need-write-last-requires
 write-last-requires c κs =
     let pre = c .before .before .before .before .before .before .before .before .before .before .before .before .before .before .before .before .before .before .before .before .before .before .pre in
-    let last = c .before .before .before .before .before .before .before .before .before .find-last .ensures .1 in
+    let last = c .before .before .before .before .before .before .before .before .before .find-last .ensures .1 .0 in
     let size = last .size in
     let same = last .buffer .size in
     let few = pre .1 .0 .1 in
@@ -41,9 +41,9 @@ returns : tie.Need-returns
 returns c =
     let last = c .before .before .before .before .before .before .before .before .before .before .before .before .before .before .before .before .before .find-last .ensures in
     let list = c .before .before .before .before .before .before .before .write-last .ensures in
-    let size = last .1 .size in
+    let size = last .1 .0 .size in
     let w = list .0 in
-    (gcd-done (fieldAt _) _ _ _ _ _ (omega arith) (c .common-power .ensures) (last .0), list .1 ∙ last-words (fieldAt _) _ (last .1))
+    (gcd-done (fieldAt _) _ _ _ _ _ (omega arith) (c .common-power .ensures) (last .0), list .1 .1 ∙ last-words (fieldAt _) _ (last .1 .0))
 
 pub gcd-in-spec : {M : Type 1} → statement M
 gcd-in-spec =

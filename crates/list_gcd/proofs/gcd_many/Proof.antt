@@ -1,6 +1,7 @@
 -- `list_gcd::gcd_many` meets its contract: it lends tables and buffers of zeros for any lists.
 -- Assumes nothing.
 use mathlib.Core.Path.{refl, sym}
+use Prim.Native.Nat.{_*_}
 use native.Mathlib.Omega.{arith}
 use lib.ListN.{length-take}
 use Rattle.refusal.specs.Limits.{maxWords}
@@ -44,11 +45,14 @@ array-borrow-prefix-y c = omega (arith, longest-room (c .before .before .before 
 slice-aggregate-gcd-in-5 : tie.Need-slice-aggregate-gcd-in-5
 slice-aggregate-gcd-in-5 c = sym (prefix-length _ maxWords _ refl (omega (arith, longest-room (c .before .before .before .before .before .before .before .before .before .before .before .args .field))))
 
-array-borrow-prefix-q : tie.Need-array-borrow-prefix-q
-array-borrow-prefix-q c = omega (arith, longest-room (c .before .before .before .before .before .before .before .before .before .before .before .args .field))
+mul-kept : tie.Need-mul-kept
+mul-kept c = search needs
+
+array-borrow-prefix-kept : tie.Need-array-borrow-prefix-kept
+array-borrow-prefix-kept c = omega (arith, longest-room (c .before .before .before .before .before .before .before .before .before .before .before .args .field))
 
 slice-aggregate-gcd-in-6 : tie.Need-slice-aggregate-gcd-in-6
-slice-aggregate-gcd-in-6 c = sym (prefix-length _ maxWords _ refl (omega (arith, longest-room (c .before .before .before .before .before .before .before .before .before .before .before .before .args .field))))
+slice-aggregate-gcd-in-6 c = sym (prefix-length _ (3 * maxWords) _ refl (omega (arith, longest-room (c .before .before .before .before .before .before .before .before .before .before .before .before .args .field))))
 
 gcd-in-requires : tie.Need-gcd-in-requires
 gcd-in-requires c κs =
@@ -77,7 +81,8 @@ gcd-many-spec =
     slice-aggregate-gcd-in-4
     array-borrow-prefix-y
     slice-aggregate-gcd-in-5
-    array-borrow-prefix-q
+    mul-kept
+    array-borrow-prefix-kept
     slice-aggregate-gcd-in-6
     gcd-in-requires
     same-length

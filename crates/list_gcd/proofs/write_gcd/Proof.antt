@@ -4,7 +4,7 @@ use native.Mathlib.Omega.{arith}
 use Rattle.field.specs.Fields.{fieldAt}
 use Rattle.field.proofs.Fields.{p-at, longest-in}
 use Rattle.lists.proofs.Extents.{significant-le}
-use Rattle.list_gcd.proofs.Finish.{gcd-written}
+use Rattle.list_gcd.proofs.Finish.{inverse-found, gcd-written}
 use borrow.Author.Needs.{needs}
 use Rattle.list_gcd.proofs.write_gcd.Statement.{statement}
 use Rattle.list_gcd.proofs.write_gcd.Tie as tie
@@ -41,7 +41,10 @@ returns c =
     let start = c .before .before .before .before .before .before .before .before .before .before .before .before .before .before .before .before in
     let n = c .before .before .before .before .before .before .before .before .before .significant-words in (
       omega arith,
-      gcd-written (fieldAt _) _ _ (start .pre .1 .0 .0) (start .pre .1 .1 .0) (p-at _) (omega (arith, start .pre .1 .0 .1, longest-in (start .args .field))) _ _ (start .pre .0) _ _ _ (start .pre .1 .1 .1) (start .pre .1 .0 .1) (n .ensures) (c .before .before .before .before .before .before .before .inverse-or-zero .ensures) (c .before .before .before .before .write-list .ensures),
+      (
+        inverse-found (fieldAt _) _ _ (start .pre .1 .0 .0) (start .pre .1 .1 .0) _ _ (n .ensures) (c .before .before .before .before .before .before .before .inverse-or-zero .ensures),
+        gcd-written (fieldAt _) _ _ (start .pre .1 .0 .0) (start .pre .1 .1 .0) (p-at _) (omega (arith, start .pre .1 .0 .1, longest-in (start .args .field))) _ _ (start .pre .0) _ _ _ (start .pre .1 .1 .1) (start .pre .1 .0 .1) (n .ensures) (c .before .before .before .before .before .before .before .inverse-or-zero .ensures) (c .before .before .before .before .write-list .ensures),
+      ),
     )
 
 pub write-gcd-spec : {M : Type 1} → statement M

@@ -1,25 +1,23 @@
 // The cofactors of the GCD of two lists.
 ghost use mathlib.Core.Path.{_≡_};
 ghost use mathlib.Core.Bool.{cond};
-ghost use Prim.Native.Nat.{ℕ, suc, max, _+_, _-_, _<_, _≤_};
-ghost use lib.ListN.{length, getD, take, drop};
-ghost use Rattle.refusal.specs.Contract.{given};
+ghost use Prim.Native.Nat.{suc, min, _+_, _-_, _<_, _≤_};
+ghost use lib.ListN.{length, take};
 ghost use Rattle.algebra.specs.PrimeField.{residue};
 ghost use Rattle.refusal.specs.Contract.{given};
 ghost use Rattle.refusal.specs.Limits.{maxWords};
 ghost use Rattle.refusal.specs.Lowest.{lowest};
 ghost use Rattle.field.specs.Fields.{modulus, fieldAt, longest};
 ghost use Rattle.field_tables.specs.Factorials.{Tables};
-ghost use Rattle.lists.specs.Degrees.{naiveDegree, significant};
-ghost use Rattle.lists.specs.Lists.{scaled};
+ghost use Rattle.lists.specs.Degrees.{naiveDegree};
 ghost use Rattle.lists.specs.Words.{Tight};
+ghost use Rattle.word_division.specs.Reduction.{lessProduct};
 ghost use Rattle.euclid_theory.specs.Gcd.{identityDegree};
 ghost use Rattle.list_gcd.specs.Calls.{gcdReply, Greatest};
-ghost use Rattle.list_gcd.specs.Internal.{Ready, Buffer};
+ghost use Rattle.list_gcd.specs.Quotients.{Laid};
+ghost use Rattle.list_gcd.specs.Internal.{Ready, Zeros};
 ghost use Rattle.list_cofactors.specs.Calls.{cofactorRows, cofactorAnswer, cofactorGcd, cofactorsWrittenA, cofactorsWrittenB, Cofactors};
-ghost use Rattle.list_cofactors.specs.Internal.{ZeroRows, partX, lessBoth, remainingRow, Started, Cut, Carried, RowEnds};
-ghost use Rattle.list_cofactors.specs.Internal.{timesList, LastRowOf, NonzeroRow, Wrote, Slices, Results};
-use list_gcd::Ended;
+ghost use Rattle.list_cofactors.specs.Internal.{Slices, ZeroPair, lastCount, lastQuotient, Substituted, timesList, Results};
 use list_gcd::Gcd;
 use list_gcd::Rounds;
 use lists::NaiveDegree;
@@ -81,248 +79,147 @@ fn judge_cofactors(field: u8, f: &[u16], g: &[u16], h: &[u16], a: &[u16], b: &[u
     Outcome::Done
 }
 
-// A row has three parts of n words, as in an augmented matrix: x and its cofactors s and t. The lists f, g, a and b have at most n words.
-// With x₀ and y₀ the pair at the start, s·x₀ + t·y₀ = x, where s and t are cut off at n words.
+// The cofactors of a pair come from those of the pair after the next round: where these are s and t and the round's quotient is q, they are t and
+// s - q·t. So the quotients are taken from the last one on. s and t are cut off at the words of their slices.
 
-// A row of zeros becomes that of a list: its scaled form, and 1 at the first word of s or of t, `one` words after x.
-fn start_row(
-    field: u8,
-    n: usize,
-    whole: &[u16],
-    part: &[u16],
-    list: &[u16],
-    row: &mut [u16],
-    one: usize,
-)
-    requires { ⌜ n ≤ longest field ⌝ }
-    requires { ⌜ Tables (fieldAt field) n (now whole) (now part) ⌝ }
-    requires { ⌜ (length (now list) ≤ n) × (length (now row) ≡ n + (n + n)) × (one < n + n) ⌝ }
-    requires { ⌜ ((k : ℕ) → getD (now row) k 0 ≡ 0) ⌝ }
-    ensures { λ _. ⌜ Started (fieldAt field) n (n + one) (now (row .exit)) (scaled (fieldAt field) (given list)) ⌝ }
+// How many words of a slice of n words are read, where c can differ from 0: rounded up to a multiple of 8, as a row is added in groups of
+// 8 words, but not above n.
+fn words_read(n: usize, c: usize) -> usize
+    requires { ⌜ (n ≤ maxWords) × (c ≤ n) ⌝ }
+    ensures { λ r. ⌜ (c ≤ r) × (r ≤ n) ⌝ }
 {
-    let words = list.len();
-    word_scaling::weigh(field, list, whole, part, &mut row[..words]);
-    row[n + one] = 1;
+    words::smaller(n, (c + 7) / 8 * 8)
 }
 
-// s less q times the first `read` words of t, for both cofactors of a row; the words of s are below p.
-fn take_off(field: u8, n: usize, s: &mut [u16], q: &[u16], t: &[u16], read: usize)
-    requires { ⌜ (length (now s) ≡ n + n) × (length (now t) ≡ n + n) × (length (now q) ≤ n) × (read ≤ n) ⌝ }
-    requires { ⌜ Tight (modulus field) (take n (now s)) × Tight (modulus field) (drop n (now s)) ⌝ }
-    ensures { λ _. ⌜ now (s .exit) ≡ lessBoth (modulus field) n (given s) (given q) (given t) read ⌝ }
+// How many of n words can differ from 0 in s - q·t, where c can in s and t, and q has `steps`.
+fn words_after(n: usize, c: usize, steps: usize) -> usize
+    requires { ⌜ (n ≤ maxWords) × (c ≤ n) × (steps ≤ n) ⌝ }
+    ensures { λ r. ⌜ r ≡ min n (c + (steps - 1)) ⌝ }
 {
-    word_division::sub_product(field, &mut s[..n], q, &t[..read]);
-    word_division::sub_product(field, &mut s[n..], q, &t[n..n + read]);
-}
-
-// How many words of the cofactors a round reads, where the parts x have nu and nv significant words. The words that can differ from 0 are
-// n + 1 less the larger of the two; this is rounded up to a multiple of 8, as a row is added in groups of 8 words, but not above n.
-fn words_read(n: usize, nu: usize, nv: usize) -> usize
-    requires { ⌜ (n ≤ maxWords) × (nu ≤ n) × (nv ≤ n) × (0 < nv) ⌝ }
-    ensures { λ r. ⌜ (suc n - max nu nv ≤ r) × (r ≤ n) ⌝ }
-{
-    words::smaller(n, (n + 8 - words::larger(nu, nv)) / 8 * 8)
-}
-
-// One of Euclid's rounds on rows: u less the quotient times v. Their parts x have nu and nv significant words. The number of those that
-// are left of u.
-fn next_round(
-    field: u8,
-    n: usize,
-    inverses: &[u16],
-    u: &mut [u16],
-    nu: usize,
-    v: &[u16],
-    nv: usize,
-    q: &mut [u16],
-) -> usize
-    requires { ⌜ (length (now u) ≡ n + (n + n)) × (length (now v) ≡ n + (n + n)) × (length (now q) ≡ n) ⌝ }
-    requires { ⌜ Buffer (fieldAt field) n (partX n (now u)) ⌝ }
-    requires { ⌜ Buffer (fieldAt field) n (partX n (now v)) ⌝ }
-    requires { ⌜ (nu ≡ significant (partX n (now u))) × (nv ≡ significant (partX n (now v))) × (0 < nv) ⌝ }
-    requires { ⌜ Cut (fieldAt field) n (now u) (now v) ⌝ }
-    requires { ⌜ n ≤ maxWords ⌝ }
-    ensures { λ r. ⌜ r ≡ significant (partX n (now (u .exit))) ⌝ }
-    ensures { λ _. ⌜ now (u .exit) ≡ remainingRow (fieldAt field) n (given u) (given v) ⌝ }
-{
-    let made = euclid_round::shorten(field, inverses, &mut u[..n], nu, &v[..n], nv, q);
-    take_off(
-        field,
-        n,
-        &mut u[n..],
-        &q[..made.steps],
-        &v[n..],
-        words_read(n, nu, nv),
-    );
-    made.left
-}
-
-// Euclid's rounds on two rows that alternate, until the x of one of them is zero.
-fn all_rounds(
-    field: u8,
-    n: usize,
-    inverses: &[u16],
-    u: &mut [u16],
-    v: &mut [u16],
-    q: &mut [u16],
-) -> Ended
-    requires { ⌜ Carried (fieldAt field) n (now u) (now v) (now u) (now v) 0 ⌝ }
-    requires { ⌜ length (now q) ≡ n ⌝ }
-    requires { ⌜ n ≤ maxWords ⌝ }
-    ensures { λ r. ⌜ RowEnds (fieldAt field) n (given u) (given v) (cond (r .first) (now (u .exit)) (now (v .exit))) (r .rounds) ⌝ }
-{
-    let mut rounds = 0;
-    let mut nu = lists::significant_words(&u[..n]);
-    let mut nv = lists::significant_words(&v[..n]);
-    loop {
-        if nv == 0 {
-            return Ended {
-                rounds,
-                first: true,
-            };
-        }
-        nu = next_round(field, n, inverses, u, nu, v, nv, q);
-        rounds += 1;
-        if nu == 0 {
-            return Ended {
-                rounds,
-                first: false,
-            };
-        }
-        nv = next_round(field, n, inverses, v, nv, u, nu, q);
-        rounds += 1;
+    if steps == 0 {
+        return c;
     }
+    words::smaller(n, c + (steps - 1))
 }
 
-// Euclid's rounds from the scaled forms of g and f, in rows u and v of zeros.
-fn find_last(
-    field: u8,
-    n: usize,
-    whole: &[u16],
-    part: &[u16],
-    inverses: &[u16],
-    f: &[u16],
-    g: &[u16],
-    u: &mut [u16],
-    v: &mut [u16],
-    q: &mut [u16],
-) -> Ended
-    requires { ⌜ (1 < n) × (n ≤ longest field) ⌝ }
-    requires { ⌜ Tables (fieldAt field) n (now whole) (now part) ⌝ }
-    requires { ⌜ Ready (fieldAt field) n (now f) (now g) ⌝ }
-    requires { ⌜ ZeroRows n (now u) (now v) (now q) ⌝ }
-    ensures { λ r. ⌜ LastRowOf (fieldAt field) n (given f) (given g) (cond (r .first) (now (u .exit)) (now (v .exit))) (r .rounds) ⌝ }
+// s less q·t, where q is the quotient that is laid last in the first `at` words, and of t so many words are read. The number of words of q.
+fn undo_round(field: u8, kept: &[u16], at: usize, s: &mut [u16], t: &[u16], read: usize) -> usize
+    requires { ⌜ (at ≤ length (now kept)) × (lastCount at (now kept) < at) × (lastCount at (now kept) ≤ length (now s)) × (read ≤ length (now t)) ⌝ }
+    requires { ⌜ Tight (modulus field) (now s) ⌝ }
+    ensures { λ r. ⌜ r ≡ lastCount at (given kept) ⌝ }
+    ensures { λ _. ⌜ now (s .exit) ≡ lessProduct (modulus field) (given s) (lastQuotient at (given kept)) (take read (given t)) ⌝ }
 {
-    start_row(field, n, whole, part, g, u, 0);
-    start_row(field, n, whole, part, f, v, n);
-    all_rounds(field, n, inverses, u, v, q)
+    let end = at - 1;
+    let steps = kept[end] as usize;
+    word_division::sub_product(field, s, &kept[end - steps..end], &t[..read]);
+    steps
+}
+
+// From s and t of zeros the cofactors of the pair before the rounds whose quotients are laid in the first `used` words, s and t changing
+// places with each round. Whether that of the pair's first part stands in s.
+fn substitute_back(field: u8, kept: &[u16], used: usize, s: &mut [u16], t: &mut [u16]) -> bool
+    requires { ⌜ Laid (fieldAt field) (length (now s)) (take used (now kept)) × (used ≤ length (now kept)) ⌝ }
+    requires { ⌜ ZeroPair (length (now s)) (now s) (now t) ⌝ }
+    requires { ⌜ (0 < length (now s)) × (length (now s) ≤ maxWords) ⌝ }
+    ensures { λ r. ⌜ Substituted (fieldAt field) (length (given s)) (take used (given kept)) (cond r (now (s .exit)) (now (t .exit))) (cond r (now (t .exit)) (now (s .exit))) ⌝ }
+{
+    let n = s.len();
+    s[0] = 1;
+    let mut at = used;
+    let mut c = 1;
+    loop {
+        if at == 0 {
+            return true;
+        }
+        let of_s = undo_round(field, kept, at, s, t, words_read(n, c));
+        c = words_after(n, c, of_s);
+        at -= of_s + 1;
+        if at == 0 {
+            return false;
+        }
+        let of_t = undo_round(field, kept, at, t, s, words_read(n, c));
+        c = words_after(n, c, of_t);
+        at -= of_t + 1;
+    }
 }
 
 // a from t and b from s, each times m.
 fn write_pair(
     field: u8,
-    n: usize,
     whole: &[u16],
     part: &[u16],
-    forms: &mut [u16],
+    s: &mut [u16],
+    t: &mut [u16],
     m: u16,
     a: &mut [u16],
     b: &mut [u16],
 )
-    requires { ⌜ n ≤ longest field ⌝ }
-    requires { ⌜ Tables (fieldAt field) n (now whole) (now part) ⌝ }
-    requires { ⌜ (length (now forms) ≡ n + n) × (length (now a) ≤ n) × (length (now b) ≤ n) ⌝ }
-    ensures { λ _. ⌜ now (a .exit) ≡ timesList (fieldAt field) (length (given a)) (residue (fieldAt field) m) (drop n (given forms)) ⌝ }
-    ensures { λ _. ⌜ now (b .exit) ≡ timesList (fieldAt field) (length (given b)) (residue (fieldAt field) m) (take n (given forms)) ⌝ }
+    requires { ⌜ Tables (fieldAt field) (length (now s)) (now whole) (now part) × (length (now s) ≤ longest field) ⌝ }
+    requires { ⌜ (length (now t) ≡ length (now s)) × (length (now a) ≤ length (now s)) × (length (now b) ≤ length (now s)) ⌝ }
+    ensures { λ _. ⌜ now (a .exit) ≡ timesList (fieldAt field) (length (given a)) (residue (fieldAt field) m) (given t) ⌝ }
+    ensures { λ _. ⌜ now (b .exit) ≡ timesList (fieldAt field) (length (given b)) (residue (fieldAt field) m) (given s) ⌝ }
 {
     let na = a.len();
     let nb = b.len();
-    euclid_round::write_list(field, whole, part, &mut forms[n..], m, na, a);
-    euclid_round::write_list(field, whole, part, &mut forms[..n], m, nb, b);
+    euclid_round::write_list(field, whole, part, t, m, na, a);
+    euclid_round::write_list(field, whole, part, s, m, nb, b);
 }
 
-// h, a and b from the row of the last x, each divided by the last word of x. The naive degree of h.
-fn write_row(
+// The same where s and t have changed places unless `first`.
+fn write_cofactors(
     field: u8,
-    n: usize,
     whole: &[u16],
     part: &[u16],
-    inverses: &[u16],
-    row: &mut [u16],
-    h: &mut [u16],
-    a: &mut [u16],
-    b: &mut [u16],
-) -> NaiveDegree
-    requires { ⌜ n ≤ longest field ⌝ }
-    requires { ⌜ Tables (fieldAt field) n (now whole) (now part) ⌝ }
-    requires { ⌜ NonzeroRow (fieldAt field) n (now row) ⌝ }
-    requires { ⌜ (n ≤ length (now h)) × (length (now a) ≤ n) × (length (now b) ≤ n) ⌝ }
-    ensures { λ r. ⌜ Wrote (fieldAt field) n (given row) (given h) (given a) (given b) (r .0) (now (h .exit)) (now (a .exit)) (now (b .exit)) ⌝ }
-{
-    let words = lists::significant_words(&row[..n]);
-    let inv = field_inverse::inverse_or_zero(field, inverses, row[words - 1]);
-    write_pair(field, n, whole, part, &mut row[n..], inv, a, b);
-    euclid_round::write_list(field, whole, part, &mut row[..n], inv, words, h);
-    NaiveDegree(words - 1)
-}
-
-// The same from the row that holds the last x.
-fn write_last(
-    field: u8,
-    n: usize,
-    whole: &[u16],
-    part: &[u16],
-    inverses: &[u16],
     first: bool,
-    u: &mut [u16],
-    v: &mut [u16],
-    h: &mut [u16],
+    s: &mut [u16],
+    t: &mut [u16],
+    m: u16,
     a: &mut [u16],
     b: &mut [u16],
-) -> NaiveDegree
-    requires { ⌜ n ≤ longest field ⌝ }
-    requires { ⌜ Tables (fieldAt field) n (now whole) (now part) ⌝ }
-    requires { ⌜ NonzeroRow (fieldAt field) n (cond first (now u) (now v)) ⌝ }
-    requires { ⌜ (n ≤ length (now h)) × (length (now a) ≤ n) × (length (now b) ≤ n) ⌝ }
-    ensures { λ r. ⌜ Wrote (fieldAt field) n (cond first (given u) (given v)) (given h) (given a) (given b) (r .0) (now (h .exit)) (now (a .exit)) (now (b .exit)) ⌝ }
+)
+    requires { ⌜ Tables (fieldAt field) (length (now s)) (now whole) (now part) × (length (now s) ≤ longest field) ⌝ }
+    requires { ⌜ (length (now t) ≡ length (now s)) × (length (now a) ≤ length (now s)) × (length (now b) ≤ length (now s)) ⌝ }
+    ensures { λ _. ⌜ now (a .exit) ≡ timesList (fieldAt field) (length (given a)) (residue (fieldAt field) m) (cond first (given t) (given s)) ⌝ }
+    ensures { λ _. ⌜ now (b .exit) ≡ timesList (fieldAt field) (length (given b)) (residue (fieldAt field) m) (cond first (given s) (given t)) ⌝ }
 {
     if first {
-        return write_row(field, n, whole, part, inverses, u, h, a, b);
+        write_pair(field, whole, part, s, t, m, a, b);
+        return;
     }
-    write_row(field, n, whole, part, inverses, v, h, a, b)
+    write_pair(field, whole, part, t, s, m, a, b);
 }
 
-// The cofactors by way of rows.
+// The GCD and its cofactors by way of buffers. Each is divided by the last word of the last x.
 fn cofactors_in(
     field: u8,
-    n: usize,
     whole: &[u16],
     part: &[u16],
     inverses: &[u16],
     f: &[u16],
     g: &[u16],
-    u: &mut [u16],
-    v: &mut [u16],
-    q: &mut [u16],
+    x: &mut [u16],
+    y: &mut [u16],
+    kept: &mut [u16],
+    s: &mut [u16],
+    t: &mut [u16],
     h: &mut [u16],
     a: &mut [u16],
     b: &mut [u16],
 ) -> Gcd
-    requires { ⌜ (1 < n) × (n ≤ longest field) ⌝ }
-    requires { ⌜ Tables (fieldAt field) n (now whole) (now part) ⌝ }
-    requires { ⌜ Ready (fieldAt field) n (now f) (now g) ⌝ }
+    requires { ⌜ (1 < length (now x)) × (length (now x) ≤ longest field) ⌝ }
+    requires { ⌜ Tables (fieldAt field) (length (now x)) (now whole) (now part) ⌝ }
+    requires { ⌜ Ready (fieldAt field) (length (now x)) (now f) (now g) ⌝ }
     requires { ⌜ Slices (longest field) (now f) (now g) (now h) (now a) (now b) ⌝ }
-    requires { ⌜ ZeroRows n (now u) (now v) (now q) ⌝ }
+    requires { ⌜ Zeros (length (now x)) (now x) (now y) (now kept) × ZeroPair (length (now x)) (now s) (now t) ⌝ }
     ensures { λ r. ⌜ Results (fieldAt field) (longest field) (given f) (given g) r (now (h .exit)) (now (a .exit)) (now (b .exit)) ⌝ }
 {
-    let ended = find_last(field, n, whole, part, inverses, f, g, u, v, q);
-    let w = write_last(field, n, whole, part, inverses, ended.first, u, v, h, a, b);
+    let ended = list_gcd::find_last(field, whole, part, inverses, f, g, x, y, kept);
+    let first = substitute_back(field, kept, ended.kept, s, t);
+    let made = list_gcd::write_last(field, whole, part, inverses, ended.first, x, y, h);
+    write_cofactors(field, whole, part, first, s, t, made.inverse, a, b);
     let c = list_gcd::common_power(f, g);
-    Gcd::Done(w, c, Rounds(ended.rounds))
+    Gcd::Done(NaiveDegree(made.degree), c, Rounds(ended.rounds))
 }
-
-// The number of words of the longest row.
-const ROW: usize = 3 * refusal::MAX_WORDS;
 
 // The cofactors where nothing is refused, with tables that are lent.
 fn cofactors_with(
@@ -341,9 +238,11 @@ fn cofactors_with(
     requires { ⌜ Slices (longest field) (now f) (now g) (now h) (now a) (now b) ⌝ }
     ensures { λ r. ⌜ Results (fieldAt field) (longest field) (given f) (given g) r (now (h .exit)) (now (a .exit)) (now (b .exit)) ⌝ }
 {
-    let mut u = [0u16; ROW];
-    let mut v = [0u16; ROW];
-    let mut q = [0u16; refusal::MAX_WORDS];
+    let mut x = [0u16; refusal::MAX_WORDS];
+    let mut y = [0u16; refusal::MAX_WORDS];
+    let mut kept = [0u16; 3 * refusal::MAX_WORDS];
+    let mut s = [0u16; refusal::MAX_WORDS];
+    let mut t = [0u16; refusal::MAX_WORDS];
     cofactors_between(
         field,
         whole,
@@ -351,16 +250,18 @@ fn cofactors_with(
         inverses,
         f,
         g,
-        &mut u,
-        &mut v,
-        &mut q,
+        &mut x,
+        &mut y,
+        &mut kept,
+        &mut s,
+        &mut t,
         h,
         a,
         b,
     )
 }
 
-// The same in as much of three arrays of zeros as the lists take.
+// The same in as much of the arrays, which are 0, as the lists take.
 fn cofactors_between(
     field: u8,
     whole: &[u16],
@@ -368,9 +269,11 @@ fn cofactors_between(
     inverses: &[u16],
     f: &[u16],
     g: &[u16],
-    u: &mut [u16],
-    v: &mut [u16],
-    q: &mut [u16],
+    x: &mut [u16],
+    y: &mut [u16],
+    kept: &mut [u16],
+    s: &mut [u16],
+    t: &mut [u16],
     h: &mut [u16],
     a: &mut [u16],
     b: &mut [u16],
@@ -378,22 +281,22 @@ fn cofactors_between(
     requires { ⌜ Tables (fieldAt field) (longest field) (now whole) (now part) ⌝ }
     requires { ⌜ Ready (fieldAt field) (longest field) (now f) (now g) ⌝ }
     requires { ⌜ Slices (longest field) (now f) (now g) (now h) (now a) (now b) ⌝ }
-    requires { ⌜ ZeroRows maxWords (now u) (now v) (now q) ⌝ }
+    requires { ⌜ Zeros maxWords (now x) (now y) (now kept) × ZeroPair maxWords (now s) (now t) ⌝ }
     ensures { λ r. ⌜ Results (fieldAt field) (longest field) (given f) (given g) r (now (h .exit)) (now (a .exit)) (now (b .exit)) ⌝ }
 {
     let n = list_gcd::buffer_words(field, f, g);
-    let row = 3 * n;
     cofactors_in(
         field,
-        n,
         whole,
         part,
         inverses,
         f,
         g,
-        &mut u[..row],
-        &mut v[..row],
-        &mut q[..n],
+        &mut x[..n],
+        &mut y[..n],
+        &mut kept[..3 * n],
+        &mut s[..n],
+        &mut t[..n],
         h,
         a,
         b,

@@ -135,13 +135,7 @@ fn keep_round(
 }
 
 // Euclid's rounds on two buffers that alternate, until one of them is zero. The quotients are kept for whoever wants the cofactors.
-fn all_rounds(
-    field: u8,
-    inverses: &[u16],
-    x: &mut [u16],
-    y: &mut [u16],
-    kept: &mut [u16],
-) -> Ended
+fn all_rounds(field: u8, inverses: &[u16], x: &mut [u16], y: &mut [u16], kept: &mut [u16]) -> Ended
     requires { ⌜ Buffer (fieldAt field) (length (now x)) (now x) ⌝ }
     requires { ⌜ Buffer (fieldAt field) (length (now x)) (now y) ⌝ }
     requires { ⌜ (length (now x) ≤ maxWords) × (length (now kept) ≡ 3 * length (now x)) ⌝ }

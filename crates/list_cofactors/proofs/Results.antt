@@ -1,20 +1,19 @@
 -- What is written is what the definitions name, and what a call answers.
 -- Theorems:
---     results                what is written from the last x and from the quotients is h, a and b
+--     results                what is written from the quotients is a and b
 --     slices-short           the result slices of the cofactors fit in the buffers
 --     cofactors-answered     what a call answers and writes that refuses nothing
 -- Assumes nothing.
 use mathlib.Core.Path.{_≡_, sym, _∙_, ap, ap₂, subst}
 use mathlib.Core.Bool.{Bool, cond}
-use mathlib.Core.List.{List, [], _∷_}
-use Prim.Native.Nat.{ℕ, _+_, _-_, _≤_, _<_}
+use mathlib.Core.List.{List}
+use Prim.Native.Nat.{ℕ, _-_, _≤_, _<_}
 use native.Mathlib.Omega.{arith}
 use lib.ListN.{length}
 use Rattle.algebra.specs.Ring.{CommRing}
 use Rattle.algebra.specs.Series.{C}
 use Rattle.algebra.proofs.Series.{coeff-C-mul}
 use Rattle.algebra.specs.PrimeField.{PrimeField, scalars, value, residue, inverse}
-use Rattle.lists.specs.Degrees.{naiveDegree, significant}
 use Rattle.lists.specs.Lists.{binomial, unscaled}
 use Rattle.lists.specs.Words.{seriesOf, Low}
 use Rattle.lists.proofs.Words.{coeff-seriesOf}
@@ -22,18 +21,15 @@ use Rattle.refusal.specs.Refusal.{reply, written}
 use Rattle.refusal.specs.declared.Outcome.{Outcome}
 use Rattle.refusal.specs.declared.Outcome.the-variants.{Done}
 use Rattle.refusal.proofs.Answers.{result}
-use Rattle.lists.specs.declared.NaiveDegree.{NaiveDegree}
-use Rattle.lists.specs.declared.Power.{Power}
 use Rattle.lists.proofs.Tabulate.{tabulate-ext}
-use Rattle.euclid_theory.specs.Gcd.{euclidOf, gcdOf, roundsOf, commonPower, cofactorA, cofactorB}
+use Rattle.euclid_theory.specs.Gcd.{euclidOf, gcdOf, cofactorA, cofactorB}
 use Rattle.lists.specs.Padded.{padded}
 use Rattle.euclid_theory.proofs.Cofactors.{cofactors-are, cofactors-only}
 use Rattle.list_gcd.specs.declared.Gcd.{Gcd}
-use Rattle.list_gcd.specs.declared.Rounds.{Rounds}
 use Rattle.list_gcd.specs.declared.Gcd.the-variants as G
 use Rattle.list_gcd.specs.Calls.{gcdReply, gcdValues, Greatest}
-use Rattle.list_gcd.specs.Internal.{Ready, lastInverse, monicWords, LastOf, TrailOf, gcdDone}
-use Rattle.list_gcd.proofs.Finish.{gcd-done, last-words, answered}
+use Rattle.list_gcd.specs.Internal.{Ready, TrailOf, Numbers, gcdDone}
+use Rattle.list_gcd.proofs.Finish.{gcd-done, answered}
 use Rattle.list_cofactors.specs.Calls.{CofactorsSo, Cofactors}
 use Rattle.list_cofactors.specs.Internal.{Slices, Substituted, timesList, Results}
 use Rattle.list_cofactors.proofs.Slices.{few-a, few-b}
@@ -60,29 +56,23 @@ module _ (F : PrimeField) where
       coeff-C-mul (F .series) m (seriesOf F form) k
       ∙ ap (λ c. m ⊗ c) (coeff-seriesOf F form k ∙ low .at k (omega arith)) ∙ sym (coeff-C-mul (F .series) m s k)
 
-  pub results : (n most : ℕ) → 1 < n → (f g h a b last words s t : List ℕ) (first : Bool) (m : ℕ) {h′ a′ b′ : List ℕ} {w : NaiveDegree} {c : Power} {rounds : Rounds}
-      → Ready F n f g → Slices most f g h a b → rounds .0 ≡ roundsOf F f g → LastOf F n f g last → TrailOf F n f g words
+  pub results : (n most : ℕ) → 1 < n → (f g h a b words s t : List ℕ) (first : Bool) (w c rounds m : ℕ) {h′ a′ b′ : List ℕ} {r : Gcd}
+      → Ready F n f g → Slices most f g h a b → Numbers F f g w c rounds m → h′ ≡ padded most (gcdOf F f g) → TrailOf F n f g words
       → {i : ℕ} → i ≡ n → Substituted F i words (cond first s t) (cond first t s)
-      → (w .0 + 1 ≡ significant last) × ((residue F m ≡ lastInverse F last) × (h′ ≡ monicWords F most last))
       → (a′ ≡ timesList F (length a) (residue F m) (cond first t s)) × (b′ ≡ timesList F (length b) (residue F m) (cond first s t))
-      → c .0 ≡ commonPower (f ∷ g ∷ []) → Results F most f g (G.Done w c rounds) h′ a′ b′
-  results n most more f g h a b last words s t first m {w = w} r sl count l trail ei back o oc ec =
+      → r ≡ G.Done (record { 0 = w }) (record { 0 = c }) (record { 0 = rounds }) → Results F most f g r h′ a′ b′
+  results n most more f g h a b words s t first w c rounds m ready sl found eh trail ei back o er =
       record {
-        answer = gcd-done F f g _ _ _ degree ec count;
-        gcd = o .1 .1 ∙ last-words F most l;
+        answer = er ∙ gcd-done F f g _ _ _ (found .degree-is) (found .power-is) (found .rounds-are);
+        gcd = eh;
         cofactor-a =
-            oc .0
-            ∙ ap₂ (λ k i. timesList F k i (cond first t s)) (sl .size-a) (o .1 .0 ∙ l .inverse)
-            ∙ (unfold cofactorA in cofactor-is n _ _ (few-a f g n (r .short-g) more) (both .1));
+            o .0 ∙ ap₂ (λ k i. timesList F k i (cond first t s)) (sl .size-a) (found .inverse-is)
+            ∙ (unfold cofactorA in cofactor-is n _ _ (few-a f g n (ready .short-g) more) (both .1));
         cofactor-b =
-            oc .1
-            ∙ ap₂ (λ k i. timesList F k i (cond first s t)) (sl .size-b) (o .1 .0 ∙ l .inverse)
-            ∙ (unfold cofactorB in cofactor-is n _ _ (few-b f g n (r .short-f) more) (both .0));
+            o .1 ∙ ap₂ (λ k i. timesList F k i (cond first s t)) (sl .size-b) (found .inverse-is)
+            ∙ (unfold cofactorB in cofactor-is n _ _ (few-b f g n (ready .short-f) more) (both .0));
       }
     where
-      degree : w .0 ≡ naiveDegree (gcdOf F f g)
-      degree = let words = o .0 in let size = l .size in omega arith
-
       both : Low F n (cond first s t) (euclidOf F f g .byX) × Low F n (cond first t s) (euclidOf F f g .byY)
       both = subst (λ j. Substituted F j words (cond first s t) (cond first t s)) ei back .cofactors (euclidOf F f g) (trail .last) (trail .trail)
 

@@ -19,8 +19,6 @@ ghost use Rattle.list_gcd.specs.Internal.{Ready, Zeros};
 ghost use Rattle.list_cofactors.specs.Calls.{cofactorRows, cofactorAnswer, cofactorGcd, cofactorsWrittenA, cofactorsWrittenB, Cofactors};
 ghost use Rattle.list_cofactors.specs.Internal.{Slices, ZeroPair, lastCount, lastQuotient, Substituted, timesList, Results};
 use list_gcd::Gcd;
-use list_gcd::Rounds;
-use lists::NaiveDegree;
 use refusal::Outcome;
 use refusal::Refusal;
 
@@ -189,7 +187,7 @@ fn write_cofactors(
     write_pair(field, whole, part, t, s, m, a, b);
 }
 
-// The GCD and its cofactors by way of buffers. Each is divided by the last word of the last x.
+// The GCD and its cofactors by way of buffers. The cofactors are divided by the last word of the last x, as h is.
 fn cofactors_in(
     field: u8,
     whole: &[u16],
@@ -213,12 +211,10 @@ fn cofactors_in(
     requires { ⌜ Zeros (length (now x)) (now x) (now y) (now kept) × ZeroPair (length (now x)) (now s) (now t) ⌝ }
     ensures { λ r. ⌜ Results (fieldAt field) (longest field) (given f) (given g) r (now (h .exit)) (now (a .exit)) (now (b .exit)) ⌝ }
 {
-    let ended = list_gcd::find_last(field, whole, part, inverses, f, g, x, y, kept);
-    let first = substitute_back(field, kept, ended.kept, s, t);
-    let made = list_gcd::write_last(field, whole, part, inverses, ended.first, x, y, h);
-    write_cofactors(field, whole, part, first, s, t, made.inverse, a, b);
-    let c = list_gcd::common_power(f, g);
-    Gcd::Done(NaiveDegree(made.degree), c, Rounds(ended.rounds))
+    let found = list_gcd::gcd_in(field, whole, part, inverses, f, g, x, y, kept, h);
+    let first = substitute_back(field, kept, found.kept, s, t);
+    write_cofactors(field, whole, part, first, s, t, found.inverse, a, b);
+    list_gcd::answer_of(found)
 }
 
 // The cofactors where nothing is refused, with tables that are lent.

@@ -13,6 +13,7 @@
 --     lastInverse x       1 over the last coefficient of the words x
 --     LastOf n f g x      the buffer x holds the last x of the rounds on f and g
 --     TrailOf n f g       the quotients of these rounds are kept
+--     Numbers f g         w, c, the number of rounds, and 1 over the last coefficient of the last x
 --     gcdDone f g         the answer of the GCD of f and g: w, c and rounds
 -- Assumes nothing.
 use mathlib.Core.Path.{_≡_}
@@ -23,7 +24,7 @@ use Rattle.algebra.specs.Ring.{CommRing}
 use Rattle.algebra.specs.Degree.{size}
 use Rattle.algebra.specs.Euclid.{Euclid, done, euclid}
 use Rattle.algebra.specs.Monic.{monic, topInverse}
-use Rattle.algebra.specs.PrimeField.{PrimeField, scalarField, scalars}
+use Rattle.algebra.specs.PrimeField.{PrimeField, scalarField, scalars, residue}
 use Rattle.lists.specs.Degrees.{naiveDegree, significant}
 use Rattle.lists.specs.Lists.{Coefficients, unscaled}
 use Rattle.lists.specs.Padded.{padded}
@@ -99,6 +100,12 @@ module _ (F : PrimeField) where
   pub record TrailOf (n : ℕ) (f g words : List ℕ) : Type 0 where
     pub last : S
     pub trail : Trail F n (euclidOf F f g) (done (F .series) (scalarField F) last) words
+
+  pub record Numbers (f g : List ℕ) (degree power rounds inverse : ℕ) : Type 0 where
+    pub degree-is : degree ≡ naiveDegree (gcdOf F f g)
+    pub power-is : power ≡ commonPower (f ∷ g ∷ [])
+    pub rounds-are : rounds ≡ roundsOf F f g
+    pub inverse-is : residue F inverse ≡ topInverse (F .series) (scalarField F) (room f g) (euclidOf F f g .last)
 
   unfoldable pub gcdDone : (f g : List ℕ) → Gcd
   gcdDone f g =

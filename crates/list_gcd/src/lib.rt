@@ -16,7 +16,8 @@ ghost use Rattle.euclid_theory.specs.Gcd.{gcdOf, roundsOf, commonPower};
 ghost use Rattle.lists.specs.Padded.{padded};
 ghost use Rattle.field_tables.specs.Factorials.{fewWords, Tables};
 ghost use Rattle.list_gcd.specs.Calls.{gcdReply, gcdRows, gcdAnswer, gcdWritten, Greatest};
-ghost use Rattle.list_gcd.specs.Internal.{Ready, Zeros, Buffer, Holds, RoundKept, Ends, monicWords, lastInverse, LastOf, TrailOf, gcdDone};
+ghost use Rattle.list_gcd.specs.Internal.{Ready, Zeros, Buffer, Holds, RoundKept, Ends, monicWords, lastInverse, LastOf, TrailOf, Numbers, gcdDone};
+ghost use Rattle.list_gcd.specs.declared.Gcd.the-variants.{Done};
 use euclid_round::Shortened;
 use lists::NaiveDegree;
 use lists::Power;
@@ -72,7 +73,7 @@ pub fn judge_gcd(field: u8, f: &[u16], g: &[u16], h: &[u16]) -> Outcome
 }
 
 // The least power among those of f and g that are not zero; 0 where both are.
-pub fn common_power(f: &[u16], g: &[u16]) -> Power
+fn common_power(f: &[u16], g: &[u16]) -> Power
     ensures { λ r. ⌜ r .0 ≡ commonPower (given f ∷ given g ∷ []) ⌝ }
 {
     let nf = lists::significant_words(f);
@@ -106,10 +107,10 @@ fn scale_into(field: u8, whole: &[u16], part: &[u16], list: &[u16], buffer: &mut
 }
 
 // Where the rounds ended: how many they were, whether the last x stands in the first buffer, and how many words of quotients were kept.
-pub struct Ended {
-    pub rounds: usize,
-    pub first: bool,
-    pub kept: usize,
+struct Ended {
+    rounds: usize,
+    first: bool,
+    kept: usize,
 }
 
 // One of Euclid's rounds on buffers with nx and ny significant words. Its quotient is kept: its words from word `at` on, then their number.
@@ -173,9 +174,9 @@ fn all_rounds(field: u8, inverses: &[u16], x: &mut [u16], y: &mut [u16], kept: &
 }
 
 // What was written: the naive degree of h, and the inverse of the last word of the last x, by which it was multiplied.
-pub struct Monic {
-    pub degree: usize,
-    pub inverse: u16,
+struct Monic {
+    degree: usize,
+    inverse: u16,
 }
 
 // h from the last x: made to end in 1, unscaled, zeros after it.
@@ -204,7 +205,7 @@ fn write_gcd(
 }
 
 // The same from the buffer that holds the last x.
-pub fn write_last(
+fn write_last(
     field: u8,
     whole: &[u16],
     part: &[u16],
@@ -228,7 +229,7 @@ pub fn write_last(
 }
 
 // Euclid's rounds on the scaled forms of g and f, in buffers x and y of zeros, with their quotients kept.
-pub fn find_last(
+fn find_last(
     field: u8,
     whole: &[u16],
     part: &[u16],
@@ -251,8 +252,18 @@ pub fn find_last(
     all_rounds(field, inverses, x, y, kept)
 }
 
-// The GCD by way of buffers.
-fn gcd_in(
+// What the GCD by way of buffers finds: w, c and the number of rounds, the inverse of the last word of the last x, and how many words of
+// quotients were kept.
+pub struct Found {
+    pub degree: usize,
+    pub power: usize,
+    pub rounds: usize,
+    pub inverse: u16,
+    pub kept: usize,
+}
+
+// The GCD by way of buffers, with the quotients kept.
+pub fn gcd_in(
     field: u8,
     whole: &[u16],
     part: &[u16],
@@ -263,18 +274,36 @@ fn gcd_in(
     y: &mut [u16],
     kept: &mut [u16],
     h: &mut [u16],
-) -> Gcd
+) -> Found
     requires { ⌜ Tables (fieldAt field) (length (now x)) (now whole) (now part) ⌝ }
     requires { ⌜ Ready (fieldAt field) (length (now x)) (now f) (now g) × (length (now x) ≤ longest field) ⌝ }
     requires { ⌜ Zeros (length (now x)) (now x) (now y) (now kept) ⌝ }
     requires { ⌜ length (now h) ≡ longest field ⌝ }
-    ensures { λ r. ⌜ r ≡ gcdDone (fieldAt field) (given f) (given g) ⌝ }
+    ensures { λ r. ⌜ Numbers (fieldAt field) (given f) (given g) (r .degree) (r .power) (r .rounds) (r .inverse) ⌝ }
     ensures { λ _. ⌜ now (h .exit) ≡ padded (longest field) (gcdOf (fieldAt field) (given f) (given g)) ⌝ }
+    ensures { λ r. ⌜ TrailOf (fieldAt field) (length (given x)) (given f) (given g) (take (r .kept) (now (kept .exit))) × (r .kept ≤ length (given kept)) ⌝ }
 {
     let ended = find_last(field, whole, part, inverses, f, g, x, y, kept);
     let made = write_last(field, whole, part, inverses, ended.first, x, y, h);
     let c = common_power(f, g);
-    Gcd::Done(NaiveDegree(made.degree), c, Rounds(ended.rounds))
+    Found {
+        degree: made.degree,
+        power: c.0,
+        rounds: ended.rounds,
+        inverse: made.inverse,
+        kept: ended.kept,
+    }
+}
+
+// The answer of a GCD that was found.
+pub fn answer_of(found: Found) -> Gcd
+    ensures { λ r. ⌜ r ≡ Done (record { 0 = found .degree }) (record { 0 = found .power }) (record { 0 = found .rounds }) ⌝ }
+{
+    Gcd::Done(
+        NaiveDegree(found.degree),
+        Power(found.power),
+        Rounds(found.rounds),
+    )
 }
 
 // The words of a buffer: as many as the longer list has, and zeros after them, so that a row can be added in groups of 8 words.
@@ -302,7 +331,7 @@ fn gcd_few(field: u8, f: &[u16], g: &[u16], n: usize, h: &mut [u16]) -> Gcd
     let mut x = [0u16; field_tables::FEW_WORDS];
     let mut y = [0u16; field_tables::FEW_WORDS];
     let mut kept = [0u16; 3 * field_tables::FEW_WORDS];
-    gcd_in(
+    let found = gcd_in(
         field,
         &whole,
         &part,
@@ -313,7 +342,8 @@ fn gcd_few(field: u8, f: &[u16], g: &[u16], n: usize, h: &mut [u16]) -> Gcd
         &mut y[..n],
         &mut kept[..3 * n],
         h,
-    )
+    );
+    answer_of(found)
 }
 
 // The GCD of any lists, where nothing is refused, in buffers of n words.
@@ -329,7 +359,7 @@ fn gcd_many(field: u8, f: &[u16], g: &[u16], n: usize, h: &mut [u16]) -> Gcd
     let mut x = [0u16; refusal::MAX_WORDS];
     let mut y = [0u16; refusal::MAX_WORDS];
     let mut kept = [0u16; 3 * refusal::MAX_WORDS];
-    gcd_in(
+    let found = gcd_in(
         field,
         &whole,
         &part,
@@ -340,7 +370,8 @@ fn gcd_many(field: u8, f: &[u16], g: &[u16], n: usize, h: &mut [u16]) -> Gcd
         &mut y[..n],
         &mut kept[..3 * n],
         h,
-    )
+    );
+    answer_of(found)
 }
 
 // The same with tables and arrays of the size that the longer list needs.

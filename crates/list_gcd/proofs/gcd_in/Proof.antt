@@ -3,7 +3,7 @@
 use mathlib.Core.Path.{sym, _∙_}
 use native.Mathlib.Omega.{arith}
 use Rattle.field.specs.Fields.{fieldAt}
-use Rattle.list_gcd.proofs.Finish.{gcd-done, buffer-as, last-words}
+use Rattle.list_gcd.proofs.Finish.{buffer-as, last-words}
 use borrow.Author.Needs.{needs}
 use Rattle.list_gcd.proofs.gcd_in.Statement.{statement}
 use Rattle.list_gcd.proofs.gcd_in.Tie as tie
@@ -39,11 +39,14 @@ same-length-4 c = search needs
 
 returns : tie.Need-returns
 returns c =
-    let last = c .before .before .before .before .before .before .before .before .before .before .before .before .before .before .before .before .before .find-last .ensures in
-    let list = c .before .before .before .before .before .before .before .write-last .ensures in
-    let size = last .1 .0 .size in
-    let w = list .0 in
-    (gcd-done (fieldAt _) _ _ _ _ _ (omega arith) (c .common-power .ensures) (last .0), list .1 .1 ∙ last-words (fieldAt _) _ (last .1 .0))
+    let found = c .before .before .before .before .before .before .before .before .before .before .before .before .before .before .before .before .before .find-last .ensures in
+    let last = found .1 .0 in
+    let made = c .before .before .before .before .before .before .before .write-last .ensures in
+    let size = last .size in
+    let w = made .0 in (
+      record { degree-is = omega arith; power-is = c .common-power .ensures; rounds-are = found .0; inverse-is = made .1 .0 ∙ last .inverse },
+      (made .1 .1 ∙ last-words (fieldAt _) _ last, found .1 .1),
+    )
 
 pub gcd-in-spec : {M : Type 1} → statement M
 gcd-in-spec =

@@ -5,13 +5,11 @@
 -- Theorems:
 --     euclid-fuel, euclid-room     more fuel, or more room, changes nothing
 --     round-law                    one round, with no fuel to count
---     next-acc, done-acc           a loop that carries (s0, s1) and replaces it by (s1, s0 - q · s1) in each round ends with the cofactors
 -- Assumes nothing.
 use mathlib.Core.Path.{_≡_, _∙_, refl, sym, ap}
 use Prim.Native.Nat.{ℕ, zero, suc, _-_, _≤_}
 use native.Mathlib.Omega.{arith}
 use Rattle.algebra.specs.Ring.{CommRing, IsField}
-use Rattle.algebra.specs.RingLaws.{RING}
 use Rattle.algebra.specs.Series.{SeriesRing}
 use Rattle.algebra.specs.Polynomial.{Below}
 use Rattle.algebra.proofs.Polynomial.{below-mono}
@@ -22,11 +20,8 @@ use Rattle.algebra.proofs.Division.{remainder-below}
 use Rattle.algebra.specs.Euclid.{Euclid, quotientBy, remainderBy, done, next, euclid}
 
 module _ {Rg : CommRing} (X : SeriesRing Rg) (K : IsField Rg) where
-  open CommRing (X .ring) using (Carrier as S, zero as 0ˢ, one as 1ˢ, neg as -ˢ_, add as _+ˢ_, mul as _*ˢ_)
+  open CommRing (X .ring) using (Carrier as S, zero as 0ˢ, one as 1ˢ)
 
-  infixl 65 _+ˢ_
-  infixl 70 _*ˢ_
-  infix 80 -ˢ_
   pub done-last : (x : S) → done X K x .last ≡ x
   unfolding done
   done-last x = refl
@@ -103,16 +98,3 @@ module _ {Rg : CommRing} (X : SeriesRing Rg) (K : IsField Rg) where
       let room = size-le X K n y in
       let shorter = size-least X K n d (remainder-small n d hx hy e) in
       euclid-fuel n (suc n) n hx hy room (omega arith) ∙ euclid-round n n d x y e
-
-  -- cofactors from above: a loop that carries (s0, s1) and replaces it by (s1, s0 - q · s1) in each round
-  -- ends with byX from (1, 0), and with byY from (0, 1)
-  pub next-acc : (q s0 s1 : S) (z : Euclid X K) → next X K q z .byX *ˢ s0 +ˢ next X K q z .byY *ˢ s1 ≡ z .byX *ˢ s1 +ˢ z .byY *ˢ (s0 +ˢ -ˢ (q *ˢ s1))
-  unfolding next
-  next-acc q s0 s1 z = go (z .byX) (z .byY) q s0 s1
-    where
-      go : (a b q s0 s1 : S) → b *ˢ s0 +ˢ (a +ˢ -ˢ (b *ˢ q)) *ˢ s1 ≡ a *ˢ s1 +ˢ b *ˢ (s0 +ˢ -ˢ (q *ˢ s1))
-      go a b q s0 s1 = simp RING
-
-  pub done-acc : (x s0 s1 : S) → done X K x .byX *ˢ s0 +ˢ done X K x .byY *ˢ s1 ≡ s0
-  unfolding done
-  done-acc x s0 s1 = simp RING

@@ -44,7 +44,7 @@ module _ (words q : List ℕ) (qs : List (List ℕ)) (at : ℕ) (inside : at ≤
       sym (length-take-le at words inside) ∙ ap length as-laid ∙ length-append (laid qs) (q ++ (length q ∷ []))
       ∙ ap (λ i. length (laid qs) + i) (length-append q (length q ∷ []))
 
-  pub last-count : lastCount at words ≡ length q
+  last-count : lastCount at words ≡ length q
   unfolding lastCount
   last-count =
       sym (getD-take at words (at - 1) 0 (let p = place in omega arith))
@@ -54,16 +54,16 @@ module _ (words q : List ℕ) (qs : List (List ℕ)) (at : ℕ) (inside : at ≤
       end : at - 1 ≡ length (laid qs ++ q) + 0
       end = rw (length-append (laid qs) q) (let p = place in omega arith)
 
-  pub last-quotient : lastQuotient at words ≡ q
+  last-quotient : lastQuotient at words ≡ q
   unfolding lastQuotient
   last-quotient =
       part-of words (laid qs) q (length q ∷ []) at (at - 1 - lastCount at words) (lastCount at words) as-laid
       (let p = place in omega (arith, last-count)) last-count
 
-  pub last-rest : take (at - (length q + 1)) words ≡ laid qs
+  last-rest : take (at - (length q + 1)) words ≡ laid qs
   last-rest = front-of words (laid qs) (q ++ (length q ∷ [])) at (at - (length q + 1)) as-laid (let p = place in omega arith)
 
-  pub last-fits : length q < at
+  last-fits : length q < at
   last-fits = let p = place in omega arith
 
 -- no words, no quotients
@@ -89,7 +89,7 @@ module _ (F : PrimeField) (n : ℕ) where
   abbrev Answer : Type 0
   Answer = Euclid (F .series) (scalarField F)
 
-  pub record Reached (z₀ : Answer) (words s t : List ℕ) : Type 0 where
+  record Reached (z₀ : Answer) (words s t : List ℕ) : Type 0 where
     pub z : Answer
     pub trail : Trail F n z₀ z words
     pub low-s : Low F n s (z .byX)
@@ -252,7 +252,7 @@ module _ (F : PrimeField) (n : ℕ) where
             words-are = ap (λ i. take i words) same ∙ last-rest words (known .0) (known .1) at inside known-laid;
           }
 
-      pub back-on : Back words₀ (take at′ words) t s′ c′
+      back-on : Back words₀ (take at′ words) t s′ c′
       back-on =
           record {
             kept = kept-on;

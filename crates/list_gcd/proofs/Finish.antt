@@ -87,11 +87,11 @@ module _ (F : PrimeField) where
       unfolding euclidOn
       ready-euclid = ap₂ (euclid (F .series) (scalarField F) n n) (hx .series) (hy .series)
 
-      pub ready-count : euclidOn F n x y .rounds ≡ roundsOf F f g
+      ready-count : euclidOn F n x y .rounds ≡ roundsOf F f g
       ready-count = ap (λ z. z .rounds) ready-euclid ∙ sym (count-room F n f g (r .short-f) (r .short-g))
 
       -- so the last x stands in its buffer
-      pub ready-last : {last : List ℕ} → Holds F n last (euclidOn F n x y .last) → LastOf F n f g last
+      ready-last : {last : List ℕ} → Holds F n last (euclidOn F n x y .last) → LastOf F n f g last
       ready-last {last} hl =
           record {
             buffer = hl .buffer;

@@ -40,7 +40,7 @@ fn gain(p: u16, plus: bool, x: &mut [u16])
     let mut i = 0;
     while i < x.len() {
         let word = x[i];
-        x[i] = less(p, word, taken(p, plus, before));
+        x[i] = word_montgomery::sub_below(word, taken(p, plus, before), p);
         before = word;
         i += 1;
     }
@@ -55,16 +55,4 @@ fn taken(p: u16, plus: bool, b: u16) -> u16
         return p - b;
     }
     b
-}
-
-// a less b modulo p. Every step stays in 16 bits.
-fn less(p: u16, a: u16, b: u16) -> u16
-    requires { ⌜ (a < p) × (b ≤ p) ⌝ }
-    ensures { λ r. ⌜ r ≡ (a + (p - b)) % p ⌝ }
-{
-    let d = std::num::wrapping_sub_u16(a, b);
-    if a < b {
-        return std::num::wrapping_add_u16(d, p);
-    }
-    d
 }

@@ -42,33 +42,12 @@ fn halving(n: usize, m: usize) -> usize
     h
 }
 
-// a less b modulo p, in 16 bits, so that LLVM does 8 words at a time.
-fn less(a: u16, b: u16, p: u16) -> u16
-    requires { ⌜ (a < p) × (b ≤ p) ⌝ }
-    ensures { λ r. ⌜ r ≡ (a + (p - b)) % p ⌝ }
-{
-    let d = std::num::wrapping_sub_u16(a, b);
-    if a < b {
-        std::num::wrapping_add_u16(d, p)
-    } else {
-        d
-    }
-}
-
-// A word modulo p, where p is at least half of 2^16.
-fn once_reduced(a: u16, p: u16) -> u16
-    requires { ⌜ 32768 ≤ p ⌝ }
-    ensures { λ r. ⌜ r ≡ a % p ⌝ }
-{
-    if a < p { a } else { a - p }
-}
-
 // a plus b modulo p, as a row has it. b need not be below p.
 fn plus(a: u16, b: u16, p: u16) -> u16
     requires { ⌜ (a < p) × (32768 ≤ p) ⌝ }
     ensures { λ r. ⌜ r ≡ (a + 1 * b) % p ⌝ }
 {
-    less(a, p - once_reduced(b, p), p)
+    word_montgomery::sub_below(a, p - word_montgomery::once_reduced(b, p), p)
 }
 
 // x plus y. The words of x are below p; those of y need not be.
@@ -90,7 +69,7 @@ pub fn sub_words(x: &mut [u16], y: &[u16], p: u16)
 {
     let mut i = 0;
     while i < y.len() {
-        x[i] = less(x[i], y[i], p);
+        x[i] = word_montgomery::sub_below(x[i], y[i], p);
         i += 1;
     }
 }

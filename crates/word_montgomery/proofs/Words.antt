@@ -1,6 +1,7 @@
 -- Words of 16 bits modulo p.
 --     same                      numbers that differ by multiples of p leave the same remainder
 --     remainder                 what is below p and differs by multiples of p is the remainder
+--     once                      one subtraction of p reduces a word
 --     high-below                the high half of a product with a number below p is below p
 --     sub-less, sub-more        a difference modulo p, where it goes below 0 and where it does not
 --     below-zero, not-below     the same by differences that wrap
@@ -18,6 +19,9 @@ high-below {p} {g} y ly lg pos = omega (arith, mul-le-mul {n₁ = y} {m₁ = g} 
 
 pub remainder : (p r a u v : ℕ) → r < p → r + p * u ≡ a + p * v → r ≡ a % p
 remainder p r a u v l e = sym (mod-eq-of-lt l) ∙ same p r a u v e
+
+pub once : (a p : ℕ) → p ≤ a → a < p + p → a - p ≡ a % p
+once a p h g = remainder p (a - p) a 1 0 (omega arith) (omega arith)
 
 -- a difference of words that does not wrap, and one that does
 exact : (a b r : ℕ) → b ≤ a → r < 65536 → a < 65536 → (r + b) % 65536 ≡ a → r ≡ a - b

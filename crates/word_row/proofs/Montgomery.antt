@@ -1,5 +1,4 @@
 -- Montgomery's products on words: the difference of two high halves is a product modulo p.
---     once                        one subtraction of p reduces a word
 --     sum-most, sum-less          the word that `add_below` chooses
 --     product-halves              with the constants of m, the high half of y · g less that of (y · s modulo 2^16) · p is m · y
 --     added                       the word that a row's turn stores
@@ -17,12 +16,9 @@ use native.Mathlib.Decide.{decLt}
 use native.Mathlib.Omega.{arith}
 use Rattle.field.specs.Fields.{modulus, wordInverse, square}
 use Rattle.field.proofs.Fields.{modulus-half, word-inverse, square-is}
-use Rattle.word_montgomery.proofs.Words.{remainder, same}
+use Rattle.word_montgomery.proofs.Words.{remainder, same, once}
 use Rattle.word_row.specs.Montgomery.{Modulus, Factor, liftOf}
 use Rattle.word_row.specs.Rows.{minusProduct}
-
-pub once : (a p : ℕ) → p ≤ a → a < p + p → a - p ≡ a % p
-once a p h g = remainder p (a - p) a 1 0 (omega arith) (omega arith)
 
 -- the smaller of the sum, at most 65,535, and the sum less p, both modulo 2^16
 module _ (a b p most sum less : ℕ) (la : a < p) (lb : b < p) (lp : p < 65536) (ll : less < 65536)

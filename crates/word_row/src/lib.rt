@@ -97,7 +97,7 @@ fn add_product(x: u16, y: u16, g: u16, s: u16, p: u16) -> u16
     requires { ⌜ (32768 ≤ p) × (g < p) ⌝ }
     ensures { λ r. ⌜ ((e m : ℕ) → Factor p e m g s → r ≡ (x + m * y) % p) ⌝ }
 {
-    add_product_below(once_reduced(x, p), y, g, s, p)
+    add_product_below(word_montgomery::once_reduced(x, p), y, g, s, p)
 }
 
 // The same where x is below p. Modulo 2^16 y times g is y times s times p, so the difference of their high halves is m times y. Each is
@@ -107,28 +107,11 @@ fn add_product_below(x: u16, y: u16, g: u16, s: u16, p: u16) -> u16
     ensures { λ r. ⌜ (r < p) × ((e m : ℕ) → Factor p e m g s → r ≡ (x + m * y) % p) ⌝ }
 {
     let less = word_montgomery::high_half(word_montgomery::low_half(y, s), p);
-    add_below(sub_below(x, less, p), word_montgomery::high_half(y, g), p)
-}
-
-// A word modulo p, where p is at least half of 2^16.
-fn once_reduced(a: u16, p: u16) -> u16
-    requires { ⌜ 32768 ≤ p ⌝ }
-    ensures { λ r. ⌜ r ≡ a % p ⌝ }
-{
-    if a < p { a } else { a - p }
-}
-
-// a less b modulo p.
-fn sub_below(a: u16, b: u16, p: u16) -> u16
-    requires { ⌜ (a < p) × (b ≤ p) ⌝ }
-    ensures { λ r. ⌜ r ≡ (a + (p - b)) % p ⌝ }
-{
-    let d = std::num::wrapping_sub_u16(a, b);
-    if a < b {
-        std::num::wrapping_add_u16(d, p)
-    } else {
-        d
-    }
+    add_below(
+        word_montgomery::sub_below(x, less, p),
+        word_montgomery::high_half(y, g),
+        p,
+    )
 }
 
 // a plus b modulo p: the smaller of the sum, at most 65,535, and the sum less p, which wraps where the sum is below p. LLVM has shorter code

@@ -28,8 +28,8 @@ slice-read-word c = search needs
 taken-requires : tie.Need-taken-requires Inv-loop μ-loop
 taken-requires c κs = last-below _ _ (c .before .before .before .before .pre) (c .before .before .loop .inv .2)
 
-less-requires : tie.Need-less-requires Inv-loop μ-loop
-less-requires c κs =
+sub-below-requires : tie.Need-sub-below-requires Inv-loop μ-loop
+sub-below-requires c κs =
     let start = c .before .before .before .before .before in
     let at = c .before .before .before .loop .inv .2 in
     (word-below _ _ (start .pre) at, taken-le _ _ (start .args .plus) (last-below _ _ (start .pre) at) (c .taken .ensures))
@@ -52,7 +52,7 @@ loop-again c =
     let at = c .before .before .before .before .loop .inv in (
       simp length-set (omega arith),
       simp length-set (at .1),
-      gain-next _ _ (at .1) (omega arith) (last-below _ _ tight (at .2)) (at .2) (c .before .taken .ensures) (c .less .ensures),
+      gain-next _ _ (at .1) (omega arith) (last-below _ _ tight (at .2)) (at .2) (c .before .taken .ensures) (c .sub-below .ensures),
     )
 
 same-length : tie.Need-same-length Inv-loop μ-loop
@@ -71,7 +71,7 @@ gain-spec =
     mul-word
     slice-read-word
     taken-requires
-    less-requires
+    sub-below-requires
     mul-x
     slice-write-x
     add-i

@@ -21,20 +21,20 @@ abbrev μ-loop : tie.MeasureT-loop
 loop-holds : tie.Need-loop-holds Inv-loop μ-loop
 loop-holds c = (search needs, start _ _ _ _)
 
-mul-less : tie.Need-mul-less Inv-loop μ-loop
-mul-less c = search needs
+mul-sub-below : tie.Need-mul-sub-below Inv-loop μ-loop
+mul-sub-below c = search needs
 
-slice-read-less : tie.Need-slice-read-less Inv-loop μ-loop
-slice-read-less c = search needs
+slice-read-sub-below : tie.Need-slice-read-sub-below Inv-loop μ-loop
+slice-read-sub-below c = search needs
 
-mul-less-2 : tie.Need-mul-less-2 Inv-loop μ-loop
-mul-less-2 c = search needs
+mul-sub-below-2 : tie.Need-mul-sub-below-2 Inv-loop μ-loop
+mul-sub-below-2 c = search needs
 
-shared-slice-read-less : tie.Need-shared-slice-read-less Inv-loop μ-loop
-shared-slice-read-less c = search needs
+shared-slice-read-sub-below : tie.Need-shared-slice-read-sub-below Inv-loop μ-loop
+shared-slice-read-sub-below c = search needs
 
-less-requires : tie.Need-less-requires Inv-loop μ-loop
-less-requires c κs = (still-below (c .before .before .before .before .before .before .pre .2) (c .before .before .before .loop .inv .1), omega (arith, c .before .before .before .before .before .before .pre .3 .at (c .before .before .before .loop .i)))
+sub-below-requires : tie.Need-sub-below-requires Inv-loop μ-loop
+sub-below-requires c κs = (still-below (c .before .before .before .before .before .before .pre .2) (c .before .before .before .loop .inv .1), omega (arith, c .before .before .before .before .before .before .pre .3 .at (c .before .before .before .loop .i)))
 
 mul-x : tie.Need-mul-x Inv-loop μ-loop
 mul-x c = search needs
@@ -49,7 +49,7 @@ loop-less : tie.Need-loop-less Inv-loop μ-loop
 loop-less c = search needs
 
 loop-again : tie.Need-loop-again Inv-loop μ-loop
-loop-again c = (search needs, next _ _ _ _ _ _ (omega arith) (omega arith) (c .before .before .before .before .loop .inv .1) (minus-is _ _ _ (omega arith) (c .before .before .before .before .before .before .before .pre .3 .at _) (c .less .ensures)))
+loop-again c = (search needs, next _ _ _ _ _ _ (omega arith) (omega arith) (c .before .before .before .before .loop .inv .1) (minus-is _ _ _ (omega arith) (c .before .before .before .before .before .before .before .pre .3 .at _) (c .sub-below .ensures)))
 
 same-length : tie.Need-same-length Inv-loop μ-loop
 same-length c = search needs
@@ -64,11 +64,11 @@ sub-words-spec =
     Inv-loop
     μ-loop
     loop-holds
-    mul-less
-    slice-read-less
-    mul-less-2
-    shared-slice-read-less
-    less-requires
+    mul-sub-below
+    slice-read-sub-below
+    mul-sub-below-2
+    shared-slice-read-sub-below
+    sub-below-requires
     mul-x
     slice-write-x
     add-i

@@ -1,12 +1,12 @@
--- `word_row::sub_below` meets its contract, where the difference goes below 0 and where it does not.
+-- `word_montgomery::sub_below` meets its contract, where the difference goes below 0 and where it does not.
 -- Assumes nothing.
 use mathlib.Core.Path.{_≡_, _∙_}
 use Prim.Native.Nat.{_+_, _-_}
 use native.Mathlib.Omega.{arith}
 use Rattle.word_montgomery.proofs.Words.{sub-less, sub-more}
 use borrow.Author.Needs.{needs}
-use Rattle.word_row.proofs.sub_below.Statement.{statement}
-use Rattle.word_row.proofs.sub_below.Tie as tie
+use Rattle.word_montgomery.proofs.sub_below.Statement.{statement}
+use Rattle.word_montgomery.proofs.sub_below.Tie as tie
 
 wrapping-sub-u16-requires : tie.Need-wrapping-sub-u16-requires
 wrapping-sub-u16-requires c κs = search needs

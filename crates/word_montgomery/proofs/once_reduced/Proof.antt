@@ -1,11 +1,11 @@
--- `word_row::once_reduced` meets its contract: a is below 2 p, so one p is enough to take off.
+-- `word_montgomery::once_reduced` meets its contract: a is below 2 p, so one p is enough to take off.
 -- Assumes nothing.
 use mathlib.Core.Path.{sym}
 use native.Mathlib.Nat.{mod-eq-of-lt}
 use native.Mathlib.Omega.{arith}
-use Rattle.word_row.proofs.Montgomery.{once}
-use Rattle.word_row.proofs.once_reduced.Statement.{statement}
-use Rattle.word_row.proofs.once_reduced.Tie as tie
+use Rattle.word_montgomery.proofs.Words.{once}
+use Rattle.word_montgomery.proofs.once_reduced.Statement.{statement}
+use Rattle.word_montgomery.proofs.once_reduced.Tie as tie
 
 returns : tie.Need-returns
 returns c = sym (mod-eq-of-lt (c .if1 .taken))

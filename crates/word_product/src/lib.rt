@@ -70,7 +70,8 @@ fn dots(field: u8, a: &[u16], b: &[u16], out: &mut [u16])
     }
 }
 
-// The factors in their buffers, which are 0, for n strips of outputs.
+// The factors in their buffers, which are 0, for n strips of outputs. The strips read 16 n + 14 pairs of w; of
+// 16 n + 16 none is left over from LLVM's vectors.
 fn lay(a: &[u16], b: &[u16], x: &mut [u16], y: &mut [u16], w: &mut [u16], n: usize, p: u16)
     requires { ⌜ (32768 ≤ p) × (length (now a) ≤ length (now x)) × (length (now b) + 15 ≤ 16 * n) × (16 * n + 16 < length (now y)) × (32 * n + 32 ≤ length (now w)) × (n ≤ 1024) ⌝ }
     requires { ⌜ ZeroFrom 0 (now x) × ZeroFrom 0 (now y) × ZeroFrom 0 (now w) ⌝ }
@@ -207,8 +208,8 @@ fn convolve_any(field: u8, a: &[u16], b: &[u16], out: &mut [u16])
     );
 }
 
-// Two factors of at most so many words together are multiplied without buffers, where the first has n. Sums of few products take longer
-// only from a greater length on.
+// Two factors of at most so many words together are multiplied without buffers, where the first has n: the fewer products a word is the sum
+// of, the longer that is quicker.
 fn tiny(n: usize) -> usize
     ensures { λ r. ⌜ r ≤ 24 ⌝ }
 {

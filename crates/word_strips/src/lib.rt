@@ -1,8 +1,8 @@
 // Sixteen rows of a product, by pairs: row j is word j of the first factor times the second. Their words are added to two sums, of the
 // whole pairs and of their high halves, both modulo 2^32. The second factor stands in w, behind 15 zeros, each word beside the one before it;
 // the sixteen words of the first factor x stand in v, eight pairs, each sixteen times, so that LLVM reads both factors by vectors. Group g has
-// the rows from 16 g on, strip s of it sixteen outputs, from 16 s on: by these numbers, and not by the rows and outputs themselves, LLVM sees
-// how lo and hi are reached from one strip to the next, and takes the loop by vectors.
+// the rows from 16 g on, strip s of it sixteen outputs, from 16 s on: given these numbers in place of rows and outputs, LLVM takes the half
+// strips by vectors too (seen in the object code).
 ghost use Prim.Native.Nat.{_+_, _*_, _<_, _≤_};
 ghost use lib.ListN.{length};
 ghost use Rattle.refusal.specs.Contract.{given};

@@ -3,11 +3,12 @@ ghost use mathlib.Core.Path.{_≡_};
 ghost use Prim.Native.Nat.{_+_, _*_, _/_, _%_, _<_, _≤_};
 ghost use lib.ListN.{length};
 ghost use Rattle.refusal.specs.Contract.{given};
+ghost use Rattle.lists.specs.Words.{ZeroFrom};
 ghost use Rattle.word_pairs.specs.Pairs.{Odd};
 ghost use Rattle.word_grid.specs.Grid.{Grid, lowOf, highOf, Reducible, reducedWords};
 
-// All rows, sixteen after sixteen, each group of n strips. v is rewritten for each group.
-pub fn groups(
+// Groups of sixteen rows, one after the other, each of n strips. v is rewritten for each.
+fn groups(
     lo: &mut [u32],
     hi: &mut [u32],
     w: &[u16],
@@ -22,9 +23,31 @@ pub fn groups(
 {
     let mut g = 0;
     while g < count {
-        word_layout::spread(v, x, 16 * g);
-        word_strips::group(lo, hi, w, x, v, 16 * g, n);
+        word_layout::spread(v, x, 16 * g, 8);
+        word_strips::group(lo, hi, w, x, v, g, n);
         g += 1;
+    }
+}
+
+// All rows, m of them. Where eight or fewer are left for the last group, half of it is enough.
+pub fn add_rows(
+    lo: &mut [u32],
+    hi: &mut [u32],
+    w: &[u16],
+    x: &[u16],
+    v: &mut [u16],
+    m: usize,
+    n: usize,
+)
+    requires { ⌜ (m + 16 * n ≤ length (now lo) + 1) × (m + 16 * n ≤ length (now hi) + 1) × (32 * n + 28 ≤ length (now w)) × (m + 15 ≤ length (now x)) × (256 ≤ length (now v)) × (m ≤ 1024) × (n ≤ 1024) ⌝ }
+    requires { ⌜ Odd (now w) × ZeroFrom m (now x) ⌝ }
+    ensures { λ _. ⌜ Grid (given w) (given x) n (given lo) (given hi) ((m + 15) / 16) (now (lo .exit)) (now (hi .exit)) ⌝ }
+{
+    let g = (m + 7) / 16;
+    groups(lo, hi, w, x, v, g, n);
+    if 16 * g < m {
+        word_layout::spread(v, x, 16 * g, 4);
+        word_strips::half_group(lo, hi, w, x, v, g, n);
     }
 }
 

@@ -3,8 +3,7 @@
 --     stand-zero, odd-zero                     so does 0
 --     centre-start, centre-next                the words of a list, centred
 --     repeat-start, repeat-next, repeat-end    two words, sixteen times
---     Part x d v n                             the first n pairs of words of x from d on stand sixteen times each
---     part-start, part-next, part-end          one pair after the other
+--     spread-start, spread-next                pairs of words, one after the other
 --     woven-start, woven-next                  words beside the ones before them
 -- Assumes nothing.
 use mathlib.Core.Path.{_≡_, refl, sym, _∙_, subst}
@@ -103,16 +102,12 @@ at-end g n a b = omega arith
 pub repeat-end : {o s t l : ℕ} {old v : List ℕ} → 16 ≤ l → l ≤ 16 → Repeated o s t l old v → Repeated o s t 16 old v
 repeat-end {o} {s} {t} {l} {old} {v} a b c = subst (λ x. Repeated o s t x old v) (sym (at-end l 16 a b)) c
 
-pub record Part (x : List ℕ) (d : ℕ) (v : List ℕ) (n : ℕ) : Type 0 where
-  pub first : (l e : ℕ) → l < 16 → e < n → getD v (2 * l + 32 * e) 0 ≡ getD x (d + 2 * e) 0
-  pub second : (l e : ℕ) → l < 16 → e < n → getD v (2 * l + 32 * e + 1) 0 ≡ getD x (d + 2 * e + 1) 0
+pub spread-start : (x : List ℕ) (d : ℕ) (v : List ℕ) → Spread 0 v x d
+spread-start x d v = record { first = λ l e q h. absurd (omega arith); second = λ l e q h. absurd (omega arith) }
 
-pub part-start : (x : List ℕ) (d : ℕ) (v : List ℕ) → Part x d v 0
-part-start x d v = record { first = λ l e q h. absurd (omega arith); second = λ l e q h. absurd (omega arith) }
-
-pub part-next : {x : List ℕ} {d : ℕ} {v v′ : List ℕ} {j : ℕ} → Repeated (32 * j) (getD x (d + 2 * j) 0) (getD x (d + 2 * j + 1) 0) 16 v v′
-    → Part x d v j → Part x d v′ (j + 1)
-part-next {x} {d} {v} {v′} {j} t c =
+pub spread-next : {x : List ℕ} {d : ℕ} {v v′ : List ℕ} {j : ℕ} → Repeated (32 * j) (getD x (d + 2 * j) 0) (getD x (d + 2 * j + 1) 0) 16 v v′
+    → Spread j v x d → Spread (j + 1) v′ x d
+spread-next {x} {d} {v} {v′} {j} t c =
     record { first = λ l e q h. first l e q h (ℕ-discrete e j); second = λ l e q h. second l e q h (ℕ-discrete e j) }
   where
     turned : (l : ℕ) → 2 * l + 32 * j ≡ 32 * j + 2 * l
@@ -125,9 +120,6 @@ part-next {x} {d} {v} {v′} {j} t c =
     second : (l e : ℕ) → l < 16 → e < j + 1 → Dec (e ≡ j) → getD v′ (2 * l + 32 * e + 1) 0 ≡ getD x (d + 2 * e + 1) 0
     second l e q h (yes f) = rw (f, turned l) (t .second l q)
     second l e q h (no f) = t .below (2 * l + 32 * e + 1) (omega (arith, f)) ∙ c .second l e q (omega arith)
-
-pub part-end : {x : List ℕ} {d : ℕ} {v : List ℕ} {j : ℕ} → 8 ≤ j → Part x d v j → Spread v x d
-part-end h c = record { first = λ l e q g. c .first l e q (omega arith); second = λ l e q g. c .second l e q (omega arith) }
 
 pub woven-start : (y w : List ℕ) → ZeroFrom 0 w → Woven y w 0
 woven-start y w z = record { upper = λ i h. absurd (omega arith); lower = λ i h. absurd (omega arith); rest = λ k h. z .at k (omega arith) }

@@ -45,13 +45,13 @@ fn repeat_pair(v: &mut [u16], o: usize, s: u16, t: u16)
     }
 }
 
-// The eight pairs of words of x from d on, each sixteen times.
-pub fn spread(v: &mut [u16], x: &[u16], d: usize)
-    requires { ⌜ (256 ≤ length (now v)) × (d + 16 ≤ length (now x)) × (d ≤ 65536) ⌝ }
-    ensures { λ _. ⌜ Spread (now (v .exit)) (given x) d ⌝ }
+// The first n pairs of words of x from d on, each sixteen times.
+pub fn spread(v: &mut [u16], x: &[u16], d: usize, n: usize)
+    requires { ⌜ (32 * n ≤ length (now v)) × (d + 2 * n ≤ length (now x)) × (d ≤ 65536) × (n ≤ 8) ⌝ }
+    ensures { λ _. ⌜ Spread n (now (v .exit)) (given x) d ⌝ }
 {
     let mut j = 0;
-    while j < 8 {
+    while j < n {
         repeat_pair(v, 32 * j, x[d + 2 * j], x[d + 2 * j + 1]);
         j += 1;
     }

@@ -7,7 +7,7 @@
 --     high-fits, high-plain                      an integer without its low half
 --     wide-fits, bits-fits, bits-plain           an integer's bits, by 64 bits
 --     mul-fits, sum-fits, sum-is                 two products, and their sum
---     first-whole .. high-sum                    sums modulo 2^32: the first number, one more, and all eight
+--     first-whole .. high-sum                    sums modulo 2^32: the first number, one more, and all four
 -- Assumes nothing.
 use mathlib.Core.Path.{_≡_, refl, sym, ap, _∙_, subst}
 use Prim.Native.Nat.{ℕ, zero, suc, _+_, _-_, _*_, _/_, _%_, _≤_, _<_}
@@ -228,14 +228,12 @@ module _ (t : ℤ) (f : SFits w32 t) where
   pub more-high : (n : ℕ) {s r : ℕ} → s ≡ n % 4294967296 → r ≡ (s + up32 (rd t) / 65536) % 4294967296 → r ≡ (n + up32 t / 65536) % 4294967296
   more-high n e g = omega (arith, e, g, back)
 
-pub whole-sum : (a u0 u1 u2 u3 u4 u5 u6 u7 : ℕ) {r : ℕ}
-    → r ≡ (a + (u0 + 2147483648) + (u1 + 2147483648) + (u2 + 2147483648) + (u3 + 2147483648) + (u4 + 2147483648) + (u5 + 2147483648) + (u6 + 2147483648) + (u7 + 2147483648)) % 4294967296
-    → r ≡ (a + (u0 + u1 + u2 + u3 + u4 + u5 + u6 + u7)) % 4294967296
-whole-sum a u0 u1 u2 u3 u4 u5 u6 u7 e = omega (arith, e)
+pub whole-sum : (a u0 u1 u2 u3 : ℕ) {r : ℕ}
+    → r ≡ (a + (u0 + 2147483648) + (u1 + 2147483648) + (u2 + 2147483648) + (u3 + 2147483648)) % 4294967296 → r ≡ (a + (u0 + u1 + u2 + u3)) % 4294967296
+whole-sum a u0 u1 u2 u3 e = omega (arith, e)
 
-pub high-sum : (a u0 u1 u2 u3 u4 u5 u6 u7 : ℕ) {r : ℕ} → r ≡ (a + u0 + u1 + u2 + u3 + u4 + u5 + u6 + u7) % 4294967296
-    → r ≡ (a + (u0 + u1 + u2 + u3 + u4 + u5 + u6 + u7)) % 4294967296
-high-sum a u0 u1 u2 u3 u4 u5 u6 u7 e = omega (arith, e)
+pub high-sum : (a u0 u1 u2 u3 : ℕ) {r : ℕ} → r ≡ (a + u0 + u1 + u2 + u3) % 4294967296 → r ≡ (a + (u0 + u1 + u2 + u3)) % 4294967296
+high-sum a u0 u1 u2 u3 e = omega (arith, e)
 
 pub rd-fits : (z : ℤ) → SFits w32 z → SFits w32 (rd z)
 rd-fits z f = subst (λ x. SFits w32 x) (sym (toZ-ofZ w32 z f)) f

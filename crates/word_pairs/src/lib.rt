@@ -59,51 +59,23 @@ fn add_high(s: u32, t: i32) -> u32
     std::num::wrapping_add_u32(s, high(t))
 }
 
-// Eight integers more, modulo 2^32: 8 · 2^31 is 0.
-pub fn gain_whole(
-    a: u32,
-    t0: i32,
-    t1: i32,
-    t2: i32,
-    t3: i32,
-    t4: i32,
-    t5: i32,
-    t6: i32,
-    t7: i32,
-) -> u32
-    ensures { λ r. ⌜ r ≡ (a + (up32 t0 + up32 t1 + up32 t2 + up32 t3 + up32 t4 + up32 t5 + up32 t6 + up32 t7)) % 4294967296 ⌝ }
+// Four integers more, modulo 2^32: 4 · 2^31 is 0.
+pub fn gain_whole(a: u32, t0: i32, t1: i32, t2: i32, t3: i32) -> u32
+    ensures { λ r. ⌜ r ≡ (a + (up32 t0 + up32 t1 + up32 t2 + up32 t3)) % 4294967296 ⌝ }
 {
     let s0 = add_bits(a, t0);
     let s1 = add_bits(s0, t1);
     let s2 = add_bits(s1, t2);
-    let s3 = add_bits(s2, t3);
-    let s4 = add_bits(s3, t4);
-    let s5 = add_bits(s4, t5);
-    let s6 = add_bits(s5, t6);
-    add_bits(s6, t7)
+    add_bits(s2, t3)
 }
 
-// Eight high halves more, modulo 2^32, each less the 2^15 that it is above: 2^32 - 8 · 2^15 is added first.
-pub fn gain_high(
-    a: u32,
-    t0: i32,
-    t1: i32,
-    t2: i32,
-    t3: i32,
-    t4: i32,
-    t5: i32,
-    t6: i32,
-    t7: i32,
-) -> u32
-    ensures { λ r. ⌜ r ≡ (a + 4294705152 + (up32 t0 / 65536 + up32 t1 / 65536 + up32 t2 / 65536 + up32 t3 / 65536 + up32 t4 / 65536 + up32 t5 / 65536 + up32 t6 / 65536 + up32 t7 / 65536)) % 4294967296 ⌝ }
+// Four high halves more, modulo 2^32, each less the 2^15 that it is above: 2^32 - 4 · 2^15 is added first.
+pub fn gain_high(a: u32, t0: i32, t1: i32, t2: i32, t3: i32) -> u32
+    ensures { λ r. ⌜ r ≡ (a + 4294836224 + (up32 t0 / 65536 + up32 t1 / 65536 + up32 t2 / 65536 + up32 t3 / 65536)) % 4294967296 ⌝ }
 {
-    let s = std::num::wrapping_add_u32(a, 4294705152);
+    let s = std::num::wrapping_add_u32(a, 4294836224);
     let s0 = add_high(s, t0);
     let s1 = add_high(s0, t1);
     let s2 = add_high(s1, t2);
-    let s3 = add_high(s2, t3);
-    let s4 = add_high(s3, t4);
-    let s5 = add_high(s4, t5);
-    let s6 = add_high(s5, t6);
-    add_high(s6, t7)
+    add_high(s2, t3)
 }

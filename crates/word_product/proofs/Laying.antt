@@ -61,24 +61,24 @@ stand-front {p} {b} {y} c k = go (decLt k 15)
     go (no h) =
         subst (λ i. Stand p (getD (front b) i 0) (getD y i 0)) (split 15 k (omega arith)) (rw (front-at b (k - 15)) (stand-at c (k - 15)))
 
-module _ {p : ℕ} {a b x y w : List ℕ} (n : ℕ) (ca : Centred p 0 a x (length a)) (cb : Centred p 15 b y (length b)) (wo : Woven y w (16 * n + 14))
+module _ {p : ℕ} {a b x y w : List ℕ} (n : ℕ) (ca : Centred p 0 a x (length a)) (cb : Centred p 15 b y (length b)) (wo : Woven y w (16 * n + 16))
     (lb : length b + 15 ≤ 16 * n) where
   first : (k : ℕ) → Stand p (getD a k 0) (getD x k 0)
   first k = subst (λ i. Stand p (getD a k 0) (getD x i 0)) (zero-add k) (stand-at ca k)
 
-  upper : (q : ℕ) → Dec (q < 16 * n + 14) → Stand p (getD (front b) (q + 1) 0) (getD w (2 * q) 0)
+  upper : (q : ℕ) → Dec (q < 16 * n + 16) → Stand p (getD (front b) (q + 1) 0) (getD w (2 * q) 0)
   upper q (yes h) = rw (wo .upper q h) (stand-front cb (q + 1))
   upper q (no h) = rw (front-end b (q + 1) (omega (arith, lb)), wo .rest (2 * q) (omega arith)) (stand-zero p)
 
-  lower : (q : ℕ) → Dec (q < 16 * n + 14) → Stand p (getD (front b) q 0) (getD w (2 * q + 1) 0)
+  lower : (q : ℕ) → Dec (q < 16 * n + 16) → Stand p (getD (front b) q 0) (getD w (2 * q + 1) 0)
   lower q (yes h) = rw (wo .lower q h) (stand-front cb q)
   lower q (no h) = rw (front-end b q (omega (arith, lb)), wo .rest (2 * q + 1) (omega arith)) (stand-zero p)
 
-  odd-even : (i : ℕ) → Dec (i < 16 * n + 14) → 0 < up (getD w (2 * i) 0)
+  odd-even : (i : ℕ) → Dec (i < 16 * n + 16) → 0 < up (getD w (2 * i) 0)
   odd-even i (yes h) = rw (wo .upper i h) (cb .odd .at (i + 1))
   odd-even i (no h) = rw (wo .rest (2 * i) (omega arith)) odd-zero
 
-  odd-odd : (i : ℕ) → Dec (i < 16 * n + 14) → 0 < up (getD w (2 * i + 1) 0)
+  odd-odd : (i : ℕ) → Dec (i < 16 * n + 16) → 0 < up (getD w (2 * i + 1) 0)
   odd-odd i (yes h) = rw (wo .lower i h) (cb .odd .at i)
   odd-odd i (no h) = rw (wo .rest (2 * i + 1) (omega arith)) odd-zero
 
@@ -89,17 +89,18 @@ module _ {p : ℕ} {a b x y w : List ℕ} (n : ℕ) (ca : Centred p 0 a x (lengt
   half-odd k e = omega (arith, e)
 
   odd-all : (k : ℕ) → Dec (k % 2 ≡ 0) → 0 < up (getD w k 0)
-  odd-all k (yes e) = subst (λ i. 0 < up (getD w i 0)) (half k e) (odd-even (k / 2) (decLt (k / 2) (16 * n + 14)))
-  odd-all k (no e) = subst (λ i. 0 < up (getD w i 0)) (half-odd k e) (odd-odd (k / 2) (decLt (k / 2) (16 * n + 14)))
+  odd-all k (yes e) = subst (λ i. 0 < up (getD w i 0)) (half k e) (odd-even (k / 2) (decLt (k / 2) (16 * n + 16)))
+  odd-all k (no e) = subst (λ i. 0 < up (getD w i 0)) (half-odd k e) (odd-odd (k / 2) (decLt (k / 2) (16 * n + 16)))
 
   pub ready : Ready p a b w x
   ready = record {
     odd = record { at = λ k. odd-all k (ℕ-discrete (k % 2) 0) };
     laid = record {
       first = first;
-      upper = λ q. upper q (decLt q (16 * n + 14));
-      lower = λ q. lower q (decLt q (16 * n + 14));
+      upper = λ q. upper q (decLt q (16 * n + 16));
+      lower = λ q. lower q (decLt q (16 * n + 16));
     };
+    zero = record { at = λ k h. ca .rest k (omega arith) };
   }
 
 module _ (a b : List ℕ) where

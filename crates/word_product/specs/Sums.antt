@@ -3,7 +3,7 @@
 --     wordSum a b k                       word k of the product of two lists
 --     remainders p n a b                  the first n of these words, reduced
 --     front b                             a list behind 15 zeros
---     Ready p a b w x                     the factors are laid: the first in x, the second in w
+--     Ready p a b w x                     the factors are laid: the first in x, with zeros behind it, the second in w
 --     fewWords, moreWords, manyWords      two factors of at most so many words together take the buffers of the size that has this name
 -- Theorems, each in the module of proofs/ that is named:
 --     convolution-is     the words, reduced, are the product (Convolution)
@@ -12,8 +12,9 @@
 -- Assumes nothing.
 use mathlib.Core.List.{List, _++_}
 use Prim.Native.Nat.{ℕ, suc, _-_, _*_, _%_}
-use lib.ListN.{getD, replicate}
+use lib.ListN.{length, getD, replicate}
 use Rattle.lists.specs.Tabulate.{tabulate}
+use Rattle.lists.specs.Words.{ZeroFrom}
 use Rattle.word_pairs.specs.Pairs.{Odd}
 use Rattle.word_grid.specs.Grid.{Laid, sumTo}
 
@@ -32,6 +33,7 @@ front b = replicate 15 0 ++ b
 pub record Ready (p : ℕ) (a b w x : List ℕ) : Type 0 where
   pub odd : Odd w
   pub laid : Laid p a (front b) w x
+  pub zero : ZeroFrom (length a) x
 
 abbrev pub fewWords : ℕ
 fewWords = 48

@@ -11,9 +11,6 @@ ghost use Rattle.lists.specs.Words.{ZeroFrom};
 ghost use Rattle.word_product.specs.Convolution.{convolvedInto, convolution};
 ghost use Rattle.word_product.specs.Sums.{wordSum, Ready, fewWords, moreWords, manyWords};
 
-// Two factors of at most so many words together are multiplied without buffers.
-const TINY: usize = 24;
-
 // The words of the buffers, which are filled with zeros: there are four sizes, for factors of at most so many words together, and for any.
 const FEW: usize = 48;
 
@@ -73,15 +70,16 @@ fn dots(field: u8, a: &[u16], b: &[u16], out: &mut [u16])
     }
 }
 
-// The factors in their buffers, which are 0, for n strips of outputs.
+// The factors in their buffers, which are 0, for n strips of outputs. The strips read 16 n + 14 pairs of w; of
+// 16 n + 16 none is left over from LLVM's vectors.
 fn lay(a: &[u16], b: &[u16], x: &mut [u16], y: &mut [u16], w: &mut [u16], n: usize, p: u16)
-    requires { ⌜ (32768 ≤ p) × (length (now a) ≤ length (now x)) × (length (now b) + 15 ≤ 16 * n) × (16 * n + 14 < length (now y)) × (32 * n + 28 ≤ length (now w)) × (n ≤ 1024) ⌝ }
+    requires { ⌜ (32768 ≤ p) × (length (now a) ≤ length (now x)) × (length (now b) + 15 ≤ 16 * n) × (16 * n + 16 < length (now y)) × (32 * n + 32 ≤ length (now w)) × (n ≤ 1024) ⌝ }
     requires { ⌜ ZeroFrom 0 (now x) × ZeroFrom 0 (now y) × ZeroFrom 0 (now w) ⌝ }
     ensures { λ _. ⌜ Ready p (given a) (given b) (now (w .exit)) (now (x .exit)) ⌝ }
 {
     word_layout::centre(x, 0, a, p);
     word_layout::centre(y, 15, b, p);
-    word_layout::weave(w, y, 16 * n + 14);
+    word_layout::weave(w, y, 16 * n + 16);
 }
 
 // The product, with buffers that are 0; v may hold anything.
@@ -98,16 +96,15 @@ fn convolve_in(
     out: &mut [u16],
 )
     requires { ⌜ (length (now a) ≤ maxWords) × (length (now b) ≤ maxWords) × (length (now out) + 1 ≡ length (now a) + length (now b)) ⌝ }
-    requires { ⌜ (length (now a) + 15 ≤ length (now x)) × (length (now b) + 45 ≤ length (now y)) × (2 * length (now b) + 88 ≤ length (now w)) × (256 ≤ length (now v)) ⌝ }
+    requires { ⌜ (length (now a) + 15 ≤ length (now x)) × (length (now b) + 47 ≤ length (now y)) × (2 * length (now b) + 92 ≤ length (now w)) × (256 ≤ length (now v)) ⌝ }
     requires { ⌜ (length (now a) + length (now b) + 29 ≤ length (now lo)) × (length (now a) + length (now b) + 29 ≤ length (now hi)) ⌝ }
     requires { ⌜ ZeroFrom 0 (now x) × ZeroFrom 0 (now y) × ZeroFrom 0 (now w) × ZeroFrom 0 (now lo) × ZeroFrom 0 (now hi) ⌝ }
     ensures { λ _. ⌜ now (out .exit) ≡ convolution (fieldAt field) (given a) (given b) ⌝ }
 {
     let p = field::modulus_of(field);
-    let g = (a.len() + 15) / 16;
     let n = (b.len() + 30) / 16;
     lay(a, b, x, y, w, n, p);
-    word_grid::groups(lo, hi, w, x, v, g, n);
+    word_grid::add_rows(lo, hi, w, x, v, a.len(), n);
     word_grid::reduce_words(lo, hi, out, p as u32);
 }
 
@@ -211,13 +208,21 @@ fn convolve_any(field: u8, a: &[u16], b: &[u16], out: &mut [u16])
     );
 }
 
+// Two factors of at most so many words together are multiplied without buffers, where the first has n: the fewer products a word is the sum
+// of, the longer that is quicker.
+fn tiny(n: usize) -> usize
+    ensures { λ r. ⌜ r ≤ 24 ⌝ }
+{
+    if n <= 4 { 24 } else { 20 }
+}
+
 // The product, where the lengths fit, with buffers of the size that it needs.
 fn convolve_fitting(field: u8, a: &[u16], b: &[u16], out: &mut [u16])
     requires { ⌜ (length (now a) ≤ maxWords) × (length (now b) ≤ maxWords) × (length (now out) + 1 ≡ length (now a) + length (now b)) ⌝ }
     ensures { λ _. ⌜ now (out .exit) ≡ convolution (fieldAt field) (given a) (given b) ⌝ }
 {
     let together = a.len() + b.len();
-    if together <= TINY {
+    if together <= tiny(a.len()) {
         dots(field, a, b, out);
         return;
     }

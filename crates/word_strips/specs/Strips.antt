@@ -4,7 +4,7 @@
 --     eight f                the sum of eight pairs, each with its d and e
 --     wholeAt w x j k        output k of the sixteen rows from j on, above -2^34
 --     highAt w x j k         the sum of its pairs' high halves, above -2^18
---     Spread v x j           each of the eight pairs of words of x from j on stands sixteen times in v
+--     Spread n v x j         each of the first n pairs of words of x from j on stands sixteen times in v
 --     Gain a b c d s h       the sums a and b become c and d: a gains s, b gains h less 2^18
 --     Span w x b m n         outputs m to n - 1 of the sixteen rows from b on, which stand from b + m on in lo and hi, have gained; the
 --                            rest is what it was
@@ -27,9 +27,9 @@ wholeAt w x j k = eight (λ d e. pairAt w x j k d e)
 unfoldable pub highAt : (w x : List ℕ) → (j k : ℕ) → ℕ
 highAt w x j k = eight (λ d e. pairAt w x j k d e / 65536)
 
-pub record Spread (v x : List ℕ) (j : ℕ) : Type 0 where
-  pub first : (l e : ℕ) → l < 16 → e < 8 → getD v (2 * l + 32 * e) 0 ≡ getD x (j + 2 * e) 0
-  pub second : (l e : ℕ) → l < 16 → e < 8 → getD v (2 * l + 32 * e + 1) 0 ≡ getD x (j + 2 * e + 1) 0
+pub record Spread (n : ℕ) (v x : List ℕ) (j : ℕ) : Type 0 where
+  pub first : (l e : ℕ) → l < 16 → e < n → getD v (2 * l + 32 * e) 0 ≡ getD x (j + 2 * e) 0
+  pub second : (l e : ℕ) → l < 16 → e < n → getD v (2 * l + 32 * e + 1) 0 ≡ getD x (j + 2 * e + 1) 0
 
 pub record Gain (a b c d s h : ℕ) : Type 0 where
   pub whole : c ≡ (a + s) % 4294967296

@@ -4,6 +4,7 @@ use mathlib.Core.Path.{_≡_, refl}
 use Prim.Native.Nat.{_-_, _≤_}
 use native.Mathlib.Numerals.{add-one}
 use native.Mathlib.Omega.{arith}
+use lib.Dec.{leb→le}
 use lib.ListN.{length}
 use Rattle.word_grid.specs.Grid.{Grid}
 use Rattle.word_layout.proofs.Loops.{at-end}
@@ -27,10 +28,7 @@ mul-spread c = record { fits = omega (arith, c .before .before .before .before .
 spread-requires : tie.Need-spread-requires Inv-loop μ-loop
 spread-requires c κs =
     let h = c .before .before .before .before .before .before .before .before .pre .0 in
-    (omega (arith, h, c .before .before .loop .inv .1), omega (arith, h, c .before .loop-test .taken), omega (arith, h, c .before .loop-test .taken))
-
-mul-group : tie.Need-mul-group Inv-loop μ-loop
-mul-group c = record { fits = omega (arith, c .before .before .before .before .before .before .before .before .before .before .before .before .before .before .pre .0, c .before .before .before .before .before .before .before .before .loop .inv .0) }
+    (omega (arith, h, c .before .before .loop .inv .1), omega (arith, h, c .before .loop-test .taken), omega (arith, h, c .before .loop-test .taken), leb→le 8 8 tt)
 
 group-requires : tie.Need-group-requires Inv-loop μ-loop
 group-requires c κs =
@@ -81,7 +79,6 @@ groups-spec =
     loop-holds
     mul-spread
     spread-requires
-    mul-group
     group-requires
     add-g
     loop-less

@@ -4,19 +4,20 @@ use mathlib.Core.Path.{_≡_, refl, _∙_}
 use Prim.Native.Nat.{_-_, _≤_}
 use native.Mathlib.Omega.{arith}
 use lib.ListN.{length}
-use Rattle.word_layout.proofs.Loops.{Part, part-start, part-next, part-end}
+use Rattle.word_strips.specs.Strips.{Spread}
+use Rattle.word_layout.proofs.Loops.{spread-start, spread-next, at-end}
 use borrow.Author.Needs.{needs}
 use Rattle.word_layout.proofs.spread.Statement.{statement}
 use Rattle.word_layout.proofs.spread.Tie as tie
 
 abbrev Inv-loop : tie.InvT-loop
-Inv-loop v₀ x d j₀ v j = (j ≤ 8) × (length v ≡ length v₀) × Part x d v j
+Inv-loop v₀ x d n j₀ v j = (j ≤ n) × (length v ≡ length v₀) × Spread j v x d
 
 abbrev μ-loop : tie.MeasureT-loop
-μ-loop v₀ x d j₀ v j = 8 - j
+μ-loop v₀ x d n j₀ v j = n - j
 
 loop-holds : tie.Need-loop-holds Inv-loop μ-loop
-loop-holds c = (search needs, refl, part-start _ _ _)
+loop-holds c = (search needs, refl, spread-start _ _ _)
 
 mul-repeat-pair : tie.Need-mul-repeat-pair Inv-loop μ-loop
 mul-repeat-pair c = search needs
@@ -58,13 +59,13 @@ loop-less : tie.Need-loop-less Inv-loop μ-loop
 loop-less c = omega arith
 
 loop-again : tie.Need-loop-again Inv-loop μ-loop
-loop-again c = (omega arith, c .before .before .repeat-pair .ensures .size ∙ c .before .before .before .before .before .before .before .loop .inv .1, part-next (c .before .before .repeat-pair .ensures) (c .before .before .before .before .before .before .before .loop .inv .2))
+loop-again c = (omega arith, c .before .before .repeat-pair .ensures .size ∙ c .before .before .before .before .before .before .before .loop .inv .1, spread-next (c .before .before .repeat-pair .ensures) (c .before .before .before .before .before .before .before .loop .inv .2))
 
 same-length : tie.Need-same-length Inv-loop μ-loop
 same-length c = c .before .loop .inv .1
 
 returns : tie.Need-returns Inv-loop μ-loop
-returns c = part-end (c .loop-test .left) (c .before .loop .inv .2)
+returns c = rw (at-end _ _ (c .loop-test .left) (c .before .loop .inv .0)) (c .before .loop .inv .2)
 
 pub spread-spec : {M : Type 1} → statement M
 spread-spec =

@@ -20,32 +20,16 @@ add-high-requires-3 c κs = search needs
 add-high-requires-4 : tie.Need-add-high-requires-4
 add-high-requires-4 c κs = search needs
 
-add-high-requires-5 : tie.Need-add-high-requires-5
-add-high-requires-5 c κs = search needs
-
-add-high-requires-6 : tie.Need-add-high-requires-6
-add-high-requires-6 c κs = search needs
-
-add-high-requires-7 : tie.Need-add-high-requires-7
-add-high-requires-7 c κs = search needs
-
-add-high-requires-8 : tie.Need-add-high-requires-8
-add-high-requires-8 c κs = search needs
-
 returns : tie.Need-returns
 returns c =
-    let a = c .before .before .before .before .before .before .before .before .before .args in
-    let f = c .before .before .before .before .before .before .before .before .before .fits in
-    let s = c .before .before .before .before .before .before .before .before .wrapping-add-u32 .ensures in
-    let s0 = more-high (a .t0) (f .t0) _ s (c .before .before .before .before .before .before .before .add-high .ensures) in
-    let s1 = more-high (a .t1) (f .t1) _ s0 (c .before .before .before .before .before .before .add-high2 .ensures) in
-    let s2 = more-high (a .t2) (f .t2) _ s1 (c .before .before .before .before .before .add-high3 .ensures) in
-    let s3 = more-high (a .t3) (f .t3) _ s2 (c .before .before .before .before .add-high4 .ensures) in
-    let s4 = more-high (a .t4) (f .t4) _ s3 (c .before .before .before .add-high5 .ensures) in
-    let s5 = more-high (a .t5) (f .t5) _ s4 (c .before .before .add-high6 .ensures) in
-    let s6 = more-high (a .t6) (f .t6) _ s5 (c .before .add-high7 .ensures) in
-    let s7 = more-high (a .t7) (f .t7) _ s6 (c .add-high8 .ensures) in
-    high-sum _ _ _ _ _ _ _ _ _ s7
+    let a = c .before .before .before .before .before .args in
+    let f = c .before .before .before .before .before .fits in
+    let s = c .before .before .before .before .wrapping-add-u32 .ensures in
+    let s0 = more-high (a .t0) (f .t0) _ s (c .before .before .before .add-high .ensures) in
+    let s1 = more-high (a .t1) (f .t1) _ s0 (c .before .before .add-high2 .ensures) in
+    let s2 = more-high (a .t2) (f .t2) _ s1 (c .before .add-high3 .ensures) in
+    let s3 = more-high (a .t3) (f .t3) _ s2 (c .add-high4 .ensures) in
+    high-sum _ _ _ _ _ s3
 
 pub gain-high-spec : {M : Type 1} → statement M
 gain-high-spec =
@@ -56,8 +40,4 @@ gain-high-spec =
     add-high-requires-2
     add-high-requires-3
     add-high-requires-4
-    add-high-requires-5
-    add-high-requires-6
-    add-high-requires-7
-    add-high-requires-8
     returns)

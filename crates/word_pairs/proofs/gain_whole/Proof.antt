@@ -17,31 +17,15 @@ add-bits-requires-3 c κs = search needs
 add-bits-requires-4 : tie.Need-add-bits-requires-4
 add-bits-requires-4 c κs = search needs
 
-add-bits-requires-5 : tie.Need-add-bits-requires-5
-add-bits-requires-5 c κs = search needs
-
-add-bits-requires-6 : tie.Need-add-bits-requires-6
-add-bits-requires-6 c κs = search needs
-
-add-bits-requires-7 : tie.Need-add-bits-requires-7
-add-bits-requires-7 c κs = search needs
-
-add-bits-requires-8 : tie.Need-add-bits-requires-8
-add-bits-requires-8 c κs = search needs
-
 returns : tie.Need-returns
 returns c =
-    let a = c .before .before .before .before .before .before .before .before .args in
-    let f = c .before .before .before .before .before .before .before .before .fits in
-    let s0 = first-whole (a .t0) (f .t0) _ (c .before .before .before .before .before .before .before .add-bits .ensures) in
-    let s1 = more-whole (a .t1) (f .t1) _ s0 (c .before .before .before .before .before .before .add-bits2 .ensures) in
-    let s2 = more-whole (a .t2) (f .t2) _ s1 (c .before .before .before .before .before .add-bits3 .ensures) in
-    let s3 = more-whole (a .t3) (f .t3) _ s2 (c .before .before .before .before .add-bits4 .ensures) in
-    let s4 = more-whole (a .t4) (f .t4) _ s3 (c .before .before .before .add-bits5 .ensures) in
-    let s5 = more-whole (a .t5) (f .t5) _ s4 (c .before .before .add-bits6 .ensures) in
-    let s6 = more-whole (a .t6) (f .t6) _ s5 (c .before .add-bits7 .ensures) in
-    let s7 = more-whole (a .t7) (f .t7) _ s6 (c .add-bits8 .ensures) in
-    whole-sum _ _ _ _ _ _ _ _ _ s7
+    let a = c .before .before .before .before .args in
+    let f = c .before .before .before .before .fits in
+    let s0 = first-whole (a .t0) (f .t0) _ (c .before .before .before .add-bits .ensures) in
+    let s1 = more-whole (a .t1) (f .t1) _ s0 (c .before .before .add-bits2 .ensures) in
+    let s2 = more-whole (a .t2) (f .t2) _ s1 (c .before .add-bits3 .ensures) in
+    let s3 = more-whole (a .t3) (f .t3) _ s2 (c .add-bits4 .ensures) in
+    whole-sum _ _ _ _ _ s3
 
 pub gain-whole-spec : {M : Type 1} → statement M
 gain-whole-spec =
@@ -51,8 +35,4 @@ gain-whole-spec =
     add-bits-requires-2
     add-bits-requires-3
     add-bits-requires-4
-    add-bits-requires-5
-    add-bits-requires-6
-    add-bits-requires-7
-    add-bits-requires-8
     returns)

@@ -17,9 +17,6 @@ use Rattle.word_product.proofs.convolve_in.Tie as tie
 modulus-of-requires : tie.Need-modulus-of-requires
 modulus-of-requires c κs = search needs
 
-add-g : tie.Need-add-g
-add-g c = search needs
-
 add-n : tie.Need-add-n
 add-n c = search needs
 
@@ -38,8 +35,8 @@ lay-requires c κs =
       (h .1 .1 .1 .0, h .1 .1 .1 .1, h .1 .1 .1 .2),
     )
 
-groups-requires : tie.Need-groups-requires
-groups-requires c κs =
+add-rows-requires : tie.Need-add-rows-requires
+add-rows-requires c κs =
     let h = c .before .before .before .before .before .before .before .before .before .before .before .before .before .before .before .before .before .before .before .before .before .before .before .before .before .pre in (
       (
         omega (arith, h .1 .1 .0 .0),
@@ -47,10 +44,10 @@ groups-requires c κs =
         omega (arith, h .1 .0 .2, c .before .before .before .before .before .before .before .before .before .before .before .lay .kept),
         omega (arith, h .1 .0 .0, c .before .before .before .before .before .before .before .before .before .before .before .lay .kept),
         h .1 .0 .3,
-        omega (arith, h .0),
+        h .0 .0,
         omega (arith, h .0),
       ),
-      c .before .before .before .before .before .before .before .before .before .before .before .lay .ensures .odd,
+      (c .before .before .before .before .before .before .before .before .before .before .before .lay .ensures .odd, c .before .before .before .before .before .before .before .before .before .before .before .lay .ensures .zero),
     )
 
 cast-reduce-words : tie.Need-cast-reduce-words
@@ -64,9 +61,9 @@ reduce-words-requires c κs =
     let hp : c .before .before .before .before .before .before .before .before .before .before .before .before .before .before .before .before .before .before .before .before .before .before .before .before .before .modulus-of .result ≤ 65521 = omega (arith, modulus-high (c .before .before .before .before .before .before .before .before .before .before .before .before .before .before .before .before .before .before .before .before .before .before .before .before .before .before .before .before .before .before .before .before .before .before .before .args .field), c .before .before .before .before .before .before .before .before .before .before .before .before .before .before .before .before .before .before .before .before .before .before .before .before .before .modulus-of .ensures) in (
       lp,
       hp,
-      omega (arith, h .0, h .1 .1 .0, c .before .before .before .before .before .before .before .before .before .groups .kept),
-      omega (arith, h .0, h .1 .1 .0, c .before .before .before .before .before .before .before .before .before .groups .kept),
-      grid-reducible lp hp (c .before .before .before .before .before .before .before .before .before .before .before .before .before .before .before .before .before .before .before .before .before .lay .ensures .laid) (framed _ (16 * n) (omega arith)) (h .1 .1 .1 .3) (h .1 .1 .1 .4) (omega (arith, h .0)) (c .before .before .before .before .before .before .before .before .before .groups .ensures),
+      omega (arith, h .0, h .1 .1 .0, c .before .before .before .before .before .before .before .before .before .add-rows .kept),
+      omega (arith, h .0, h .1 .1 .0, c .before .before .before .before .before .before .before .before .before .add-rows .kept),
+      grid-reducible lp hp (c .before .before .before .before .before .before .before .before .before .before .before .before .before .before .before .before .before .before .before .before .before .lay .ensures .laid) (framed _ (16 * n) (omega arith)) (h .1 .1 .1 .3) (h .1 .1 .1 .4) (omega (arith, h .0)) (c .before .before .before .before .before .before .before .before .before .add-rows .ensures),
     )
 
 same-length : tie.Need-same-length
@@ -101,7 +98,7 @@ returns c =
     let lp : 65497 ≤ c .before .before .before .before .before .before .before .before .before .before .before .before .before .before .before .before .before .before .before .before .before .before .before .before .before .before .before .before .modulus-of .result = omega (arith, modulus-low (c .before .before .before .before .before .before .before .before .before .before .before .before .before .before .before .before .before .before .before .before .before .before .before .before .before .before .before .before .before .before .before .before .before .before .before .before .before .before .args .field), c .before .before .before .before .before .before .before .before .before .before .before .before .before .before .before .before .before .before .before .before .before .before .before .before .before .before .before .before .modulus-of .ensures) in
     let hp : c .before .before .before .before .before .before .before .before .before .before .before .before .before .before .before .before .before .before .before .before .before .before .before .before .before .before .before .before .modulus-of .result ≤ 65521 = omega (arith, modulus-high (c .before .before .before .before .before .before .before .before .before .before .before .before .before .before .before .before .before .before .before .before .before .before .before .before .before .before .before .before .before .before .before .before .before .before .before .before .before .before .args .field), c .before .before .before .before .before .before .before .before .before .before .before .before .before .before .before .before .before .before .before .before .before .before .before .before .before .before .before .before .modulus-of .ensures) in
     c .before .before .reduce-words .ensures
-    ∙ reduced-is a b lp hp g n m (c .before .before .before .before .before .before .before .before .before .before .before .before .before .before .before .before .before .before .before .before .before .before .before .before .lay .ensures) (omega arith) (omega (arith, h .0)) (omega arith) (h .1 .1 .1 .3) (h .1 .1 .1 .4) (c .before .before .before .before .before .before .before .before .before .before .before .before .groups .ensures)
+    ∙ reduced-is a b lp hp g n m (c .before .before .before .before .before .before .before .before .before .before .before .before .before .before .before .before .before .before .before .before .before .before .before .before .lay .ensures) (omega arith) (omega (arith, h .0)) (omega arith) (h .1 .1 .1 .3) (h .1 .1 .1 .4) (c .before .before .before .before .before .before .before .before .before .before .before .before .add-rows .ensures)
     ∙ convolution-is (fieldAt (c .before .before .before .before .before .before .before .before .before .before .before .before .before .before .before .before .before .before .before .before .before .before .before .before .before .before .before .before .before .before .before .before .before .before .before .before .before .before .args .field)) a b (p-at (c .before .before .before .before .before .before .before .before .before .before .before .before .before .before .before .before .before .before .before .before .before .before .before .before .before .before .before .before .before .before .before .before .before .before .before .before .before .before .args .field) ∙ sym (c .before .before .before .before .before .before .before .before .before .before .before .before .before .before .before .before .before .before .before .before .before .before .before .before .before .before .before .before .modulus-of .ensures)) m (omega (arith, h .0))
 
 pub convolve-in-spec : {M : Type 1} → statement M
@@ -109,10 +106,9 @@ convolve-in-spec =
     tie.close
     (tie.spec
     modulus-of-requires
-    add-g
     add-n
     lay-requires
-    groups-requires
+    add-rows-requires
     cast-reduce-words
     reduce-words-requires
     same-length

@@ -9,16 +9,13 @@ use Rattle.word_strips.proofs.group.Statement.{statement}
 use Rattle.word_strips.proofs.group.Tie as tie
 
 abbrev Inv-loop : tie.InvT-loop
-Inv-loop lo₀ hi₀ w x v b n s₀ lo hi s = (s ≤ n) × Span w x b 0 (16 * s) lo₀ hi₀ lo hi
+Inv-loop lo₀ hi₀ w x v g n s₀ lo hi s = (s ≤ n) × Span w x (16 * g) 0 (16 * s) lo₀ hi₀ lo hi
 
 abbrev μ-loop : tie.MeasureT-loop
-μ-loop lo₀ hi₀ w x v b n s₀ lo hi s = n - s
+μ-loop lo₀ hi₀ w x v g n s₀ lo hi s = n - s
 
 loop-holds : tie.Need-loop-holds Inv-loop μ-loop
 loop-holds c = (search needs, start _ _ _)
-
-mul-strip : tie.Need-mul-strip Inv-loop μ-loop
-mul-strip c = record { fits = omega (arith, c .before .before .before .before .before .before .before .before .before .pre .0, c .before .before .before .loop .inv .0) }
 
 strip-requires : tie.Need-strip-requires Inv-loop μ-loop
 strip-requires c κs =
@@ -32,7 +29,7 @@ strip-requires c κs =
         h .4,
         omega (arith, h, c .before .before .loop-test .taken),
       ),
-      (c .before .before .before .before .before .before .before .before .before .pre .1 .0, c .before .before .before .before .before .before .before .before .before .pre .1 .1),
+      c .before .before .before .before .before .before .before .before .before .pre .1,
     )
 
 add-s : tie.Need-add-s Inv-loop μ-loop
@@ -63,7 +60,6 @@ group-spec =
     Inv-loop
     μ-loop
     loop-holds
-    mul-strip
     strip-requires
     add-s
     loop-less

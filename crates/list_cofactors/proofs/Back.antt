@@ -89,7 +89,7 @@ module _ (F : PrimeField) (n : ℕ) where
   abbrev Answer : Type 0
   Answer = Euclid (F .series) (scalarField F)
 
-  record Reached (z₀ : Answer) (words s t : List ℕ) : Type 0 where
+  pub record Reached (z₀ : Answer) (words s t : List ℕ) : Type 0 where
     pub z : Answer
     pub trail : Trail F n z₀ z words
     pub low-s : Low F n s (z .byX)

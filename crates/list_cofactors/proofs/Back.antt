@@ -2,19 +2,20 @@
 --     Reached        s and t are the cofactors of the pair that the quotients laid in the words have led to
 --     Back           the same of whatever pair the rounds began with, as a loop has it: c words can differ from 0
 -- Theorems:
---     last-laid      what is read at the end of laid quotients
---     none-laid      no words, no quotients
---     back-start     before the first step, where s is 1 and t is 0
---     step-fits      the words of the quotient stand where they are read
---     back-on        a step: t and s - q·t are the cofactors of the pair before; back-round as the code makes it, back-tight what that wants
---     back-end       where no word is left: the cofactors
+--     last-count, last-quotient, last-rest     what is read at the end of laid quotients, and what stands before it
+--     none-laid, some-laid                     no words, no quotients; and where there are words, there are quotients
+--     back-start                               before the first step, where s is 1 and t is 0
+--     step-fits                                the words of the quotient stand where they are read
+--     back-on                                  a step: t and s - q·t are the cofactors of the pair before
+--     back-tight, back-round                   what a step of the code wants, and what it makes
+--     back-end                                 where no word is left: the cofactors
 -- Assumes nothing.
 use mathlib.Core.Path.{_≡_, refl, sym, _∙_, ap, ap₂, subst}
 use mathlib.Core.List.{List, [], _∷_, _++_, append-assoc}
 use Prim.Native.Nat.{ℕ, zero, suc, min, _+_, _-_, _≤_, _<_}
 use native.Mathlib.Decide.{decLe}
 use native.Mathlib.Omega.{arith}
-use lib.ListN.{getD, length, set, take, drop, length-append, length-set, List·getD-eq-default}
+use lib.ListN.{getD, length, set, take, length-append, length-set, List·getD-eq-default}
 use lib.Seq.{getD-take, getD-append-add, getD-set-same, getD-set-other, length-take-le}
 use Rattle.algebra.specs.Ring.{CommRing}
 use Rattle.algebra.specs.RingLaws.{RING}
@@ -30,7 +31,7 @@ use Rattle.lists.proofs.Parts.{front-of, part-of}
 use Rattle.word_division.specs.Reduction.{lessProduct}
 use Rattle.word_division.proofs.LessProduct.{less-product-low, length-lessProduct}
 use Rattle.word_division.proofs.Cut.{less-below, lessProduct-cut, lessProduct-zero}
-use Rattle.list_gcd.specs.Quotients.{laid, before, Each, Quotient, Laid, Trail}
+use Rattle.list_gcd.specs.Quotients.{laid, before, Each, Laid, Trail}
 use Rattle.list_cofactors.specs.Internal.{ZeroPair, lastCount, lastQuotient, Substituted}
 
 -- the quotient q is laid last, after qs

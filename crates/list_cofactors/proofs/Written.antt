@@ -11,7 +11,7 @@ use Prim.Native.Nat.{ℕ, min, max, _+_, _≤_, _<_}
 use native.Mathlib.Omega.{arith}
 use lib.ListN.{length, take, replicate, length-replicate}
 use Rattle.algebra.specs.PrimeField.{PrimeField, residue}
-use Rattle.lists.proofs.Parts.{getD-zeros, getD-part}
+use Rattle.lists.proofs.Parts.{prefix-length, getD-zeros, getD-part}
 use Rattle.lists.proofs.Unscaled.{length-unscaled}
 use Rattle.lists.specs.Padded.{padded}
 use Rattle.lists.proofs.Padded.{padded-is}
@@ -19,7 +19,6 @@ use Rattle.field_tables.specs.Factorials.{Tables}
 use Rattle.euclid_round.specs.Round.{multiplied, writeFits, writtenWords, writtenList}
 use Rattle.euclid_round.proofs.Written.{write-is}
 use Rattle.list_gcd.specs.Internal.{Ready}
-use Rattle.list_gcd.proofs.Buffers.{length-part}
 use Rattle.list_gcd.proofs.Ready.{ready-within}
 use Rattle.list_cofactors.specs.Internal.{ZeroPair, timesList}
 
@@ -30,8 +29,8 @@ pair-arrays n =
 pub pair-part : {m : ℕ} (n : ℕ) {s t : List ℕ} → n ≤ m → ZeroPair m s t → ZeroPair n (take n s) (take n t)
 pair-part n {s} {t} l z =
     record {
-      size-s = length-part s n (z .size-s) l;
-      size-t = length-part t n (z .size-t) l;
+      size-s = prefix-length n _ s (z .size-s) l;
+      size-t = prefix-length n _ t (z .size-t) l;
       zeros-s = getD-part s n (z .zeros-s);
       zeros-t = getD-part t n (z .zeros-t);
     }

@@ -1,11 +1,11 @@
 -- Euclid's rounds on two buffers that alternate, as a loop has them.
---     LedOn                 the rounds go on after one that left x′ of x: x′ has fewer significant words than y, and the words for quotients are
---                           enough for the rounds that are left
+--     LedOn                    the rounds go on after one that left x′ of x: x′ has fewer significant words than y, and the words for quotients
+--                              are enough for the rounds that are left
 -- Theorems:
---     led-start, led-on     before the first round; after one more
---     round-wants           the words are below p, and 0 from the number of significant ones on
---     steps-fit, round-kept     a round on words, its quotient kept
---     led-end               where y is zero: all rounds are made, and x is the last x
+--     led-start, led-on        before the first round; after one more
+--     round-wants              the words are below p, and 0 from the number of significant ones on
+--     steps-fit, round-kept    a round on words, its quotient kept
+--     led-end                  where y is zero: all rounds are made, and x is the last x
 -- Assumes nothing.
 use mathlib.Core.Path.{_≡_, refl, sym, _∙_, ap, ap₂, subst}
 use mathlib.Core.Bool.{cond, true}

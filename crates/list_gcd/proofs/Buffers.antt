@@ -17,11 +17,7 @@ use Rattle.field_tables.specs.Factorials.{Tables}
 use Rattle.word_scaling.specs.Scaling.{weighFits, weighted}
 use Rattle.word_scaling.proofs.Weights.{scale-is}
 use Rattle.list_gcd.specs.Internal.{Ready, Zeros, Holds}
-use Rattle.lists.proofs.Parts.{getD-zeros, getD-part, getD-then-zeros}
-
--- the first n words of a list
-pub length-part : (x : List ℕ) {m : ℕ} (n : ℕ) → length x ≡ m → n ≤ m → length (take n x) ≡ n
-length-part x n e l = simp length-take (omega arith)
+use Rattle.lists.proofs.Parts.{prefix-length, getD-zeros, getD-part, getD-then-zeros}
 
 -- three arrays of zeros, and as much of them as is lent
 pub zeros-arrays : (n : ℕ) → Zeros n (replicate n 0) (replicate n 0) (replicate (3 * n) 0)
@@ -37,9 +33,9 @@ zeros-arrays n =
 zeros-part : {m : ℕ} (n : ℕ) {x y kept : List ℕ} → n ≤ m → Zeros m x y kept → Zeros n (take n x) (take n y) (take (3 * n) kept)
 zeros-part n {x} {y} {kept} l z =
     record {
-      size-x = length-part x n (z .size-x) l;
-      size-y = length-part y n (z .size-y) l;
-      size-kept = length-part kept (3 * n) (z .size-kept) (omega arith);
+      size-x = prefix-length n _ x (z .size-x) l;
+      size-y = prefix-length n _ y (z .size-y) l;
+      size-kept = prefix-length (3 * n) _ kept (z .size-kept) (omega arith);
       zeros-x = getD-part x n (z .zeros-x);
       zeros-y = getD-part y n (z .zeros-y);
     }
@@ -51,7 +47,7 @@ module _ (F : PrimeField) where
   pub zeros-lent : {m most : ℕ} (n : ℕ) {f g x y kept : List ℕ} → n ≤ m → n ≤ most → Ready F n f g → Zeros m x y kept
       → (Ready F (length (take n x)) f g × (length (take n x) ≤ most)) × Zeros (length (take n x)) (take n x) (take n y) (take (3 * n) kept)
   zeros-lent {most = most} n {f} {g} {x} {y} {kept} l few r z =
-      subst (λ i. (Ready F i f g × (i ≤ most)) × Zeros i (take n x) (take n y) (take (3 * n) kept)) (sym (length-part x n (z .size-x) l))
+      subst (λ i. (Ready F i f g × (i ≤ most)) × Zeros i (take n x) (take n y) (take (3 * n) kept)) (sym (prefix-length n _ x (z .size-x) l))
       ((r, few), zeros-part n l z)
 
   -- the series of two buffers that agree

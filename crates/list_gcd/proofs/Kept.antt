@@ -1,21 +1,19 @@
--- A round's quotient put after those that are kept, and read again.
---     lastCount, lastQuotient     the quotient that is laid last: the number of its words, and these
+-- A round's quotient put after those that are kept.
 -- Theorems:
---     quotient-kept               the words after a quotient was written behind them, and then the number of its words
---     trail-none, trail-next      no quotient; one quotient more
---     last-laid                   what the end of laid quotients reads
+--     quotient-kept            the words after a quotient was written behind them, and then the number of its words
+--     trail-none, trail-next   no quotient; one quotient more
 -- Assumes nothing.
-use mathlib.Core.Path.{_≡_, refl, sym, _∙_, ap, ap₂, subst}
+use mathlib.Core.Path.{_≡_, refl, _∙_, ap}
 use mathlib.Core.List.{List, [], _∷_, _++_, append-assoc}
-use Prim.Native.Nat.{ℕ, suc, _+_, _-_, _≤_, _<_}
+use Prim.Native.Nat.{ℕ, suc, _+_, _≤_, _<_}
 use native.Mathlib.Omega.{arith}
-use lib.ListN.{getD, length, set, take, drop, length-append, length-take, length-drop}
+use lib.ListN.{length, set, take, length-append}
 use lib.Seq.{take-suc-set, length-take-le}
 use Rattle.algebra.specs.Euclid.{Euclid, next}
 use Rattle.algebra.specs.PrimeField.{PrimeField, scalarField}
 use Rattle.lists.specs.Words.{seriesOf}
 use Rattle.lists.proofs.Parts.{part-filled}
-use Rattle.list_gcd.specs.Quotients.{laid, before, Quotient, Laid, Trail}
+use Rattle.list_gcd.specs.Quotients.{laid, before, Quotient, Trail}
 
 -- rest is what stands behind the quotient q, at least a word
 pub quotient-kept : (words q rest : List ℕ) (at n : ℕ) → at ≤ length words → length q ≡ n → 0 < length rest

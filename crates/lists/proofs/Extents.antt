@@ -82,7 +82,6 @@ after-significant c k l = go (decLt k (length c))
     go (yes i) = unfold significant in significantIn-last (length c) c .after k l i
     go (no i) = List·getD-eq-default c 0 (omega arith)
 
--- the extent is the largest k whose word is not 0
 -- the power by the number of significant words, and a bound
 pub power-is : (c : List ℕ) → ¬ (significant c ≡ 0) → power c ≡ length c - significant c
 unfolding power naiveDegree extent
@@ -92,6 +91,7 @@ pub power-le : (c : List ℕ) → power c ≤ length c - 1
 unfolding power naiveDegree
 power-le c = omega arith
 
+-- the extent is the largest k whose word is not 0
 pub extent-largest : (c : List ℕ) → 0 < significant c → (¬ (getD c (extent c) 0 ≡ 0)) × ((k : ℕ) → extent c < k → getD c k 0 ≡ 0)
 extent-largest c l = (
   unfold extent significant in significantIn-last (length c) c .last l,

@@ -16,7 +16,7 @@ use native.Mathlib.Decide.{decLt}
 use native.Mathlib.Omega.{arith}
 use Rattle.field.specs.Fields.{modulus, wordInverse, square}
 use Rattle.field.proofs.Fields.{modulus-half, word-inverse, square-is}
-use Rattle.word_montgomery.proofs.Words.{remainder, same, once}
+use Rattle.word_montgomery.proofs.Words.{same, once}
 use Rattle.word_row.specs.Montgomery.{Modulus, Factor, liftOf}
 use Rattle.word_row.specs.Rows.{minusProduct}
 

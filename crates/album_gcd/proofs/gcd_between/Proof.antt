@@ -6,8 +6,7 @@ use native.Mathlib.Omega.{arith}
 use lib.ListN.{length-take}
 use Rattle.refusal.specs.Limits.{maxWords}
 use Rattle.field.proofs.Fields.{longest-room}
-use Rattle.lists.proofs.Parts.{getD-part}
-use Rattle.list_gcd.proofs.Buffers.{length-part}
+use Rattle.lists.proofs.Parts.{prefix-length, getD-part}
 use borrow.Author.Needs.{needs}
 use Rattle.album_gcd.proofs.gcd_between.Statement.{statement}
 use Rattle.album_gcd.proofs.gcd_between.Tie as tie
@@ -40,7 +39,7 @@ gcd-in-requires c κs = let start = c .before .before .before .before .before .b
     let l : n ≤ maxWords = omega (arith, longest-room (start .args .field)) in
     let sizes = start .pre .1 .0 in (
       start .pre .0,
-      ((length-part _ n (sizes .0) l ∙ e, length-part _ n (sizes .1) l ∙ e, length-part _ n (sizes .2) l ∙ e), getD-part _ n (start .pre .1 .1)),
+      ((prefix-length n _ _ (sizes .0) l ∙ e, prefix-length n _ _ (sizes .1) l ∙ e, prefix-length n _ _ (sizes .2) l ∙ e), getD-part _ n (start .pre .1 .1)),
     )
 
 same-length : tie.Need-same-length

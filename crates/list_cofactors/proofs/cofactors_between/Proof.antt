@@ -7,8 +7,9 @@ use Rattle.refusal.specs.Limits.{maxWords}
 use Rattle.field.specs.Fields.{fieldAt, longest}
 use Rattle.field.proofs.Fields.{longest-more, longest-room}
 use Rattle.field_tables.proofs.Entries.{tables-within}
+use Rattle.lists.proofs.Parts.{prefix-length}
 use Rattle.list_gcd.specs.Internal.{Ready}
-use Rattle.list_gcd.proofs.Buffers.{length-part, zeros-lent}
+use Rattle.list_gcd.proofs.Buffers.{zeros-lent}
 use Rattle.list_cofactors.proofs.Written.{pair-part, part-words}
 use borrow.Author.Needs.{needs}
 use Rattle.list_cofactors.proofs.cofactors_between.Statement.{statement}
@@ -64,7 +65,7 @@ cofactors-in-requires c κs =
     let n = c .before .before .before .before .before .before .before .before .buffer-words .result in
     let room = fits (c .before .before .before .before .before .before .before .before) in
     let zeros = pre .1 .1 .1 in
-    let same = length-part (c .before .before .before .before .before .before .before .before .before .before .before .before .before .before .before .before .before .before .before .before .before .before .args .x .now) n (zeros .0 .size-x) room in
+    let same = prefix-length n _ (c .before .before .before .before .before .before .before .before .before .before .before .before .before .before .before .before .before .before .before .before .before .before .args .x .now) (zeros .0 .size-x) room in
     let lent = zeros-lent (fieldAt _) n room (known .1) (known .2) (zeros .0) in
     ((rw same (known .0), lent .0 .1), (tables-within (fieldAt _) _ (lent .0 .1) (pre .0), (lent .0 .0, (pre .1 .1 .0, (lent .1, rw same (pair-part n room (zeros .1)))))))
 

@@ -1,7 +1,7 @@
 -- `list_cofactors::substitute_back` meets its contract. The loop's invariant: s and t are the cofactors of the pair to which the quotients that
 -- are left have led. The measure is the number of words that are left.
 -- Assumes nothing.
-use mathlib.Core.Path.{_≡_, refl, sym, _∙_}
+use mathlib.Core.Path.{sym, _∙_}
 use Prim.Native.Nat.{_+_, _-_, _≤_, _<_}
 use native.Mathlib.Omega.{arith}
 use lib.ListN.{length, take}

@@ -4,7 +4,7 @@ use mathlib.Core.Path.{_≡_, refl, _∙_, ap}
 use mathlib.Core.List.{List}
 use Prim.Native.Nat.{ℕ, _-_, _<_}
 use native.Mathlib.Omega.{arith}
-use lib.ListN.{length, take, drop, length-take}
+use lib.ListN.{take, drop, length-take}
 use Rattle.field.specs.Fields.{modulus}
 use Rattle.word_division.specs.Reduction.{lessProduct}
 use Rattle.list_cofactors.specs.Internal.{lastCount, lastQuotient}

@@ -7,7 +7,7 @@ use lib.ListN.{length-take}
 use borrow.Author.Needs.{needs}
 use Rattle.refusal.specs.Limits.{maxWords}
 use Rattle.field.proofs.Fields.{longest-room}
-use Rattle.list_gcd.proofs.Buffers.{length-part}
+use Rattle.lists.proofs.Parts.{prefix-length}
 use Rattle.report_text.proofs.report_between.Statement.{statement}
 use Rattle.report_text.proofs.report_between.Tie as tie
 
@@ -32,7 +32,7 @@ report-in-requires c κs =
     let n = c .before .before .before .longest-of .result in
     let e = c .before .before .before .longest-of .ensures in
     let l : n ≤ maxWords = omega (arith, longest-room (start .args .field)) in
-    (length-part _ n (start .pre .0) l ∙ e, length-part _ n (start .pre .1) l ∙ e, start .pre .2)
+    (prefix-length n _ _ (start .pre .0) l ∙ e, prefix-length n _ _ (start .pre .1) l ∙ e, start .pre .2)
 
 same-length : tie.Need-same-length
 same-length c = search needs

@@ -1,7 +1,7 @@
 -- `word_product::convolve_in` meets its contract: the factors are laid, the rows added up, and the sums reduced.
 -- Assumes nothing.
 use mathlib.Core.Path.{sym, _∙_}
-use Prim.Native.Nat.{_+_, _-_, _*_, _/_, _≤_}
+use Prim.Native.Nat.{_+_, _*_, _/_, _≤_}
 use native.Mathlib.Omega.{arith}
 use lib.ListN.{length}
 use Rattle.field.specs.Fields.{fieldAt}

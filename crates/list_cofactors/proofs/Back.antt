@@ -1,9 +1,11 @@
 -- From the quotients back to the cofactors.
+--     Last           the quotient that is laid last, and those before it
 --     Reached        s and t are the cofactors of the pair that the quotients laid in the words have led to
 --     Back           the same of whatever pair the rounds began with, as a loop has it: c words can differ from 0
 -- Theorems:
 --     last-count, last-quotient, last-rest     what is read at the end of laid quotients, and what stands before it
 --     none-laid, some-laid                     no words, no quotients; and where there are words, there are quotients
+--     last-of, laid-less                       the same of whatever quotients are laid
 --     back-start                               before the first step, where s is 1 and t is 0
 --     step-fits                                the words of the quotient stand where they are read
 --     back-on                                  a step: t and s - q·t are the cofactors of the pair before
@@ -31,7 +33,7 @@ use Rattle.lists.proofs.Parts.{front-of, part-of}
 use Rattle.word_division.specs.Reduction.{lessProduct}
 use Rattle.word_division.proofs.LessProduct.{less-product-low, length-lessProduct}
 use Rattle.word_division.proofs.Cut.{less-below, lessProduct-cut, lessProduct-zero}
-use Rattle.list_gcd.specs.Quotients.{laid, before, Each, Laid, Trail}
+use Rattle.list_gcd.specs.Quotients.{laid, before, Each, Quotient, Laid, Trail}
 use Rattle.list_cofactors.specs.Internal.{ZeroPair, lastCount, lastQuotient, Substituted}
 
 -- the quotient q is laid last, after qs
@@ -151,31 +153,58 @@ module _ (F : PrimeField) (n : ℕ) where
           reached = λ z₀ x tr. record { z = done (F .series) (scalarField F) x; trail = tr; low-s = one; low-t = none };
         }
 
+  -- the quotient that is laid last in the first words, and those before it
+  record Last (words : List ℕ) (at : ℕ) (quotients : List (List ℕ)) : Type 0 where
+    pub q : List ℕ
+    pub rest : List (List ℕ)
+    pub split : quotients ≡ q ∷ rest
+    pub quotient : Quotient F n q
+    pub others : Each F n rest
+    pub count : lastCount at words ≡ length q
+    pub words-are : lastQuotient at words ≡ q
+    pub fits : length q < at
+    pub before-it : take (at - (length q + 1)) words ≡ laid rest
+
+  last-of : (words : List ℕ) (at : ℕ) → 0 < at → at ≤ length words → (l : Laid F n (take at words)) → Last words at (l .quotients)
+  last-of words at some inside l =
+      let one = some-laid words (l .quotients) at some inside (l .words-are) in
+      let as-laid = l .words-are ∙ ap laid (one .2) in
+      let each = subst (Each F n) (one .2) (l .each) in
+      record {
+        q = one .0;
+        rest = one .1;
+        split = one .2;
+        quotient = each .0;
+        others = each .1;
+        count = last-count words (one .0) (one .1) at inside as-laid;
+        words-are = last-quotient words (one .0) (one .1) at inside as-laid;
+        fits = last-fits words (one .0) (one .1) at inside as-laid;
+        before-it = last-rest words (one .0) (one .1) at inside as-laid;
+      }
+
+  -- without it
+  laid-less : {words : List ℕ} {at : ℕ} {qs : List (List ℕ)} (l : Last words at qs) (at′ : ℕ) → at′ + (lastCount at words + 1) ≡ at
+      → Laid F n (take at′ words)
+  laid-less {words} {at} l at′ e =
+      let same : at′ ≡ at - (length (l .q) + 1) = omega (arith, l .count) in
+      record { quotients = l .rest; each = l .others; words-are = ap (λ i. take i words) same ∙ l .before-it }
+
   -- one quotient less
   module _ (words₀ words s t : List ℕ) (at c : ℕ) (b : Back words₀ (take at words) s t c) (some : 0 < at) (inside : at ≤ length words) where
-    -- the quotient that is laid last, by what was kept
-    known : (q : List ℕ) × (rest : List (List ℕ)) × (b .kept .quotients ≡ q ∷ rest)
-    known = some-laid words (b .kept .quotients) at some inside (b .kept .words-are)
-
-    known-laid : take at words ≡ laid (known .0 ∷ known .1)
-    known-laid = b .kept .words-are ∙ ap laid (known .2)
-
-    known-each : Each F n (known .0 ∷ known .1)
-    known-each = subst (Each F n) (known .2) (b .kept .each)
+    known : Last words at (b .kept .quotients)
+    known = last-of words at some inside (b .kept)
 
     pub step-fits : (lastCount at words < at) × (lastCount at words ≤ n)
     step-fits =
-        let e = last-count words (known .0) (known .1) at inside known-laid in
-        let l = last-fits words (known .0) (known .1) at inside known-laid in
-        let m = known-each .0 .few in
+        let e = known .count in
+        let l = known .fits in
+        let m = known .quotient .few in
         (omega arith, omega arith)
 
     module _ (read at′ : ℕ) (c-read : c ≤ read) {s′ : List ℕ} {c′ : ℕ} (es : s′ ≡ lessProduct (F .p) s (lastQuotient at words) (take read t))
         (ea : at′ + (lastCount at words + 1) ≡ at) (ec : c′ ≡ min n (c + (lastCount at words - 1))) where
       quotient-long : length (lastQuotient at words) ≡ lastCount at words
-      quotient-long =
-          ap length (last-quotient words (known .0) (known .1) at inside known-laid)
-          ∙ sym (last-count words (known .0) (known .1) at inside known-laid)
+      quotient-long = ap length (known .words-are) ∙ sym (known .count)
 
       -- all words of t
       whole : s′ ≡ lessProduct (F .p) s (lastQuotient at words) t
@@ -202,61 +231,36 @@ module _ (F : PrimeField) (n : ℕ) where
 
       -- the cofactors of the pair before, where q is laid last
       module _ {z₀ : Answer} (r : Reached z₀ (take at words) s t) where
-        found : (q : List ℕ) × (rest : List (List ℕ)) × (r .trail .kept .quotients ≡ q ∷ rest)
-        found = some-laid words (r .trail .kept .quotients) at some inside (r .trail .kept .words-are)
+        found : Last words at (r .trail .kept .quotients)
+        found = last-of words at some inside (r .trail .kept)
 
-        found-laid : take at words ≡ laid (found .0 ∷ found .1)
-        found-laid = r .trail .kept .words-are ∙ ap laid (found .2)
-
-        found-each : Each F n (found .0 ∷ found .1)
-        found-each = subst (Each F n) (found .2) (r .trail .kept .each)
-
-        q-is : lastQuotient at words ≡ found .0
-        q-is = last-quotient words (found .0) (found .1) at inside found-laid
-
-        rest-is : take at′ words ≡ laid (found .1)
-        rest-is =
-            let e = last-count words (found .0) (found .1) at inside found-laid in
-            let same : at′ ≡ at - (length (found .0) + 1) = omega arith in
-            ap (λ i. take i words) same ∙ last-rest words (found .0) (found .1) at inside found-laid
-
-        from : z₀ ≡ before F (found .1) (next (F .series) (scalarField F) (seriesOf F (found .0)) (r .z))
+        from : z₀ ≡ before F (found .rest) (next (F .series) (scalarField F) (seriesOf F (found .q)) (r .z))
         unfolding before
-        from = r .trail .from ∙ ap (λ l. before F l (r .z)) (found .2)
+        from = r .trail .from ∙ ap (λ l. before F l (r .z)) (found .split)
 
-        low : Low F n s′ (r .z .byX +ˢ -ˢ (r .z .byY *ˢ seriesOf F (found .0)))
+        low : Low F n s′ (r .z .byX +ˢ -ˢ (r .z .byY *ˢ seriesOf F (found .q)))
         low =
-            subst (λ l. Low F n l (r .z .byX +ˢ -ˢ (r .z .byY *ˢ seriesOf F (found .0)))) (sym (whole ∙ ap (λ q. lessProduct (F .p) s q t) q-is))
-            (subst (λ a. Low F n (lessProduct (F .p) s (found .0) t) a) (turn (r .z .byX) (r .z .byY) (seriesOf F (found .0)))
-            (less-product-low F n (r .low-s) (r .low-t) (carries-seriesOf F (found-each .0 .below)) (let e = b .size-s in omega arith) (let e = b .size-t in omega arith)))
+            subst (λ l. Low F n l (r .z .byX +ˢ -ˢ (r .z .byY *ˢ seriesOf F (found .q)))) (sym (whole ∙ ap (λ q. lessProduct (F .p) s q t) (found .words-are)))
+            (subst (λ a. Low F n (lessProduct (F .p) s (found .q) t) a) (turn (r .z .byX) (r .z .byY) (seriesOf F (found .q)))
+            (less-product-low F n (r .low-s) (r .low-t) (carries-seriesOf F (found .quotient .below)) (let e = b .size-s in omega arith) (let e = b .size-t in omega arith)))
           where
             turn : (a b q : S) → a +ˢ -ˢ (q *ˢ b) ≡ a +ˢ -ˢ (b *ˢ q)
             turn a b q = simp RING
 
         reached-on : Reached z₀ (take at′ words) t s′
-        unfolding next
+        unfolding next laid-less
         reached-on =
             record {
-              z = next (F .series) (scalarField F) (seriesOf F (found .0)) (r .z);
-              trail = record { kept = record { quotients = found .1; each = found-each .1; words-are = rest-is }; from = from };
+              z = next (F .series) (scalarField F) (seriesOf F (found .q)) (r .z);
+              trail = record { kept = laid-less found at′ ea; from = from };
               low-s = r .low-t;
               low-t = low;
             }
 
-      kept-on : Laid F n (take at′ words)
-      kept-on =
-          let e = last-count words (known .0) (known .1) at inside known-laid in
-          let same : at′ ≡ at - (length (known .0) + 1) = omega arith in
-          record {
-            quotients = known .1;
-            each = known-each .1;
-            words-are = ap (λ i. take i words) same ∙ last-rest words (known .0) (known .1) at inside known-laid;
-          }
-
       back-on : Back words₀ (take at′ words) t s′ c′
       back-on =
           record {
-            kept = kept-on;
+            kept = laid-less known at′ ea;
             size-s = b .size-t;
             size-t = size-s′;
             below-s = b .below-t;

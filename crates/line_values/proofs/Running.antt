@@ -67,17 +67,17 @@ module _ (F : PrimeField) (most : ℕ) (lists : List (List ℕ)) where
       go false false (b ∷ (a ∷ s)) e = let h = onto-height (operation F most x a b) s st e in omega arith
 
   -- the next byte, and the rest
-  run-on : (x : ℕ) (code : List ℕ) (s : Stack) → run F most lists (x ∷ code) s ≡ then (step F most lists x s) (λ t. run F most lists code t)
+  run-byte : (x : ℕ) (code : List ℕ) (s : Stack) → run F most lists (x ∷ code) s ≡ then (step F most lists x s) (λ t. run F most lists code t)
   unfolding run
-  run-on x code s = refl
+  run-byte x code s = refl
 
   run-stack : (x : ℕ) (code : List ℕ) (s st : Stack) → step F most lists x s ≡ stack st → run F most lists (x ∷ code) s ≡ run F most lists code st
   unfolding then
-  run-stack x code s st e = run-on x code s ∙ ap (λ z. then z (λ t. run F most lists code t)) e
+  run-stack x code s st e = run-byte x code s ∙ ap (λ z. then z (λ t. run F most lists code t)) e
 
   run-halted : (x : ℕ) (code : List ℕ) (s : Stack) {why : Refusal} → step F most lists x s ≡ halted why → run F most lists (x ∷ code) s ≡ halted why
   unfolding then
-  run-halted x code s e = run-on x code s ∙ ap (λ z. then z (λ t. run F most lists code t)) e
+  run-halted x code s e = run-byte x code s ∙ ap (λ z. then z (λ t. run F most lists code t)) e
 
 peak-next : (h x : ℕ) (code : List ℕ) → (h ≤ peak h (x ∷ code)) × (peak (heightBehind h x) code ≤ peak h (x ∷ code))
 unfolding peak

@@ -8,7 +8,7 @@ ghost use Rattle.refusal.specs.Contract.{given};
 ghost use Rattle.refusal.specs.Limits.{maxWords};
 ghost use Rattle.refusal.specs.Lowest.{lowest};
 ghost use Rattle.field.specs.Fields.{modulus, fieldAt, longest};
-ghost use Rattle.field_tables.specs.Factorials.{Tables};
+ghost use Rattle.field_tables.specs.Factorials.{fewWords, Tables};
 ghost use Rattle.lists.specs.Degrees.{naiveDegree};
 ghost use Rattle.lists.specs.Words.{Tight};
 ghost use Rattle.word_division.specs.Reduction.{lessProduct};
@@ -217,75 +217,34 @@ fn cofactors_in(
     list_gcd::answer_of(found)
 }
 
-// The cofactors where nothing is refused, with tables that are lent.
-fn cofactors_with(
+// The cofactors for short lists, where nothing is refused, in buffers of n words, with small tables and small arrays: tables are copied, and
+// arrays are filled with zeros.
+fn cofactors_few(
     field: u8,
-    whole: &[u16],
-    part: &[u16],
-    inverses: &[u16],
     f: &[u16],
     g: &[u16],
+    n: usize,
     h: &mut [u16],
     a: &mut [u16],
     b: &mut [u16],
 ) -> Gcd
-    requires { ⌜ Tables (fieldAt field) (longest field) (now whole) (now part) ⌝ }
-    requires { ⌜ Ready (fieldAt field) (longest field) (now f) (now g) ⌝ }
+    requires { ⌜ Ready (fieldAt field) n (now f) (now g) × (1 < n) × (n ≤ fewWords) ⌝ }
     requires { ⌜ Slices (longest field) (now f) (now g) (now h) (now a) (now b) ⌝ }
     ensures { λ r. ⌜ Results (fieldAt field) (longest field) (given f) (given g) r (now (h .exit)) (now (a .exit)) (now (b .exit)) ⌝ }
 {
-    let mut x = [0u16; refusal::MAX_WORDS];
-    let mut y = [0u16; refusal::MAX_WORDS];
-    let mut kept = [0u16; 3 * refusal::MAX_WORDS];
-    let mut s = [0u16; refusal::MAX_WORDS];
-    let mut t = [0u16; refusal::MAX_WORDS];
-    cofactors_between(
-        field,
-        whole,
-        part,
-        inverses,
-        f,
-        g,
-        &mut x,
-        &mut y,
-        &mut kept,
-        &mut s,
-        &mut t,
-        h,
-        a,
-        b,
-    )
-}
-
-// The same in as much of the arrays, which are 0, as the lists take.
-fn cofactors_between(
-    field: u8,
-    whole: &[u16],
-    part: &[u16],
-    inverses: &[u16],
-    f: &[u16],
-    g: &[u16],
-    x: &mut [u16],
-    y: &mut [u16],
-    kept: &mut [u16],
-    s: &mut [u16],
-    t: &mut [u16],
-    h: &mut [u16],
-    a: &mut [u16],
-    b: &mut [u16],
-) -> Gcd
-    requires { ⌜ Tables (fieldAt field) (longest field) (now whole) (now part) ⌝ }
-    requires { ⌜ Ready (fieldAt field) (longest field) (now f) (now g) ⌝ }
-    requires { ⌜ Slices (longest field) (now f) (now g) (now h) (now a) (now b) ⌝ }
-    requires { ⌜ Zeros maxWords (now x) (now y) (now kept) × ZeroPair maxWords (now s) (now t) ⌝ }
-    ensures { λ r. ⌜ Results (fieldAt field) (longest field) (given f) (given g) r (now (h .exit)) (now (a .exit)) (now (b .exit)) ⌝ }
-{
-    let n = list_gcd::buffer_words(field, f, g);
+    let whole = field_tables::few_factorials(field);
+    let part = field_tables::few_inverse_factorials(field);
+    let inverses = field_tables::inverses(field);
+    let mut x = [0u16; field_tables::FEW_WORDS];
+    let mut y = [0u16; field_tables::FEW_WORDS];
+    let mut kept = [0u16; 3 * field_tables::FEW_WORDS];
+    let mut s = [0u16; field_tables::FEW_WORDS];
+    let mut t = [0u16; field_tables::FEW_WORDS];
     cofactors_in(
         field,
-        whole,
-        part,
-        inverses,
+        &whole,
+        &part,
+        &inverses,
         f,
         g,
         &mut x[..n],
@@ -299,7 +258,47 @@ fn cofactors_between(
     )
 }
 
-// The same with our own tables.
+// The cofactors for any lists, where nothing is refused, in buffers of n words.
+fn cofactors_many(
+    field: u8,
+    f: &[u16],
+    g: &[u16],
+    n: usize,
+    h: &mut [u16],
+    a: &mut [u16],
+    b: &mut [u16],
+) -> Gcd
+    requires { ⌜ Ready (fieldAt field) n (now f) (now g) × (1 < n) × (n ≤ longest field) ⌝ }
+    requires { ⌜ Slices (longest field) (now f) (now g) (now h) (now a) (now b) ⌝ }
+    ensures { λ r. ⌜ Results (fieldAt field) (longest field) (given f) (given g) r (now (h .exit)) (now (a .exit)) (now (b .exit)) ⌝ }
+{
+    let whole = field_tables::factorials(field);
+    let part = field_tables::inverse_factorials(field);
+    let inverses = field_tables::inverses(field);
+    let mut x = [0u16; refusal::MAX_WORDS];
+    let mut y = [0u16; refusal::MAX_WORDS];
+    let mut kept = [0u16; 3 * refusal::MAX_WORDS];
+    let mut s = [0u16; refusal::MAX_WORDS];
+    let mut t = [0u16; refusal::MAX_WORDS];
+    cofactors_in(
+        field,
+        &whole,
+        &part,
+        &inverses,
+        f,
+        g,
+        &mut x[..n],
+        &mut y[..n],
+        &mut kept[..3 * n],
+        &mut s[..n],
+        &mut t[..n],
+        h,
+        a,
+        b,
+    )
+}
+
+// The same with tables and arrays of the size that the longer list needs.
 fn cofactors_into(
     field: u8,
     f: &[u16],
@@ -312,8 +311,9 @@ fn cofactors_into(
     requires { ⌜ Slices (longest field) (now f) (now g) (now h) (now a) (now b) ⌝ }
     ensures { λ r. ⌜ Results (fieldAt field) (longest field) (given f) (given g) r (now (h .exit)) (now (a .exit)) (now (b .exit)) ⌝ }
 {
-    let whole = field_tables::factorials(field);
-    let part = field_tables::inverse_factorials(field);
-    let inverses = field_tables::inverses(field);
-    cofactors_with(field, &whole, &part, &inverses, f, g, h, a, b)
+    let n = list_gcd::buffer_words(field, f, g);
+    if n <= field_tables::FEW_WORDS {
+        return cofactors_few(field, f, g, n, h, a, b);
+    }
+    cofactors_many(field, f, g, n, h, a, b)
 }

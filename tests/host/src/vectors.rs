@@ -46,7 +46,7 @@ fn number(place: &str, list: &[u32]) -> usize {
 
 pub fn parse(text: &str) -> Vec<Vector<'_>> {
     let lines: Vec<&str> = text.lines().filter(|line| !line.is_empty() && !line.starts_with('#')).collect();
-    assert!(lines.len().is_multiple_of(2), "two lines to a vector");
+    assert_eq!(lines.len() % 2, 0, "two lines to a vector");
     lines.chunks_exact(2).map(|pair| vector(pair[0], pair[1])).collect()
 }
 

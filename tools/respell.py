@@ -103,7 +103,7 @@ def declared(texts):
 def respelled(name, words, definition):
     if name in CHOSEN:
         return CHOSEN[name]
-    if "⟨" in name or not re.search(r"[a-zA-Z]", name):
+    if "⟨" in name or "◌" in name or not re.search(r"[a-zA-Z]", name):
         return name
     if name.startswith("get_d_"):
         return "get_or-" + name[6:]

@@ -1,6 +1,8 @@
 // The public calls on albums over document 01's field of 65,521 elements, which is field 0. Each is its core at that field, and carries
 // the demands themselves: `demand1`, what it refuses; `demand2`, what it computes; `demand3`, what is true of common factors. (`contents`,
 // whose slice is of structs, stands in a crate of its own.)
+#![tactic(auto)]
+
 ghost use Rattle.std.specs.Prelude.{◌≡◌, [], ◌∷◌, ◌<◌, length};
 ghost use Rattle.field.specs.Fields.{p, F65521};
 ghost use Rattle.refusal.specs.Contract.{given};

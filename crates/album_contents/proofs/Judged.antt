@@ -7,7 +7,7 @@ use Prim.Native.Nat.{ℕ}
 use lib.Dec.{eqb}
 use borrow.Author.Tests.{eqb-true, not-false, eq-eqb, ne_eqb}
 use Rattle.refusal.specs.Limits.{max_lists}
-use Rattle.refusal.specs.Lowest.{◌given_when◌, lowest}
+use Rattle.refusal.specs.Lowest.{◌given-when◌, lowest}
 use Rattle.refusal.specs.declared.Refusal.{Refusal}
 use Rattle.refusal.specs.declared.Refusal.TheVariants.{Misfit}
 use Rattle.refusal.specs.declared.Outcome.TheVariants.{Done, Refused}

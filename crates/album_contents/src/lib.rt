@@ -1,4 +1,6 @@
 // The contents of an album as records that a host lends.
+#![tactic(auto)]
+
 ghost use Rattle.std.specs.Prelude.{◌≡◌};
 ghost use Rattle.refusal.specs.Contract.{given};
 ghost use Rattle.refusal.specs.Refusal.{outcome_reply};
@@ -11,7 +13,7 @@ use refusal::{Outcome, Refusal};
 
 // Where a list's body starts in the album, and the list's naive degree.
 #[repr(C)]
-#[derive(Drop)]
+#[derive(Clone, Copy)]
 pub struct Entry {
     pub offset: u16,
     pub degree: u16,

@@ -1,4 +1,6 @@
 // The GCD of an album.
+#![tactic(auto)]
+
 ghost use Rattle.std.specs.Prelude.{◌≡◌, ℕ, ◌*◌, ◌≤◌, length, get_or, take};
 ghost use Rattle.field.specs.Fields.{modulus, field_at, longest};
 ghost use Rattle.refusal.specs.Contract.{given};
@@ -97,7 +99,7 @@ fn gcd_in(
 
 // The result so far: the number of its words, the rounds that it took, and the least power of the lists that are not zero. The words of
 // the longest list stand for no power yet: every power is smaller.
-#[derive(Drop)]
+#[derive(Clone, Copy)]
 struct SoFar {
     words: usize,
     rounds: usize,

@@ -9,7 +9,7 @@ use lib.Dec.{leb}
 use lib.ListN.{length}
 use borrow.Author.Tests.{eq-eqb, ne_eqb, lt-ltb, leb-false, le-leb, lt-leb}
 use Rattle.refusal.specs.Limits.{maxDegree, max_lists}
-use Rattle.refusal.specs.Lowest.{◌given_when◌, lowest}
+use Rattle.refusal.specs.Lowest.{◌given-when◌, lowest}
 use Rattle.refusal.specs.declared.Refusal.{Refusal}
 use Rattle.refusal.specs.declared.Refusal.TheVariants.{Count, Contents, Index, LooseWord}
 use Rattle.refusal.specs.declared.Outcome.TheVariants.{Done, Refused}

@@ -10,7 +10,7 @@ use Rattle.std.specs.Prelude.{◌≡◌, List, [], ◌∷◌, ℕ, ◌+◌, ◌*
 use Rattle.std.specs.Borrow.{Bor}
 use Rattle.refusal.specs.Limits.{max_lists}
 use Rattle.refusal.specs.Refusal.{Reply, reply, written}
-use Rattle.refusal.specs.Lowest.{Condition, ◌given_when◌, lowest}
+use Rattle.refusal.specs.Lowest.{Condition, ◌given-when◌, lowest}
 use Rattle.refusal.specs.declared.Refusal.TheVariants.{Count, Contents, Index, LooseWord}
 use Rattle.refusal.specs.declared.Outcome.{Outcome}
 use Rattle.refusal.specs.declared.Outcome.TheVariants.{Done, Refused}

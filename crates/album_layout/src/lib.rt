@@ -1,4 +1,6 @@
 // The layout of an album: what a call on it refuses, and a list's bytes as a part of the album itself.
+#![tactic(auto)]
+
 ghost use Rattle.std.specs.Prelude.{◌≡◌, ◌<◌, length};
 ghost use Rattle.refusal.specs.Contract.{given};
 ghost use Rattle.refusal.specs.Refusal.{outcome_reply};

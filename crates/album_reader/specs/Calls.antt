@@ -6,7 +6,7 @@
 -- Assumes nothing.
 use Rattle.std.specs.Prelude.{not, List, [], ◌∷◌, ◌++◌, ℕ, eqb, length}
 use Rattle.refusal.specs.Refusal.{Reply, number, reply, written}
-use Rattle.refusal.specs.Lowest.{Condition, ◌given_when◌, lowest}
+use Rattle.refusal.specs.Lowest.{Condition, ◌given-when◌, lowest}
 use Rattle.refusal.specs.declared.Refusal.TheVariants.{Misfit}
 use Rattle.field.specs.Fields.{modulus, longest}
 use Rattle.lists.specs.Padded.{padded}

@@ -1,4 +1,6 @@
 // Reading the lists of an album.
+#![tactic(auto)]
+
 ghost use Rattle.std.specs.Prelude.{◌≡◌};
 ghost use Rattle.refusal.specs.Contract.{given};
 ghost use Rattle.album_reader.specs.Calls.{listed_reply, read_answer, read_written};
@@ -8,7 +10,7 @@ use lists::NaiveDegree;
 use refusal::{Outcome, Refusal};
 
 // The answer of reading a list: its naive degree.
-#[derive(Drop)]
+#[derive(Clone, Copy)]
 pub enum Listed {
     Done(NaiveDegree),
     Refused(Refusal),

@@ -1,1 +1,3 @@
 // Mathematics only: the definitions stand in specs/, the theorems in proofs/.
+#![tactic(auto)]
+

@@ -11,7 +11,7 @@
 use Rattle.std.specs.Prelude.{Bool, false, not, ◌||◌, List, [], ◌∷◌, ◌++◌, ℕ, eqb, ltb, length, drop}
 use Rattle.refusal.specs.Limits.{maxDegree, max_lists, maxBytes}
 use Rattle.refusal.specs.Refusal.{Reply, number, reply, written}
-use Rattle.refusal.specs.Lowest.{Condition, ◌given_when◌, lowest}
+use Rattle.refusal.specs.Lowest.{Condition, ◌given-when◌, lowest}
 use Rattle.refusal.specs.declared.Refusal.TheVariants.{Count, Contents, Length, LooseWord, Misfit}
 use Rattle.field.specs.Fields.{modulus}
 use Rattle.lists.specs.Refused.{has_loose}

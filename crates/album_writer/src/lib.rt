@@ -1,4 +1,6 @@
 // The album writer: from the words of all lists, one after the other, and the lists' naive degrees, the album's bytes.
+#![tactic(auto)]
+
 ghost use Rattle.std.specs.Prelude.{◌≡◌, ◌+◌, ◌*◌, ◌≤◌, ◌<◌, length};
 ghost use Rattle.refusal.specs.Contract.{given};
 ghost use Rattle.refusal.specs.Limits.{maxDegree, max_lists, max_words, entry_bytes};
@@ -12,7 +14,7 @@ ghost use Rattle.album_writer.specs.Internal.{entries_by, album_by, Low, Room};
 use refusal::{Outcome, Refusal};
 
 // The answer of writing an album: the number of its bytes.
-#[derive(Drop)]
+#[derive(Clone, Copy)]
 pub enum Written {
     Done(usize),
     Refused(Refusal),

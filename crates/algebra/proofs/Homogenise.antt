@@ -39,10 +39,10 @@ module _ {Rg : CommRing} (X : SeriesRing Rg) where
   infixl 70 ◌*ˢ◌
   infix 80 -ˢ◌
   pub C-add : (c d : Carrier) → C X (c ⊕ d) ≡ C X c +ˢ C X d
-  C-add c d = ext X _ _ λ n. elim n [ zero ↦ simp (coeff-add, coeff-C-zero) | suc m ↦ simp (coeff-add, coeff-C-suc) (simp RING) ]
+  C-add c d = ext X _ _ λ n. elim n as (λ k. X.coeff (C X (c ⊕ d)) k ≡ X.coeff (C X c +ˢ C X d) k) [ zero ↦ simp (coeff-add, coeff-C-zero) | suc m ↦ simp (coeff-add, coeff-C-suc) (simp RING) ]
 
   pub C-mul : (c d : Carrier) → C X (c ⊗ d) ≡ C X c *ˢ C X d
-  C-mul c d = ext X _ _ λ n. elim n [ zero ↦ simp (coeff-C-mul, coeff-C-zero) | suc m ↦ simp (coeff-C-mul, coeff-C-suc) (simp RING) ]
+  C-mul c d = ext X _ _ λ n. elim n as (λ k. X.coeff (C X (c ⊗ d)) k ≡ X.coeff (C X c *ˢ C X d) k) [ zero ↦ simp (coeff-C-mul, coeff-C-zero) | suc m ↦ simp (coeff-C-mul, coeff-C-suc) (simp RING) ]
 
   pub C-neg : (c : Carrier) → C X (⊖ c) ≡ -ˢ C X c
   C-neg c = R.neg_unique X.ring (C X c) (C X (⊖ c)) (sym (C-add c (⊖ c)) ∙ ap (C X) (R.add-neg Rg c) ∙ C-zero X)

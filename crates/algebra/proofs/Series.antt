@@ -77,10 +77,10 @@ module _ {Rg : CommRing} (X : SeriesRing Rg) where
   tail-C c = ext _ _ λ n. simp (coeff-tail, coeff-C-suc, coeff-0)
 
   pub C-one : C X 𝟙 ≡ 1ˢ
-  C-one = ext _ _ λ n. elim n [ zero ↦ coeff-C-zero 𝟙 ∙ sym coeff-1_zero | suc m ↦ coeff-C-suc 𝟙 m ∙ sym (coeff-1_suc m) ]
+  C-one = ext _ _ λ n. elim n as (λ k. coeff (C X 𝟙) k ≡ coeff 1ˢ k) [ zero ↦ coeff-C-zero 𝟙 ∙ sym coeff-1_zero | suc m ↦ coeff-C-suc 𝟙 m ∙ sym (coeff-1_suc m) ]
 
   pub C-zero : C X 𝟘 ≡ 0ˢ
-  C-zero = ext _ _ λ n. elim n [ zero ↦ coeff-C-zero 𝟘 ∙ sym (coeff-0 0) | suc m ↦ coeff-C-suc 𝟘 m ∙ sym (coeff-0 (suc m)) ]
+  C-zero = ext _ _ λ n. elim n as (λ k. coeff (C X 𝟘) k ≡ coeff 0ˢ k) [ zero ↦ coeff-C-zero 𝟘 ∙ sym (coeff-0 0) | suc m ↦ coeff-C-suc 𝟘 m ∙ sym (coeff-0 (suc m)) ]
 
   pub tail-t : tail X (t X) ≡ 1ˢ
   unfolding tail t variable_at

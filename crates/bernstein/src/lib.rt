@@ -1,6 +1,8 @@
 // The calls for a C host: product, division and GCD of two lists over document 01's field of 65,521 elements, which is field 0. Lists and
 // results are bytes, two to a word, low byte first. Each call returns the refusal's number, 0 when it completes, and carries the demands
 // themselves as clauses. include/bernstein.h declares them.
+#![tactic(auto)]
+
 ghost use Rattle.std.specs.Prelude.{◌≡◌, [], ◌∷◌};
 ghost use Rattle.refusal.specs.Contract.{given};
 ghost use Rattle.refusal.specs.Limits.{max_words};

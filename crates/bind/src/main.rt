@@ -1,5 +1,7 @@
 // The program `bind`: reads lists from standard input, as text, and writes their album. It takes no arguments: given any, it says how it is
 // run. Messages go to standard error, so that nothing but an album is on standard output.
+#![tactic(auto)]
+
 use album_writer::Written;
 use libc::{STDERR_FILENO, STDIN_FILENO, STDOUT_FILENO};
 use refusal::Refusal;

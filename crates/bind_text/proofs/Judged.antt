@@ -16,7 +16,7 @@ use lib.ListN.{length, get_or, take, drop, length-append, length-map}
 use borrow.Author.Tests.{eq-eqb, lt-ltb, le-ltb}
 use Rattle.refusal.specs.Limits.{maxDegree, max_lists, max_words, maxBytes}
 use Rattle.refusal.specs.Refusal.{reply, written}
-use Rattle.refusal.specs.Lowest.{◌given_when◌, lowest}
+use Rattle.refusal.specs.Lowest.{◌given-when◌, lowest}
 use Rattle.refusal.specs.declared.Refusal.{Refusal}
 use Rattle.refusal.specs.declared.Refusal.TheVariants.{Count, Contents, Length, LooseWord, Misfit}
 use Rattle.refusal.specs.declared.Outcome.{Outcome}

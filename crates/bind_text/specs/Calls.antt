@@ -9,7 +9,7 @@
 use Rattle.std.specs.Prelude.{◌||◌, List, [], ◌∷◌, ◌++◌, ℕ, ◌*◌, ltb, length}
 use Rattle.refusal.specs.Limits.{max_lists, max_words, maxBytes}
 use Rattle.refusal.specs.Refusal.{Reply, reply, written}
-use Rattle.refusal.specs.Lowest.{Condition, ◌given_when◌, lowest}
+use Rattle.refusal.specs.Lowest.{Condition, ◌given-when◌, lowest}
 use Rattle.refusal.specs.declared.Refusal.TheVariants.{Count, Contents, Length, LooseWord, Misfit}
 use Rattle.field.specs.Fields.{modulus}
 use Rattle.lists.specs.Refused.{wrong_length, has_loose, any_of}

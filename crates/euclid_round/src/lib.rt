@@ -1,4 +1,6 @@
 // One of Euclid's rounds on words, and the writing of a result. Where the input does not fit, nothing is written.
+#![tactic(auto)]
+
 ghost use Rattle.std.specs.Prelude.{◌≡◌, ◌++◌, ◌≤◌, length, take, drop};
 ghost use Rattle.refusal.specs.Contract.{given};
 ghost use Rattle.field.specs.Fields.{modulus};
@@ -7,7 +9,7 @@ ghost use Rattle.lists.specs.Words.{ZeroFrom, Tight};
 ghost use Rattle.euclid_round.specs.Round.{steps_made, words_left, quotient_left, form_left, out_left, multiplied, zeroed_from};
 
 // What a round made: the number of words of its quotient, and of significant words that it left of x.
-#[derive(Drop)]
+#[derive(Clone, Copy)]
 pub struct Shortened {
     pub steps: usize,
     pub left: usize,

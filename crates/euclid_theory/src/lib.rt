@@ -1,1 +1,3 @@
 // Division, GCD and cofactors of lists: the definitions stand in specs/, the theorems in proofs/.
+#![tactic(auto)]
+

@@ -20,7 +20,7 @@
 use Rattle.std.specs.Prelude.{◌≡◌, Bool, false, cond, not, ◌&&◌, ◌||◌, List, [], ◌∷◌, ℕ, zero, suc, ◌+◌, ◌-◌, ◌*◌, ◌%◌, ◌≤◌, ◌<◌, leb, ltb, eqb}
 use Rattle.algebra.specs.PrimeField.{PrimeField, residue, value, inverse}
 use Rattle.refusal.specs.Refusal.{Reply, number}
-use Rattle.refusal.specs.Lowest.{Condition, ◌given_when◌}
+use Rattle.refusal.specs.Lowest.{Condition, ◌given-when◌}
 use Rattle.refusal.specs.declared.Refusal.TheVariants.{LooseWord, AllZero, NoInverse}
 use Rattle.field.specs.declared.Word.{Word}
 use Rattle.field.specs.declared.Word.TheVariants.{Done, Refused}

@@ -1,4 +1,6 @@
 // The fields on words of 16 bits: sum, difference and product, and the constants of each field.
+#![tactic(auto)]
+
 ghost use Rattle.std.specs.Prelude.{◌≡◌, ◌+◌, ◌-◌, ◌*◌, ◌%◌};
 ghost use Rattle.refusal.specs.Lowest.{lowest};
 ghost use Rattle.field.specs.Field.{word_reply, operand_refusals};
@@ -8,7 +10,7 @@ ghost use Rattle.field.specs.Fields.{modulus, longest, word_inverse, square, fou
 use refusal::{Outcome, Refusal};
 
 // The answer of a call that hands back one word.
-#[derive(Drop)]
+#[derive(Clone, Copy)]
 pub enum Word {
     Done(u16),
     Refused(Refusal),

@@ -1,5 +1,7 @@
 // The public calls on coefficients of document 01's field of 65,521 elements, which is field 0. Each is its core at that field, and carries
 // the demands themselves: `demand1`, what it refuses, and `demand2`, what it computes.
+#![tactic(auto)]
+
 ghost use Rattle.std.specs.Prelude.{◌≡◌, []};
 ghost use Rattle.field.specs.Fields.{p, F65521};
 ghost use Rattle.field.specs.Field.{word_reply, operand_refusals, inverse_refusals};

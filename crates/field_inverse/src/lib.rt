@@ -1,4 +1,6 @@
 // The inverse of a coefficient, by Euclid's steps on whole numbers and a table of inverses.
+#![tactic(auto)]
+
 ghost use Rattle.std.specs.Prelude.{◌≡◌, ◌&&◌, ◌*◌, ◌%◌, ◌<◌, ◌≤◌, ltb, eqb, nat_abs};
 ghost use Rattle.field.specs.Field.{word_reply, inverse_of, inverse_or_zero};
 ghost use Rattle.field.specs.Fields.{modulus, field_at};
@@ -73,7 +75,7 @@ fn by_table(field: u8, inverses: &[u16], a: u16) -> u16
 }
 
 // A remainder of Euclid's steps on p and a, and its cofactor as a word: a times the cofactor leaves the remainder.
-#[derive(Drop)]
+#[derive(Clone, Copy)]
 struct Met {
     remainder: u16,
     cofactor: u16,

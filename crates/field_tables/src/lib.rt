@@ -1,6 +1,8 @@
 // The tables of each field: the factorials of the naive degrees modulo p, their inverses, and the inverses of the numbers of words. A core
 // fetches them once, and lends them to its workers. A table that is fetched is copied, so the factorials and their inverses come in two
 // sizes: a call on few words fetches the small ones.
+#![tactic(auto)]
+
 ghost use Rattle.std.specs.Prelude.{◌≡◌, ◌++◌, ◌+◌, length};
 ghost use Rattle.refusal.specs.Contract.{given};
 ghost use Rattle.refusal.specs.Limits.{max_words};

@@ -1,5 +1,7 @@
 // The program `line`: reads a line of algebra and an album from standard input and writes the list that the line says. It takes no
 // arguments: given any, it says how it is run. Messages go to standard error, so that nothing but a text is on standard output.
+#![tactic(auto)]
+
 use libc::{STDERR_FILENO, STDIN_FILENO, STDOUT_FILENO};
 use report_text::Text;
 

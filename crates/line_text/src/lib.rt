@@ -1,5 +1,7 @@
 // The value of a line of algebra over an album, as text in a slice of bytes. The line and the album come in one input: the line, byte 0A,
 // the album.
+#![tactic(auto)]
+
 ghost use Rattle.std.specs.Prelude.{◌≡◌, length};
 ghost use Rattle.field.specs.Fields.{longest};
 ghost use Rattle.refusal.specs.Contract.{given};

@@ -15,7 +15,7 @@ use lib.Dec.{eqb}
 use lib.ListN.{length, take}
 use borrow.Author.Tests.{eq-eqb, ne_eqb, eqb-true, le-ltb, ltb-false, not-false}
 use Rattle.refusal.specs.Limits.{max_lists, max_line, max_open}
-use Rattle.refusal.specs.Lowest.{Condition, ◌given_when◌, lowest, or_else}
+use Rattle.refusal.specs.Lowest.{Condition, ◌given-when◌, lowest, or_else}
 use Rattle.refusal.specs.Refusal.{Reply, number, outcome_number, reply, written}
 use Rattle.refusal.proofs.Answers.{number-range}
 use Rattle.refusal.specs.declared.Refusal.{Refusal}

@@ -14,7 +14,7 @@ use Rattle.std.specs.Prelude.{Bool, false, not, ◌||◌, List, [], ◌∷◌, �
 use Rattle.algebra.specs.PrimeField.{PrimeField}
 use Rattle.refusal.specs.Limits.{max_lists}
 use Rattle.refusal.specs.Refusal.{Reply, reply, written}
-use Rattle.refusal.specs.Lowest.{Condition, ◌given_when◌, lowest, or_else}
+use Rattle.refusal.specs.Lowest.{Condition, ◌given-when◌, lowest, or_else}
 use Rattle.refusal.specs.declared.Refusal.TheVariants.{Count, Contents, Line, Nesting, Index, LooseWord, Misfit}
 use Rattle.refusal.specs.declared.Outcome.{Outcome}
 use Rattle.refusal.specs.declared.Outcome.TheVariants.{Done, Refused}

@@ -1,5 +1,7 @@
 // The value of a line of algebra over the lists of an album. The line's program (crate `lines`) is run on a stack of lists, which lies in
 // one array: the lists' words one behind the other, the lowest list first. What an operation makes of the lists on top takes their place.
+#![tactic(auto)]
+
 ghost use Rattle.std.specs.Prelude.{◌≡◌, [], ◌*◌, ◌≤◌, length, get_or};
 ghost use Rattle.refusal.specs.Contract.{given};
 ghost use Rattle.refusal.specs.Limits.{max_line, max_words};
@@ -27,14 +29,14 @@ const MAX_HEIGHT: usize = 2 * refusal::MAX_OPEN + 3;
 const STACK_WORDS: usize = MAX_HEIGHT * refusal::MAX_WORDS;
 
 // What an operation comes to: the number of words of its result, or its refusal.
-#[derive(Drop)]
+#[derive(Clone, Copy)]
 enum Sized {
     Words(usize),
     Refused(Refusal),
 }
 
 // What a byte of the program makes of the stack: its number of lists and of words, or the refusal of an operation.
-#[derive(Drop)]
+#[derive(Clone, Copy)]
 enum Stepped {
     To(usize, usize),
     Refused(Refusal),

@@ -2,6 +2,8 @@
 // before their operator.
 // expression, term and factor call each other. With each such call 3 times the bytes left plus the rank of what is read falls: a factor has
 // rank 0, a term 1, an expression 2. So at most 3 * 256 + 3 of these calls are open at a time.
+#![tactic(auto)]
+
 ghost use Rattle.std.specs.Prelude.{◌≡◌, ◌≤◌, ◌<◌, length};
 ghost use Rattle.refusal.specs.Limits.{max_line};
 ghost use Rattle.refusal.specs.Contract.{given};
@@ -24,14 +26,14 @@ pub const MULTIPLY: u8 = 102;
 pub const DERIVE: u8 = 103;
 
 // What a line is found to be: the number of bytes of its program, or why it is refused.
-#[derive(Drop)]
+#[derive(Clone, Copy)]
 pub enum Judged {
     Program(usize),
     Refused(Refusal),
 }
 
 // A token of a line. A byte that the grammar has no use for is a token of its own.
-#[derive(Drop)]
+#[derive(Clone, Copy)]
 pub enum Token {
     Number(u8),
     Plus,
@@ -44,21 +46,21 @@ pub enum Token {
 }
 
 // The token that comes next, with the place behind it.
-#[derive(Drop)]
+#[derive(Clone, Copy)]
 enum Next {
     Token(Token, usize),
     End,
 }
 
 // The operator that comes next, as the program has it, with the place behind it.
-#[derive(Drop)]
+#[derive(Clone, Copy)]
 enum Sign {
     Operator(u8, usize),
     Other,
 }
 
 // Where in the line a reading ends, and how many bytes of the program are then written.
-#[derive(Drop)]
+#[derive(Clone, Copy)]
 enum Parsed {
     Read(usize, usize),
     Nothing,

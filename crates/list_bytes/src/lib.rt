@@ -1,5 +1,7 @@
 // Product, division and GCD of two lists that are bytes, two to a word, low byte first, as are the results. Each function judges its bytes
 // and works by way of words; it returns the refusal's number, 0 when it completes.
+#![tactic(auto)]
+
 ghost use Rattle.std.specs.Prelude.{◌≡◌, false, [], ◌∷◌, ◌≤◌, ◌<◌, length};
 ghost use Rattle.refusal.specs.Contract.{given};
 ghost use Rattle.refusal.specs.Limits.{max_words};

@@ -1,5 +1,7 @@
 // The public calls on lists over document 01's field of 65,521 elements, which is field 0. Each is its core at that field, and carries the
 // demands themselves: `demand1`, what it refuses; `demand2`, what it computes; `demand3`, what is true of common factors and quotients.
+#![tactic(auto)]
+
 ghost use Rattle.std.specs.Prelude.{◌≡◌, [], ◌∷◌};
 ghost use Rattle.field.specs.Fields.{p, F65521};
 ghost use Rattle.field.specs.Field.{word_reply};

@@ -8,7 +8,7 @@ use Rattle.std.specs.Prelude.{not, List, [], ◌∷◌, ◌++◌, ℕ, max, eqb,
 use Rattle.refusal.specs.Refusal.{Reply, reply, written}
 use Rattle.field.specs.Fields.{modulus, field_at, longest}
 use Rattle.lists.specs.Operations.{derivative}
-use Rattle.refusal.specs.Lowest.{Condition, ◌given_when◌, lowest}
+use Rattle.refusal.specs.Lowest.{Condition, ◌given-when◌, lowest}
 use Rattle.refusal.specs.declared.Refusal.TheVariants.{Misfit}
 use Rattle.lists.specs.Degrees.{naive_degree}
 use Rattle.lists.specs.Refused.{list_refusals}

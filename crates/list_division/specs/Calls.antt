@@ -10,7 +10,7 @@
 use Rattle.std.specs.Prelude.{◌≡◌, not, ◌||◌, List, [], ◌∷◌, ◌++◌, ℕ, ltb, eqb, get_or, length}
 use Rattle.algebra.specs.PrimeField.{PrimeField}
 use Rattle.refusal.specs.Refusal.{Reply, reply, written}
-use Rattle.refusal.specs.Lowest.{Condition, ◌given_when◌, lowest}
+use Rattle.refusal.specs.Lowest.{Condition, ◌given-when◌, lowest}
 use Rattle.refusal.specs.declared.Refusal.TheVariants.{Backwards, Vanishes, Misfit}
 use Rattle.field.specs.Fields.{modulus, field_at, longest}
 use Rattle.lists.specs.Degrees.{naive_degree}

@@ -1,4 +1,6 @@
 // The extent of a list, and a list with its top zeros removed.
+#![tactic(auto)]
+
 ghost use Rattle.std.specs.Prelude.{◌≡◌, ◌≤◌, length};
 ghost use Rattle.refusal.specs.Contract.{given};
 ghost use Rattle.field.specs.Fields.{modulus, field_at, longest};
@@ -13,11 +15,11 @@ use lists::Extent;
 use refusal::{Outcome, Refusal};
 
 // The number of words that a search has read.
-#[derive(Drop)]
+#[derive(Clone, Copy)]
 pub struct Searched(pub usize);
 
 // The answer of a search for the extent, with how many words it read: a zero list has no extent.
-#[derive(Drop)]
+#[derive(Clone, Copy)]
 pub enum Found {
     At(Extent, Searched),
     Zero(Searched),

@@ -1,4 +1,6 @@
 // The GCD of two lists.
+#![tactic(auto)]
+
 ghost use Rattle.std.specs.Prelude.{◌≡◌, cond, [], ◌∷◌, ℕ, min, max, ◌+◌, ◌*◌, ◌<◌, ◌≤◌, eqb, length, get_or, take};
 ghost use Rattle.refusal.specs.Contract.{given};
 ghost use Rattle.algebra.specs.PrimeField.{residue};
@@ -19,11 +21,11 @@ use lists::{NaiveDegree, Power};
 use refusal::{Outcome, Refusal};
 
 // The number of Euclid's rounds.
-#[derive(Drop)]
+#[derive(Clone, Copy)]
 pub struct Rounds(pub usize);
 
 // The answer of a GCD: the naive degree w of h, the number c of factors 1-t, and the number of rounds.
-#[derive(Drop)]
+#[derive(Clone, Copy)]
 pub enum Gcd {
     Done(NaiveDegree, Power, Rounds),
     Refused(Refusal),
@@ -103,7 +105,7 @@ fn scale_into(field: u8, whole: &[u16], part: &[u16], list: &[u16], buffer: &mut
 }
 
 // Where the rounds ended: how many they were, whether the last x stands in the first buffer, and how many words of quotients were kept.
-#[derive(Drop)]
+#[derive(Clone, Copy)]
 struct Ended {
     rounds: usize,
     first: bool,
@@ -171,7 +173,7 @@ fn all_rounds(field: u8, inverses: &[u16], x: &mut [u16], y: &mut [u16], kept: &
 }
 
 // What was written: the naive degree of h, and the inverse of the last word of the last x, by which it was multiplied.
-#[derive(Drop)]
+#[derive(Clone, Copy)]
 struct Monic {
     degree: usize,
     inverse: u16,
@@ -252,7 +254,7 @@ fn find_last(
 
 // What the GCD by way of buffers finds: w, c and the number of rounds, the inverse of the last word of the last x, and how many words of
 // quotients were kept.
-#[derive(Drop)]
+#[derive(Clone, Copy)]
 pub struct Found {
     pub degree: usize,
     pub power: usize,

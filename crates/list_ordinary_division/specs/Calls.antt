@@ -7,7 +7,7 @@
 -- Assumes nothing.
 use Rattle.std.specs.Prelude.{not, ◌||◌, List, [], ◌∷◌, ◌++◌, ℕ, eqb, length}
 use Rattle.refusal.specs.Refusal.{Reply, reply, written}
-use Rattle.refusal.specs.Lowest.{Condition, ◌given_when◌, lowest}
+use Rattle.refusal.specs.Lowest.{Condition, ◌given-when◌, lowest}
 use Rattle.refusal.specs.declared.Refusal.TheVariants.{AllZero, Misfit}
 use Rattle.field.specs.Fields.{modulus, field_at, longest}
 use Rattle.lists.specs.Degrees.{significant}

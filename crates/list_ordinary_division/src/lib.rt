@@ -1,4 +1,6 @@
 // Division of lists in the usual sense: g = q·f + r as polynomials in t, where r is 0 or has a smaller degree in t than f.
+#![tactic(auto)]
+
 ghost use Rattle.std.specs.Prelude.{◌≡◌, true, ◌++◌, ◌≤◌, length, take, drop};
 ghost use Rattle.refusal.specs.Contract.{given};
 ghost use Rattle.refusal.specs.Limits.{max_words};

@@ -1,5 +1,7 @@
 // A list's polynomial in powers of t, and back, on words; the degree in t. Powers of t stay inside the engine: no call takes them or hands
 // them out.
+#![tactic(auto)]
+
 ghost use Rattle.std.specs.Prelude.{◌≡◌, true, ◌≤◌, length};
 ghost use Rattle.refusal.specs.Contract.{given};
 ghost use Rattle.field.specs.Fields.{modulus, field_at};
@@ -10,7 +12,7 @@ ghost use Rattle.ordinary_theory.specs.InT.{degree_in_t};
 ghost use Rattle.list_powers.specs.Powers.{powers_into, degree_found};
 
 // The degree in t, a counter beside the naive degree and the extent.
-#[derive(Drop)]
+#[derive(Clone, Copy)]
 pub struct DegreeInT(pub usize);
 
 // With the factorials as whole and their inverses as part: the coefficients of 1, t, t², … of a list, in as many words.

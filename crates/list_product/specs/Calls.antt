@@ -10,7 +10,7 @@ use Rattle.std.specs.Prelude.{not, List, [], ◌∷◌, ◌++◌, ℕ, suc, ◌+
 use Rattle.refusal.specs.Refusal.{Reply, reply, written}
 use Rattle.field.specs.Fields.{modulus, field_at, longest}
 use Rattle.lists.specs.Operations.{product, raise}
-use Rattle.refusal.specs.Lowest.{Condition, ◌given_when◌, lowest}
+use Rattle.refusal.specs.Lowest.{Condition, ◌given-when◌, lowest}
 use Rattle.refusal.specs.declared.Refusal.TheVariants.{Over, Backwards, Misfit}
 use Rattle.lists.specs.Degrees.{naive_degree}
 use Rattle.lists.specs.Refused.{list_refusals}

@@ -6,7 +6,7 @@ use Rattle.std.specs.Prelude.{◌||◌, List, [], ◌∷◌, ℕ}
 use Rattle.refusal.specs.Refusal.{Reply, reply}
 use Rattle.field.specs.Fields.{modulus, field_at, longest}
 use Rattle.lists.specs.Operations.{evaluate}
-use Rattle.refusal.specs.Lowest.{Condition, ◌given_when◌, lowest}
+use Rattle.refusal.specs.Lowest.{Condition, ◌given-when◌, lowest}
 use Rattle.refusal.specs.declared.Refusal.TheVariants.{Length, LooseWord}
 use Rattle.field.specs.Field.{loose}
 use Rattle.lists.specs.Refused.{wrong_length, has_loose}

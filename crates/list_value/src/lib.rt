@@ -1,4 +1,6 @@
 // The value of a list at a point.
+#![tactic(auto)]
+
 ghost use Rattle.std.specs.Prelude.{◌≡◌, ◌+◌, ◌*◌, ◌/◌, ◌%◌, ◌≤◌, length};
 ghost use Rattle.refusal.specs.Contract.{given};
 ghost use Rattle.field.specs.Fields.{modulus, field_at, longest};
@@ -96,7 +98,7 @@ fn sum_products(s: &[u16], k: usize, u: &[u16]) -> u64
 }
 
 // The sum of the first terms, as if there were no more, and the next power of x, both times a factor c.
-#[derive(Drop)]
+#[derive(Clone, Copy)]
 struct Begun {
     sum: u16,
     power: u16,

@@ -10,7 +10,7 @@
 --     one-passes                 such a list is not refused
 -- Assumes nothing.
 use Rattle.std.specs.Prelude.{Bool, false, ◌||◌, List, [], ◌∷◌, ℕ, ◌≤◌, ◌<◌, leb, ltb, eqb, length, get_or}
-use Rattle.refusal.specs.Lowest.{Condition, ◌given_when◌}
+use Rattle.refusal.specs.Lowest.{Condition, ◌given-when◌}
 use Rattle.refusal.specs.declared.Refusal.TheVariants.{Length, LooseWord}
 
 unfoldable pub wrong_length : ℕ → List ℕ → Bool

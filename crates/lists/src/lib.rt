@@ -1,4 +1,6 @@
 // Lists of words: their two counters and the power between them, and what every call refuses in a list.
+#![tactic(auto)]
+
 ghost use Rattle.std.specs.Prelude.{◌≡◌, [], ◌∷◌, ◌-◌};
 ghost use Rattle.refusal.specs.Contract.{given};
 ghost use Rattle.refusal.specs.Lowest.{lowest};
@@ -9,19 +11,19 @@ ghost use Rattle.lists.specs.Refused.{wrong_length, has_loose, list_refusals};
 use refusal::{Outcome, Refusal};
 
 // The number of words of a list less 1.
-#[derive(Drop)]
+#[derive(Clone, Copy)]
 pub struct NaiveDegree(pub usize);
 
 // The largest index whose word is not 0.
-#[derive(Drop)]
+#[derive(Clone, Copy)]
 pub struct Extent(pub usize);
 
 // The number of factors 1-t: the naive degree less the extent.
-#[derive(Drop)]
+#[derive(Clone, Copy)]
 pub struct Power(pub usize);
 
 // What the search from the top gives: the number of words up to the last one that is not 0, and how many words it has read.
-#[derive(Drop)]
+#[derive(Clone, Copy)]
 pub struct TopSearch {
     pub words: usize,
     pub read: usize,

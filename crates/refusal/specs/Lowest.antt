@@ -21,8 +21,8 @@ pub record Condition : Type 0 where
   pub why : Refusal
   pub applies : Bool
 
-infix 68 ◌given_when◌
-abbrev pub ◌given_when◌ : Refusal → Bool → Condition
+infix 68 ◌given-when◌
+abbrev pub ◌given-when◌ : Refusal → Bool → Condition
 why given-when test = record { why = why; applies = test }
 
 unfoldable pub lower : Refusal → Outcome → Outcome

@@ -1,4 +1,6 @@
 // The refusals of the engine's calls, each with its number, and the limits of lists, albums and lines.
+#![tactic(auto)]
+
 ghost use Rattle.std.specs.Prelude.{◌≡◌};
 ghost use Rattle.refusal.specs.Refusal.{number, outcome_number};
 
@@ -19,7 +21,7 @@ pub const MAX_LINE: usize = 256;
 
 pub const MAX_OPEN: usize = 32;
 
-#[derive(Drop)]
+#[derive(Clone, Copy)]
 pub enum Refusal {
     Count,
     Contents,
@@ -37,7 +39,7 @@ pub enum Refusal {
 }
 
 // The answer of a call that hands back no value.
-#[derive(Drop)]
+#[derive(Clone, Copy)]
 pub enum Outcome {
     Done,
     Refused(Refusal),

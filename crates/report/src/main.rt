@@ -1,5 +1,7 @@
 // The program `report`: reads an album from standard input and writes the report on it. It takes no arguments: given any, it says how it is
 // run. Messages go to standard error, so that nothing but a report is on standard output.
+#![tactic(auto)]
+
 use libc::{STDERR_FILENO, STDIN_FILENO, STDOUT_FILENO};
 use report_text::Text;
 

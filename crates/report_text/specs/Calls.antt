@@ -9,7 +9,7 @@
 use Rattle.std.specs.Prelude.{not, List, [], ◌∷◌, ℕ, ◌*◌, eqb, length}
 use Rattle.refusal.specs.Limits.{max_words}
 use Rattle.refusal.specs.Refusal.{Reply, number, reply, written}
-use Rattle.refusal.specs.Lowest.{Condition, ◌given_when◌, lowest}
+use Rattle.refusal.specs.Lowest.{Condition, ◌given-when◌, lowest}
 use Rattle.refusal.specs.declared.Refusal.TheVariants.{Misfit}
 use Rattle.field.specs.Fields.{modulus, field_at}
 use Rattle.lists.specs.Padded.{padded}

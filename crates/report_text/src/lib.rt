@@ -1,4 +1,6 @@
 // The report on an album, as text in a slice of bytes.
+#![tactic(auto)]
+
 ghost use Rattle.std.specs.Prelude.{◌≡◌, [], ◌∷◌, map, ◌+◌, ◌≤◌, ◌<◌, length, take};
 ghost use Rattle.field.specs.Fields.{modulus, field_at, longest};
 ghost use Rattle.refusal.specs.Contract.{given};
@@ -20,7 +22,7 @@ use refusal::{Outcome, Refusal};
 pub const MAX_TEXT: usize = 8 * refusal::MAX_WORDS;
 
 // The answer of writing a report: the number of its bytes.
-#[derive(Drop)]
+#[derive(Clone, Copy)]
 pub enum Text {
     Done(usize),
     Refused(Refusal),

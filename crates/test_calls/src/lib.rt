@@ -2,6 +2,8 @@
 // calls, and none of what it offers to a C host (crates/bernstein). Each function is the call that it names and returns the refusal's number, 0
 // when the call completes; `note_...` write the answer's values, if it has any, to a lent slice of exactly as many numbers, and leave a slice
 // of another length as it came. tests/calls.h declares them.
+#![tactic(auto)]
+
 ghost use Rattle.std.specs.Prelude.{◌≡◌, [], ◌∷◌, length};
 ghost use Rattle.refusal.specs.Contract.{given};
 ghost use Rattle.field.specs.Field.{word_reply};

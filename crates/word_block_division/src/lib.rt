@@ -1,6 +1,8 @@
 // Division of words in blocks of the quotient. A block's words are the top of a product: that of the words of x that the block clears and
 // of the reciprocal of the divisor's top, which is made once. The block's product with the divisor is then taken off x. Both products are
 // those of crate `word_product`. Short divisions go to crate `word_division`, row by row.
+#![tactic(auto)]
+
 ghost use Rattle.std.specs.Prelude.{◌≡◌, true, List, ℕ, ◌+◌, ◌-◌, ◌*◌, ◌≤◌, length, take, drop};
 ghost use Rattle.refusal.specs.Contract.{given};
 ghost use Rattle.refusal.specs.Limits.{max_words};

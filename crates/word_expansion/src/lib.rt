@@ -1,5 +1,7 @@
 // From powers of 1 - t or 1 + t to powers of t, on words, by Horner's rule: the sum of x_k · t^k · (1 ± t)^(n-k). Nothing is multiplied: each
 // step adds or takes off the word before.
+#![tactic(auto)]
+
 ghost use Rattle.std.specs.Prelude.{◌≡◌, cond, ◌-◌, ◌<◌};
 ghost use Rattle.refusal.specs.Contract.{given};
 ghost use Rattle.field.specs.Fields.{modulus};

@@ -1,6 +1,8 @@
 // From powers of 1 - t or 1 + t to powers of t, as crate `word_expansion` has it, with fewer steps where there are many words. Horner's rule
 // takes steps that grow with the square of the number of words. The first h of n words and the other m are expanded by themselves, and
 // (1 ± t)^m times the first plus t^h times the second are all of them.
+#![tactic(auto)]
+
 ghost use Rattle.std.specs.Prelude.{◌≡◌, ◌+◌, ◌≤◌, ◌<◌, length};
 ghost use Rattle.refusal.specs.Contract.{given};
 ghost use Rattle.refusal.specs.Limits.{max_words};

@@ -1,4 +1,6 @@
 // A product modulo p by groups of sixteen rows (crate `word_strips`), and the reduction of its sums.
+#![tactic(auto)]
+
 ghost use Rattle.std.specs.Prelude.{◌≡◌, ◌+◌, ◌*◌, ◌/◌, ◌%◌, ◌<◌, ◌≤◌, length};
 ghost use Rattle.refusal.specs.Contract.{given};
 ghost use Rattle.lists.specs.Words.{ZeroFrom};

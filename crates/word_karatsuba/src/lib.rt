@@ -1,5 +1,7 @@
 // The product of two scaled forms modulo p, from three products of their halves while these are long (Karatsuba). a0 and b0 are the first h
 // words of the factors, a1 and b1 the rest. Factors that are not cut go to crate `word_product`.
+#![tactic(auto)]
+
 ghost use Rattle.std.specs.Prelude.{◌≡◌, ◌||◌, ◌+◌, ◌-◌, ◌*◌, ◌%◌, ◌≤◌, ◌<◌, eqb, ltb, length};
 ghost use Rattle.refusal.specs.Contract.{given};
 ghost use Rattle.refusal.specs.Limits.{max_words};

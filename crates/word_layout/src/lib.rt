@@ -1,4 +1,6 @@
 // The two factors of a product in their buffers, as crate `word_strips` reads them.
+#![tactic(auto)]
+
 ghost use Rattle.std.specs.Prelude.{◌+◌, ◌*◌, ◌<◌, ◌≤◌, length};
 ghost use Rattle.refusal.specs.Contract.{given};
 ghost use Rattle.lists.specs.Words.{ZeroFrom};

@@ -1,5 +1,7 @@
 // Steps on words of 16 bits modulo p: the two halves of a product, of which Montgomery's product is made (two words' product divided by 2^16
 // modulo p, without a division), a difference and a remainder. A loop over them stays in 16 bits, and LLVM does 8 words at a time.
+#![tactic(auto)]
+
 ghost use Rattle.std.specs.Prelude.{◌≡◌, ◌+◌, ◌-◌, ◌*◌, ◌/◌, ◌%◌, ◌<◌, ◌≤◌};
 
 pub fn high_half(a: u16, b: u16) -> u16

@@ -1,5 +1,7 @@
 // Sums of products of signed words of 16 bits, two products at a time. LLVM forms four such pairs by one instruction (pmaddwd) where each
 // pair is used twice: in a sum modulo 2^32 and, without its low half, in a second sum. Words are unsigned in memory and read as signed.
+#![tactic(auto)]
+
 ghost use Rattle.std.specs.Prelude.{◌≡◌, ◌+◌, ◌*◌, ◌/◌, ◌%◌, ◌<◌, length, FitsSigned, slice_index};
 ghost use Rattle.std.specs.Int.{w32};
 ghost use Rattle.refusal.specs.Contract.{given};

@@ -1,6 +1,8 @@
 // The product of two scaled forms modulo p. Of few words each word is a sum of products, reduced once. Else the factors are laid in buffers
 // (crate `word_layout`), and the product is formed by groups of sixteen rows (crate `word_grid`): a row is a word of the first factor times
 // the second. The shorter factor is the first, as that has fewer words to form.
+#![tactic(auto)]
+
 ghost use Rattle.std.specs.Prelude.{◌≡◌, ◌+◌, ◌-◌, ◌*◌, ◌≤◌, ◌<◌, length};
 ghost use Rattle.refusal.specs.Contract.{given};
 ghost use Rattle.refusal.specs.Limits.{max_words};

@@ -1,5 +1,7 @@
 // Words weighed with tables: with those of factorials, a list's scaled form, and the list of a scaled form. Total: where the slices' lengths do
 // not fit, nothing is written.
+#![tactic(auto)]
+
 ghost use Rattle.std.specs.Prelude.{◌≡◌, ◌*◌, ◌%◌, ◌<◌, ◌≤◌, length};
 ghost use Rattle.refusal.specs.Contract.{given};
 ghost use Rattle.field.specs.Fields.{modulus, word_inverse};

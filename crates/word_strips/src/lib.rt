@@ -3,6 +3,8 @@
 // the sixteen words of the first factor x stand in v, eight pairs, each sixteen times, so that LLVM reads both factors by vectors. Group g has
 // the rows from 16 g on, strip s of it sixteen outputs, from 16 s on: given these numbers in place of rows and outputs, LLVM takes the half
 // strips by vectors too (seen in the object code).
+#![tactic(auto)]
+
 ghost use Rattle.std.specs.Prelude.{◌+◌, ◌*◌, ◌<◌, ◌≤◌, length};
 ghost use Rattle.refusal.specs.Contract.{given};
 ghost use Rattle.lists.specs.Words.{ZeroFrom};

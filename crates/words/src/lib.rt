@@ -1,5 +1,7 @@
 // Words as bytes: two bytes to a word, low byte first. Each function is total: past the end of some bytes stand zeros. And the larger and the
 // smaller of two numbers.
+#![tactic(auto)]
+
 ghost use Rattle.std.specs.Prelude.{◌≡◌, ℕ, max, min, ◌+◌, ◌*◌, ◌/◌, ◌%◌, ◌≤◌, ◌<◌, length, get_or};
 ghost use Rattle.refusal.specs.Contract.{given};
 ghost use Rattle.lists.specs.Bytes.{byte_values, word_at, words_of};

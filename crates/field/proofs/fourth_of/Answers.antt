@@ -1,0 +1,17 @@
+-- `field::fourth_of` meets its contract.
+-- Assumes nothing.
+use Rattle.field.specs.Fields.{fourth}
+use Rattle.field.proofs.Fields.{third}
+use Rattle.field.proofs.fourth_of.Goals as goal
+
+pub returns-in-0 : goal.returns-in-0
+unfolding fourth
+returns-in-0 c = rw c.in-0.is
+
+pub returns-in-1 : goal.returns-in-1
+unfolding fourth
+returns-in-1 c = rw c.in-1.is
+
+pub returns-in_default : goal.returns-in_default
+unfolding fourth
+returns-in_default c = rw (third c.args.field c.in_default.in_default-own.rest.0.1 c.in_default.in_default-own.rest.1)

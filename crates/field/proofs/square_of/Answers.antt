@@ -1,0 +1,17 @@
+-- `field::square_of` meets its contract.
+-- Assumes nothing.
+use Rattle.field.specs.Fields.{square}
+use Rattle.field.proofs.Fields.{third}
+use Rattle.field.proofs.square_of.Goals as goal
+
+pub returns-in-0 : goal.returns-in-0
+unfolding square
+returns-in-0 c = rw c.in-0.is
+
+pub returns-in-1 : goal.returns-in-1
+unfolding square
+returns-in-1 c = rw c.in-1.is
+
+pub returns-in_default : goal.returns-in_default
+unfolding square
+returns-in_default c = rw (third c.args.field c.in_default.in_default-own.rest.0.1 c.in_default.in_default-own.rest.1)

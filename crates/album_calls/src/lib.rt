@@ -5,7 +5,6 @@
 
 ghost use Rattle.std.specs.Prelude.{◌≡◌, [], ◌∷◌, ◌<◌, length};
 ghost use Rattle.field.specs.Fields.{p, F65521};
-ghost use Rattle.refusal.specs.Contract.{given};
 ghost use Rattle.refusal.specs.Limits.{max_words};
 ghost use Rattle.refusal.specs.Lowest.{lowest};
 ghost use Rattle.refusal.specs.Refusal.{outcome_reply};
@@ -17,7 +16,7 @@ ghost use Rattle.album_writer.specs.Calls.{written_reply, write_rows, write_answ
 ghost use Rattle.list_gcd.specs.Calls.{gcd_reply};
 ghost use Rattle.album_gcd.specs.Calls.{album_gcd_rows, album_gcd_answer, album_gcd_written, AlbumGreatest};
 ghost use Rattle.line_values.specs.Calls.{line_rows, line_value, late_of, line_answer, line_written};
-ghost use Rattle.statement.specs.Demand1.{Demand1After, Demand1, EmptyRefused, slice};
+ghost use Rattle.statement.specs.Demand1.{Demand1After, Demand1, EmptyRefused, slice_of};
 ghost use Rattle.statement.specs.Demand2Calls.{ReadSo, BodySo, WriteSo, LineSo};
 
 use album_reader::Listed;
@@ -27,29 +26,29 @@ use refusal::Outcome;
 
 // The refusal that applies to a call on list i.
 pub fn check(album: &[u8], i: usize) -> Outcome
-    ensures answer { outcome_reply result ≡ check_answer 0 (given album) i }
-    ensures demand1 { Demand1 (check_refusals p (given album) i) (outcome_reply result).number [] }
+    ensures answer { outcome_reply result ≡ check_answer 0 album.now i }
+    ensures demand1 { Demand1 (check_refusals p album.now i) (outcome_reply result).number [] }
 {
     album_layout::check_over(0, album, i)
 }
 
 // The bytes of list i, as a part of the album; the empty part when refused.
 pub fn body(album: &[u8], i: usize) -> &[u8]
-    ensures part { result.now ≡ body_of 0 (given album) i }
-    ensures place { PartFrom album.entry (body_place 0 (given album) i) result }
-    ensures some { lowest (check_refusals p (given album) i) ≡ Done → 0 < length result.now }
-    ensures demand1 { EmptyRefused (check_refusals p (given album) i) result.now }
-    ensures demand2 { BodySo F65521 (given album) i result.now }
+    ensures part { result.now ≡ body_of 0 album.now i }
+    ensures place { PartFrom album.entry (body_place 0 album.now i) result }
+    ensures some { lowest (check_refusals p album.now i) ≡ Done → 0 < length result.now }
+    ensures demand1 { EmptyRefused (check_refusals p album.now i) result.now }
+    ensures demand2 { BodySo F65521 album.now i result.now }
 {
     album_layout::body_over(0, album, i)
 }
 
 // The words of list i, in a slice of as many words as the longest list has, zeros after them.
 pub fn read_list(album: &[u8], i: usize, out: &mut [u16]) -> Listed
-    ensures answer { listed_reply result ≡ read_answer 0 (given album) i (given out) }
-    ensures writes { out.new ≡ read_written 0 (given album) i (given out) }
-    ensures demand1 { Demand1 (read_rows p max_words (given album) i (given out)) (listed_reply result).number (slice out ∷ []) }
-    ensures demand2 { ReadSo F65521 (given album) i (given out) out.new (listed_reply result) }
+    ensures answer { listed_reply result ≡ read_answer 0 album.now i out.old }
+    ensures writes { out.new ≡ read_written 0 album.now i out.old }
+    ensures demand1 { Demand1 (read_rows p max_words album.now i out.old) (listed_reply result).number (slice_of out.old out.new ∷ []) }
+    ensures demand2 { ReadSo F65521 album.now i out.old out.new (listed_reply result) }
 {
     album_reader::read_list_over(0, album, i, out)
 }
@@ -58,20 +57,20 @@ pub fn read_list(album: &[u8], i: usize, out: &mut [u16]) -> Listed
 // the bytes after it stay as they are. `album` says that the album reads back as these lists, and that one which is accepted is written
 // again byte for byte.
 pub fn write_album(words: &[u16], degrees: &[u16], out: &mut [u8]) -> Written
-    ensures answer { written_reply result ≡ write_answer 0 (given words) (given degrees) (given out) }
-    ensures writes { out.new ≡ write_written 0 (given words) (given degrees) (given out) }
-    ensures demand1 { Demand1 (write_rows p (given words) (given degrees) (given out)) (written_reply result).number (slice out ∷ []) }
-    ensures album { WriteSo F65521 (given words) (given degrees) (given out) out.new (written_reply result) }
+    ensures answer { written_reply result ≡ write_answer 0 words.now degrees.now out.old }
+    ensures writes { out.new ≡ write_written 0 words.now degrees.now out.old }
+    ensures demand1 { Demand1 (write_rows p words.now degrees.now out.old) (written_reply result).number (slice_of out.old out.new ∷ []) }
+    ensures album { WriteSo F65521 words.now degrees.now out.old out.new (written_reply result) }
 {
     album_writer::write_album_over(0, words, degrees, out)
 }
 
 // The GCD of the album's lists: h goes to a slice of as many words as the longest list has, zeros after word w.
 pub fn gcd_of_album(album: &[u8], h: &mut [u16]) -> Gcd
-    ensures answer { gcd_reply result ≡ album_gcd_answer 0 (given album) (given h) }
-    ensures writes { h.new ≡ album_gcd_written 0 (given album) (given h) }
-    ensures demand1 { Demand1 (album_gcd_rows p max_words (given album) (given h)) (gcd_reply result).number (slice h ∷ []) }
-    ensures demand3 { AlbumGreatest F65521 (lists_of (given album)) h.new result }
+    ensures answer { gcd_reply result ≡ album_gcd_answer 0 album.now h.old }
+    ensures writes { h.new ≡ album_gcd_written 0 album.now h.old }
+    ensures demand1 { Demand1 (album_gcd_rows p max_words album.now h.old) (gcd_reply result).number (slice_of h.old h.new ∷ []) }
+    ensures demand3 { AlbumGreatest F65521 (lists_of album.now) h.new result }
 {
     album_gcd::album_gcd_over(0, album, h)
 }
@@ -79,10 +78,10 @@ pub fn gcd_of_album(album: &[u8], h: &mut [u16]) -> Gcd
 // What a line of algebra says of the album's lists, in a slice of as many words as the longest list has, zeros after it: `(0+1)*D 2-3` is
 // the product of the sum of lists 0 and 1 and the derivative of list 2, less list 3.
 pub fn line_value(album: &[u8], line: &[u8], out: &mut [u16]) -> Listed
-    ensures answer { listed_reply result ≡ line_answer 0 (given album) (given line) (given out) }
-    ensures writes { out.new ≡ line_written 0 (given album) (given line) (given out) }
-    ensures demand1 { Demand1After (line_rows p max_words (given album) (given line) (given out)) (late_of (line_value F65521 max_words (given album) (given line))) (listed_reply result).number (slice out ∷ []) }
-    ensures demand2 { LineSo F65521 (given album) (given line) out.new (listed_reply result) }
+    ensures answer { listed_reply result ≡ line_answer 0 album.now line.now out.old }
+    ensures writes { out.new ≡ line_written 0 album.now line.now out.old }
+    ensures demand1 { Demand1After (line_rows p max_words album.now line.now out.old) (late_of (line_value F65521 max_words album.now line.now)) (listed_reply result).number (slice_of out.old out.new ∷ []) }
+    ensures demand2 { LineSo F65521 album.now line.now out.new (listed_reply result) }
 {
     line_values::line_value_over(0, album, line, out)
 }

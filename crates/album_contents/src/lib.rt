@@ -2,7 +2,6 @@
 #![tactic(auto)]
 
 ghost use Rattle.std.specs.Prelude.{◌≡◌};
-ghost use Rattle.refusal.specs.Contract.{given};
 ghost use Rattle.refusal.specs.Refusal.{outcome_reply};
 ghost use Rattle.refusal.specs.Lowest.{lowest};
 ghost use Rattle.field.specs.Fields.{modulus};
@@ -36,7 +35,7 @@ pub fn contents(album: &[u8], out: &mut [Entry]) -> Outcome
 
 // What a call over a field refuses that is lent n records.
 fn judge_contents(field: u8, album: &[u8], n: usize) -> Outcome
-    ensures { result ≡ lowest (contents_rows (modulus field) (given album) n) }
+    ensures { result ≡ lowest (contents_rows (modulus field) album.now n) }
 {
     if let Outcome::Refused(why) = album_layout::judge_album(field, album) {
         return Outcome::Refused(why);
@@ -59,7 +58,7 @@ fn records_due(answer: Outcome) -> usize
 
 // The record of list k; zeros after the last list.
 fn record_at(album: &[u8], k: usize) -> Entry
-    ensures { result ≡ record_at (given album) k }
+    ensures { result ≡ record_at album.now k }
 {
     if k < words::byte_at(album, 0) {
         let e = 1 + refusal::ENTRY_BYTES * k;

@@ -3,7 +3,6 @@
 
 ghost use Rattle.std.specs.Prelude.{◌≡◌, ℕ, ◌*◌, ◌≤◌, length, get_or, take};
 ghost use Rattle.field.specs.Fields.{modulus, field_at, longest};
-ghost use Rattle.refusal.specs.Contract.{given};
 ghost use Rattle.refusal.specs.Limits.{max_words, max_lists};
 ghost use Rattle.lists.specs.Refused.{IsList};
 ghost use Rattle.album_layout.specs.Layout.{lists_of};
@@ -19,9 +18,9 @@ use refusal::{Outcome, Refusal};
 
 // The GCD of the album's lists: h goes to a slice of as many words as the longest list has, zeros after word w.
 pub fn album_gcd_over(field: u8, album: &[u8], h: &mut [u16]) -> Gcd
-    ensures answer { gcd_reply result ≡ album_gcd_answer field (given album) (given h) }
-    ensures writes { h.new ≡ album_gcd_written field (given album) (given h) }
-    ensures greatest { AlbumGreatest (field_at field) (lists_of (given album)) h.new result }
+    ensures answer { gcd_reply result ≡ album_gcd_answer field album.now h.old }
+    ensures writes { h.new ≡ album_gcd_written field album.now h.old }
+    ensures greatest { AlbumGreatest (field_at field) (lists_of album.now) h.new result }
 {
     match album_layout::judge_album(field, album) {
         Outcome::Refused(why) => Gcd::Refused(why),
@@ -32,7 +31,7 @@ pub fn album_gcd_over(field: u8, album: &[u8], h: &mut [u16]) -> Gcd
 // The GCD of an album that passed: it lends arrays of zeros.
 fn gcd_into(field: u8, album: &[u8], h: &mut [u16]) -> Gcd
     requires { Passed (modulus field) album.now }
-    ensures { Answered (field_at field) (longest field) (given album) (given h) h.new result }
+    ensures { Answered (field_at field) (longest field) album.now h.old h.new result }
 {
     let mut list = [0u16; refusal::MAX_WORDS];
     let mut last = [0u16; refusal::MAX_WORDS];
@@ -52,7 +51,7 @@ fn gcd_between(
     requires passed { Passed (modulus field) album.now }
     requires list_len { (length list.old ≡ max_words) × (length last.old ≡ max_words) × (length res.old ≡ max_words) }
     requires by_index { (k : ℕ) → get_or res.old k 0 ≡ 0 }
-    ensures { Answered (field_at field) (longest field) (given album) (given h) h.new result }
+    ensures { Answered (field_at field) (longest field) album.now h.old h.new result }
 {
     let n = field::longest_of(field);
     gcd_in(
@@ -79,7 +78,7 @@ fn gcd_in(
     requires list_len { (length list.old ≡ longest field) × (length last.old ≡ longest field)
         × (length res.old ≡ longest field) }
     requires by_index { (k : ℕ) → get_or res.old k 0 ≡ 0 }
-    ensures { Answered (field_at field) (longest field) (given album) (given h) h.new result }
+    ensures { Answered (field_at field) (longest field) album.now h.old h.new result }
 {
     let n = field::longest_of(field);
     let found = join_lists(field, album, list, last, res);
@@ -112,7 +111,7 @@ fn join_lists(field: u8, album: &[u8], list: &mut [u16], last: &mut [u16], res: 
     requires list_len { (length list.old ≡ longest field) × (length last.old ≡ longest field)
         × (length res.old ≡ longest field) }
     requires by_index { (k : ℕ) → get_or res.old k 0 ≡ 0 }
-    ensures { Folded (field_at field) (longest field) (lists_of (given album))
+    ensures { Folded (field_at field) (longest field) (lists_of album.now)
         res.new result.words result.rounds result.least }
 {
     let n = words::byte_at(album, 0);
@@ -148,7 +147,7 @@ fn join_list(
     requires list { IsList (modulus field) (longest field) list.now }
     requires held { Held (modulus field) (longest field) res.old used (take used res.old) }
     requires last_len { (length last.old ≡ longest field) × (rounds ≤ max_words * max_lists) }
-    ensures { Joined (field_at field) (longest field) (take used (given res)) rounds least (given list)
+    ensures { Joined (field_at field) (longest field) (take used res.old) rounds least list.now
         res.new result.words result.rounds result.least }
 {
     if lists::significant_words(list) == 0 {

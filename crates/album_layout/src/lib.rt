@@ -2,7 +2,6 @@
 #![tactic(auto)]
 
 ghost use Rattle.std.specs.Prelude.{◌≡◌, ◌<◌, length};
-ghost use Rattle.refusal.specs.Contract.{given};
 ghost use Rattle.refusal.specs.Refusal.{outcome_reply};
 ghost use Rattle.refusal.specs.Lowest.{lowest};
 ghost use Rattle.refusal.specs.declared.Outcome.TheVariants.{Done};
@@ -16,7 +15,7 @@ use refusal::{Outcome, Refusal};
 
 // What every call on the album refuses.
 pub fn judge_album(field: u8, album: &[u8]) -> Outcome
-    ensures { result ≡ lowest (album_refusals (modulus field) (given album)) }
+    ensures { result ≡ lowest (album_refusals (modulus field) album.now) }
 {
     if let Outcome::Refused(why) = judge_layout(album) {
         return Outcome::Refused(why);
@@ -29,7 +28,7 @@ pub fn judge_album(field: u8, album: &[u8]) -> Outcome
 
 // What a call on list i refuses.
 pub fn judge_call(field: u8, album: &[u8], i: usize) -> Outcome
-    ensures { result ≡ lowest (check_refusals (modulus field) (given album) i) }
+    ensures { result ≡ lowest (check_refusals (modulus field) album.now i) }
 {
     if let Outcome::Refused(why) = judge_layout(album) {
         return Outcome::Refused(why);
@@ -45,16 +44,16 @@ pub fn judge_call(field: u8, album: &[u8], i: usize) -> Outcome
 
 // The refusal that applies to a call on list i.
 pub fn check_over(field: u8, album: &[u8], i: usize) -> Outcome
-    ensures answer { outcome_reply result ≡ check_answer field (given album) i }
+    ensures answer { outcome_reply result ≡ check_answer field album.now i }
 {
     judge_call(field, album, i)
 }
 
 // The bytes of list i, as a part of the album itself; the empty part when refused.
 pub fn body_over(field: u8, album: &[u8], i: usize) -> &[u8]
-    ensures part { result.now ≡ body_of field (given album) i }
-    ensures place { PartFrom album.entry (body_place field (given album) i) result }
-    ensures some { lowest (check_refusals (modulus field) (given album) i) ≡ Done → 0 < length result.now }
+    ensures part { result.now ≡ body_of field album.now i }
+    ensures place { PartFrom album.entry (body_place field album.now i) result }
+    ensures some { lowest (check_refusals (modulus field) album.now i) ≡ Done → 0 < length result.now }
 {
     match judge_call(field, album, i) {
         Outcome::Done => body_at(album, i),
@@ -65,8 +64,8 @@ pub fn body_over(field: u8, album: &[u8], i: usize) -> &[u8]
 // The bytes that entry i names, as a part of the album itself; the empty part where there is no such entry, or they do not lie inside the
 // album. Nothing is judged.
 pub fn body_at(album: &[u8], i: usize) -> &[u8]
-    ensures part { result.now ≡ body_at (given album) i }
-    ensures place { PartFrom album.entry (place_at (given album) i) result }
+    ensures part { result.now ≡ body_at album.now i }
+    ensures place { PartFrom album.entry (place_at album.now i) result }
 {
     let lists = words::byte_at(album, 0);
     if lists <= i {
@@ -83,7 +82,7 @@ pub fn body_at(album: &[u8], i: usize) -> &[u8]
 
 // What the layout of an album refuses: `at` is where the next body has to start.
 pub fn judge_layout(album: &[u8]) -> Outcome
-    ensures { result ≡ lowest (layout_refusals (given album)) }
+    ensures { result ≡ lowest (layout_refusals album.now) }
 {
     if album.len() == 0 {
         return Outcome::Refused(Refusal::Count);
@@ -121,7 +120,7 @@ pub fn judge_layout(album: &[u8]) -> Outcome
 // Whether a list of the album has a loose word: the bodies' words stand one after the other up to the end.
 fn has_loose_word(field: u8, album: &[u8]) -> bool
     requires { Obeys album.now }
-    ensures { result ≡ any_of (has_loose (modulus field)) (lists_of (given album)) }
+    ensures { result ≡ any_of (has_loose (modulus field)) (lists_of album.now) }
 {
     let p = field::modulus_of(field) as usize;
     let mut at = 1 + refusal::ENTRY_BYTES * words::byte_at(album, 0);

@@ -2,7 +2,6 @@
 #![tactic(auto)]
 
 ghost use Rattle.std.specs.Prelude.{◌≡◌};
-ghost use Rattle.refusal.specs.Contract.{given};
 ghost use Rattle.album_reader.specs.Calls.{listed_reply, read_answer, read_written};
 ghost use Rattle.album_reader.specs.Internal.{words_read, left_at};
 
@@ -18,8 +17,8 @@ pub enum Listed {
 
 // The words of list i, in a slice of as many words as the longest list has, zeros after them.
 pub fn read_list_over(field: u8, album: &[u8], i: usize, out: &mut [u16]) -> Listed
-    ensures answer { listed_reply result ≡ read_answer field (given album) i (given out) }
-    ensures writes { out.new ≡ read_written field (given album) i (given out) }
+    ensures answer { listed_reply result ≡ read_answer field album.now i out.old }
+    ensures writes { out.new ≡ read_written field album.now i out.old }
 {
     if let Outcome::Refused(why) = album_layout::judge_call(field, album, i) {
         return Listed::Refused(why);
@@ -32,8 +31,8 @@ pub fn read_list_over(field: u8, album: &[u8], i: usize, out: &mut [u16]) -> Lis
 
 // The words that entry i names, zeros after them, and their number; nothing and 0 where the slice is too short. Nothing is judged.
 pub fn read_at(album: &[u8], i: usize, out: &mut [u16]) -> usize
-    ensures answer { result ≡ words_read (given album) i (given out) }
-    ensures writes { out.new ≡ left_at (given album) i (given out) }
+    ensures answer { result ≡ words_read album.now i out.old }
+    ensures writes { out.new ≡ left_at album.now i out.old }
 {
     let body = album_layout::body_at(album, i);
     let n = body.len() / 2;

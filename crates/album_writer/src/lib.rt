@@ -2,7 +2,6 @@
 #![tactic(auto)]
 
 ghost use Rattle.std.specs.Prelude.{◌≡◌, ◌+◌, ◌*◌, ◌≤◌, ◌<◌, length};
-ghost use Rattle.refusal.specs.Contract.{given};
 ghost use Rattle.refusal.specs.Limits.{maxDegree, max_lists, max_words, entry_bytes};
 ghost use Rattle.refusal.specs.Lowest.{lowest};
 ghost use Rattle.field.specs.Fields.{modulus};
@@ -22,8 +21,8 @@ pub enum Written {
 
 // The album of the lists that the degrees cut from the words. The bytes of the target after the album stay as they are.
 pub fn write_album_over(field: u8, words: &[u16], degrees: &[u16], out: &mut [u8]) -> Written
-    ensures answer { written_reply result ≡ write_answer field (given words) (given degrees) (given out) }
-    ensures writes { out.new ≡ write_written field (given words) (given degrees) (given out) }
+    ensures answer { written_reply result ≡ write_answer field words.now degrees.now out.old }
+    ensures writes { out.new ≡ write_written field words.now degrees.now out.old }
 {
     match judge_write(field, words, degrees, out) {
         Outcome::Done => {
@@ -37,7 +36,7 @@ pub fn write_album_over(field: u8, words: &[u16], degrees: &[u16], out: &mut [u8
 
 // What writing an album refuses.
 fn judge_write(field: u8, words: &[u16], degrees: &[u16], out: &[u8]) -> Outcome
-    ensures { result ≡ lowest (write_rows (modulus field) (given words) (given degrees) (given out)) }
+    ensures { result ≡ lowest (write_rows (modulus field) words.now degrees.now out.now) }
 {
     if wrong_lists(degrees) {
         return Outcome::Refused(Refusal::Count);
@@ -59,7 +58,7 @@ fn judge_write(field: u8, words: &[u16], degrees: &[u16], out: &[u8]) -> Outcome
 
 // Whether no album has so many lists.
 fn wrong_lists(degrees: &[u16]) -> bool
-    ensures { result ≡ wrong_lists (length (given degrees)) }
+    ensures { result ≡ wrong_lists (length degrees.now) }
 {
     if degrees.len() == 0 {
         return true;
@@ -69,7 +68,7 @@ fn wrong_lists(degrees: &[u16]) -> bool
 
 // Whether a degree is above the limit.
 fn has_high(degrees: &[u16]) -> bool
-    ensures { result ≡ has_high maxDegree (given degrees) }
+    ensures { result ≡ has_high maxDegree degrees.now }
 {
     let mut k = 0;
     while k < degrees.len() {
@@ -84,7 +83,7 @@ fn has_high(degrees: &[u16]) -> bool
 // The number of words of the lists together.
 fn words_for(degrees: &[u16]) -> usize
     requires { length degrees.now ≤ max_lists }
-    ensures { result ≡ words_for (given degrees) }
+    ensures { result ≡ words_for degrees.now }
 {
     let mut total: usize = 0;
     let mut k = 0;
@@ -98,7 +97,7 @@ fn words_for(degrees: &[u16]) -> usize
 // The count, the entries and the bodies: the words of all lists stand as they do in the buffer.
 fn write_parts(words: &[u16], degrees: &[u16], out: &mut [u8])
     requires { Room words.now degrees.now out.old }
-    ensures { out.new ≡ album_by (given words) (given degrees) }
+    ensures { out.new ≡ album_by words.now degrees.now }
 {
     let first = 1 + refusal::ENTRY_BYTES * degrees.len();
     out[0] = degrees.len() as u8;
@@ -110,7 +109,7 @@ fn write_parts(words: &[u16], degrees: &[u16], out: &mut [u8])
 fn write_entries(degrees: &[u16], first: usize, out: &mut [u8])
     requires out_len { length out.old ≡ entry_bytes * length degrees.now }
     requires low { Low degrees.now × (first + 2 * max_words * length degrees.now < 65536) }
-    ensures { out.new ≡ bytes_of (entries_by first (given degrees)) }
+    ensures { out.new ≡ bytes_of (entries_by first degrees.now) }
 {
     let mut place = first;
     let mut k = 0;

@@ -2,7 +2,6 @@
 #![tactic(auto)]
 
 ghost use Rattle.std.specs.Prelude.{◌≡◌, map, ◌-◌, ◌*◌, ◌≤◌, ◌<◌, length};
-ghost use Rattle.refusal.specs.Contract.{given};
 ghost use Rattle.refusal.specs.Limits.{max_lists, max_words};
 ghost use Rattle.refusal.specs.Lowest.{lowest};
 ghost use Rattle.lists.specs.Refused.{wrong_length, any_of};
@@ -29,8 +28,8 @@ const MOST_WORD: usize = 65535;
 
 // The album of the lists that a text says, at the front of the target; the program's is that over field 0.
 pub fn bind_over(field: u8, text: &[u8], out: &mut [u8]) -> Written
-    ensures answer { written_reply result ≡ bind_answer field (given text) (given out) }
-    ensures writes { out.new ≡ bind_written field (given text) (given out) }
+    ensures answer { written_reply result ≡ bind_answer field text.now out.old }
+    ensures writes { out.new ≡ bind_written field text.now out.old }
 {
     if let Outcome::Refused(why) = judge_text(text) {
         return Written::Refused(why);
@@ -44,7 +43,7 @@ pub fn bind_over(field: u8, text: &[u8], out: &mut [u8]) -> Written
 
 // What a text is refused with before its numbers are read.
 fn judge_text(text: &[u8]) -> Outcome
-    ensures { result ≡ lowest (text_refusals (given text)) }
+    ensures { result ≡ lowest (text_refusals text.now) }
 {
     let lists = count_lines(text);
     if lists == 0 {
@@ -83,7 +82,7 @@ fn is_other(x: u8) -> bool
 
 // Whether some byte is such.
 fn has_other(text: &[u8]) -> bool
-    ensures { result ≡ has_other (given text) }
+    ensures { result ≡ has_other text.now }
 {
     let mut i = 0;
     while i < text.len() {
@@ -98,7 +97,7 @@ fn has_other(text: &[u8]) -> bool
 // Where the part ends that begins at a place: at the next byte b, or with the bytes.
 fn part_end(s: &[u8], at: usize, b: u8) -> usize
     requires { at ≤ length s.now }
-    ensures { PartEnd b (given s) at result }
+    ensures { PartEnd b s.now at result }
 {
     let mut end = at;
     while end < s.len() {
@@ -112,7 +111,7 @@ fn part_end(s: &[u8], at: usize, b: u8) -> usize
 
 // The number of lines.
 fn count_lines(text: &[u8]) -> usize
-    ensures { result ≡ length (lines_of (given text)) }
+    ensures { result ≡ length (lines_of text.now) }
 {
     let mut lines = 0;
     let mut at = 0;
@@ -125,7 +124,7 @@ fn count_lines(text: &[u8]) -> usize
 
 // The number of words that a line says.
 fn words_in(line: &[u8]) -> usize
-    ensures { result ≡ length (list_of (given line)) }
+    ensures { result ≡ length (list_of line.now) }
 {
     let mut n = 0;
     let mut at = 0;
@@ -141,7 +140,7 @@ fn words_in(line: &[u8]) -> usize
 
 // Whether a line has no words, or more than a list may have.
 fn wrong_line(line: &[u8]) -> bool
-    ensures { result ≡ wrong_length max_words (list_of (given line)) }
+    ensures { result ≡ wrong_length max_words (list_of line.now) }
 {
     let n = words_in(line);
     if n == 0 {
@@ -152,7 +151,7 @@ fn wrong_line(line: &[u8]) -> bool
 
 // Whether some line is such.
 fn has_wrong_line(text: &[u8]) -> bool
-    ensures { result ≡ any_of (wrong_length max_words) (lists_in (given text)) }
+    ensures { result ≡ any_of (wrong_length max_words) (lists_in text.now) }
 {
     let mut at = 0;
     while at < text.len() {
@@ -174,7 +173,7 @@ fn digit(x: u8) -> usize
 
 // The number that digits say; the largest word where it is larger.
 fn number(digits: &[u8]) -> u16
-    ensures { result ≡ capped (value_of (given digits)) }
+    ensures { result ≡ capped (value_of digits.now) }
 {
     let mut value: usize = 0;
     let mut k = 0;
@@ -188,7 +187,7 @@ fn number(digits: &[u8]) -> u16
 // The words of a line, in a slice of exactly so many.
 fn read_line(line: &[u8], out: &mut [u16])
     requires { length out.old ≡ length (list_of line.now) }
-    ensures { out.new ≡ map capped (list_of (given line)) }
+    ensures { out.new ≡ map capped (list_of line.now) }
 {
     let mut n = 0;
     let mut at = 0;
@@ -206,7 +205,7 @@ fn read_line(line: &[u8], out: &mut [u16])
 fn read_lines(text: &[u8], words: &mut [u16], degrees: &mut [u16]) -> usize
     requires sound { Sound text.now }
     requires words_len { (length words.old ≡ max_lists * max_words) × (length degrees.old ≡ max_lists) }
-    ensures { Loaded (given text) words.new degrees.new result }
+    ensures { Loaded text.now words.new degrees.new result }
 {
     let mut used = 0;
     let mut k = 0;

@@ -2,7 +2,6 @@
 #![tactic(auto)]
 
 ghost use Rattle.std.specs.Prelude.{◌≡◌, ◌++◌, ◌≤◌, length, take, drop};
-ghost use Rattle.refusal.specs.Contract.{given};
 ghost use Rattle.field.specs.Fields.{modulus};
 ghost use Rattle.lists.specs.Degrees.{significant};
 ghost use Rattle.lists.specs.Words.{ZeroFrom, Tight};
@@ -27,10 +26,10 @@ pub fn shorten(
     q: &mut [u16],
 ) -> Shortened
     requires { Tight (modulus field) x.old × ZeroFrom ny y.now }
-    ensures steps { result.steps ≡ steps_made field (take nx (given x)) (take ny (given y)) (given q) }
+    ensures steps { result.steps ≡ steps_made field (take nx x.old) (take ny y.now) q.old }
     ensures count { result.left ≡ significant (take nx x.new) }
-    ensures left { x.new ≡ words_left field (take nx (given x)) (take ny (given y)) (given q) ++ drop nx (given x) }
-    ensures quotient { q.new ≡ quotient_left field (take nx (given x)) (take ny (given y)) (given q) }
+    ensures left { x.new ≡ words_left field (take nx x.old) (take ny y.now) q.old ++ drop nx x.old }
+    ensures quotient { q.new ≡ quotient_left field (take nx x.old) (take ny y.now) q.old }
 {
     let mx = words::smaller(nx, x.len());
     let my = words::smaller(ny, y.len());
@@ -52,9 +51,9 @@ fn round(
 ) -> usize
     requires mx_in_bounds { (mx ≤ length x.old) × (my ≤ length y.now) }
     requires tight { Tight (modulus field) x.old × ZeroFrom my y.now }
-    ensures steps { result ≡ steps_made field (take mx (given x)) (take my (given y)) (given q) }
-    ensures left { x.new ≡ words_left field (take mx (given x)) (take my (given y)) (given q) ++ drop mx (given x) }
-    ensures quotient { q.new ≡ quotient_left field (take mx (given x)) (take my (given y)) (given q) }
+    ensures steps { result ≡ steps_made field (take mx x.old) (take my y.now) q.old }
+    ensures left { x.new ≡ words_left field (take mx x.old) (take my y.now) q.old ++ drop mx x.old }
+    ensures quotient { q.new ≡ quotient_left field (take mx x.old) (take my y.now) q.old }
 {
     let nx = lists::significant_words(&x[..mx]);
     let ny = lists::significant_words(&y[..my]);
@@ -100,8 +99,8 @@ pub fn write_list(
     words: usize,
     out: &mut [u16],
 )
-    ensures form { form.new ≡ form_left (modulus field) (given whole) (given part) words m (given form) (given out) }
-    ensures writes { out.new ≡ out_left (modulus field) (given whole) (given part) words m (given form) (given out) }
+    ensures form { form.new ≡ form_left (modulus field) whole.now part.now words m form.old out.old }
+    ensures writes { out.new ≡ out_left (modulus field) whole.now part.now words m form.old out.old }
 {
     if form.len() < words {
         return;
@@ -122,7 +121,7 @@ pub fn write_list(
 
 // Each word times m.
 fn times_word(field: u8, x: &mut [u16], m: u16)
-    ensures { x.new ≡ multiplied (modulus field) m (given x) }
+    ensures { x.new ≡ multiplied (modulus field) m x.old }
 {
     let mut i = 0;
     while i < x.len() {
@@ -133,7 +132,7 @@ fn times_word(field: u8, x: &mut [u16], m: u16)
 
 // Zeros from word `from` on.
 fn zero_from(out: &mut [u16], from: usize)
-    ensures { out.new ≡ zeroed_from from (given out) }
+    ensures { out.new ≡ zeroed_from from out.old }
 {
     let mut i = from;
     while i < out.len() {

@@ -4,7 +4,6 @@
 #![tactic(auto)]
 
 ghost use Rattle.std.specs.Prelude.{◌≡◌, ◌++◌, ◌+◌, length};
-ghost use Rattle.refusal.specs.Contract.{given};
 ghost use Rattle.refusal.specs.Limits.{max_words};
 ghost use Rattle.field.specs.Fields.{field_at, longest};
 ghost use Rattle.field_tables.specs.Factorials.{few_words, Holds, factorial_in, inverse_factorial_in};
@@ -94,7 +93,7 @@ fn joined(few: FewTable, more: MoreTable) -> Table
 // The same in a slice that takes both.
 fn join(few: &[u16], more: &[u16], table: &mut [u16])
     requires { length few.now + length more.now ≡ length table.old }
-    ensures { table.new ≡ given few ++ given more }
+    ensures { table.new ≡ few.now ++ more.now }
 {
     let n = few.len();
     words::copy(few, &mut table[..n]);

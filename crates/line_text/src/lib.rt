@@ -4,7 +4,6 @@
 
 ghost use Rattle.std.specs.Prelude.{◌≡◌, length};
 ghost use Rattle.field.specs.Fields.{longest};
-ghost use Rattle.refusal.specs.Contract.{given};
 ghost use Rattle.refusal.specs.Limits.{max_words};
 ghost use Rattle.report_text.specs.Calls.{max_text, text_reply};
 ghost use Rattle.report_text.specs.Internal.{Put};
@@ -18,8 +17,8 @@ const LINE_END: u8 = 10;
 
 // The text of a line's value, zeros after it; the program's is that over field 0.
 pub fn line_text_over(field: u8, input: &[u8], out: &mut [u8]) -> Text
-    ensures answer { text_reply result ≡ line_text_answer field (given input) (given out) }
-    ensures writes { out.new ≡ line_text_written field (given input) (given out) }
+    ensures answer { text_reply result ≡ line_text_answer field input.now out.old }
+    ensures writes { out.new ≡ line_text_written field input.now out.old }
 {
     if out.len() != report_text::MAX_TEXT {
         return Text::Refused(Refusal::Misfit);
@@ -33,7 +32,7 @@ pub fn line_text_over(field: u8, input: &[u8], out: &mut [u8]) -> Text
 // The text by way of as much of an array as the longest list takes.
 fn put_text(field: u8, input: &[u8], list: &mut [u16], out: &mut [u8]) -> usize
     requires { (length list.old ≡ max_words) × (length out.old ≡ max_text) }
-    ensures { Put (line_text field (given input)) 0 (given out) out.new result }
+    ensures { Put (line_text field input.now) 0 out.old out.new result }
 {
     let n = field::longest_of(field);
     put_parts(field, input, &mut list[..n], out)
@@ -42,7 +41,7 @@ fn put_text(field: u8, input: &[u8], list: &mut [u16], out: &mut [u8]) -> usize
 // The same by way of a buffer for the value: the input is cut into the line and the album. Without a byte 0A no album is left.
 fn put_parts(field: u8, input: &[u8], list: &mut [u16], out: &mut [u8]) -> usize
     requires { (length list.old ≡ longest field) × (length out.old ≡ max_text) }
-    ensures { Put (line_text field (given input)) 0 (given out) out.new result }
+    ensures { Put (line_text field input.now) 0 out.old out.new result }
 {
     let end = line_end(input);
     let start = words::smaller(end + 1, input.len());
@@ -53,7 +52,7 @@ fn put_parts(field: u8, input: &[u8], list: &mut [u16], out: &mut [u8]) -> usize
 
 // Where the line ends: at the first byte 0A, or with the input.
 fn line_end(input: &[u8]) -> usize
-    ensures { result ≡ length (line_of (given input)) }
+    ensures { result ≡ length (line_of input.now) }
 {
     let mut i = 0;
     while i < input.len() {
@@ -68,7 +67,7 @@ fn line_end(input: &[u8]) -> usize
 // The words of the value, or the line of its refusal; `list` is room for the value.
 fn put_value(field: u8, album: &[u8], line: &[u8], list: &mut [u16], out: &mut [u8]) -> usize
     requires { (length list.old ≡ longest field) × (length out.old ≡ max_text) }
-    ensures { Put (value_text field (given album) (given line)) 0 (given out) out.new result }
+    ensures { Put (value_text field album.now line.now) 0 out.old out.new result }
 {
     match line_values::line_value_over(field, album, line, list) {
         Listed::Done(n) => report_text::put_words(&list[..n.0 + 1], 0, out),

@@ -3,7 +3,6 @@
 #![tactic(auto)]
 
 ghost use Rattle.std.specs.Prelude.{◌≡◌, [], ◌*◌, ◌≤◌, length, get_or};
-ghost use Rattle.refusal.specs.Contract.{given};
 ghost use Rattle.refusal.specs.Limits.{max_line, max_words};
 ghost use Rattle.refusal.specs.Lowest.{lowest};
 ghost use Rattle.field.specs.Fields.{modulus, field_at, longest};
@@ -44,8 +43,8 @@ enum Stepped {
 
 // The value of a line over an album, zeros after it; the call is that over field 0.
 pub fn line_value_over(field: u8, album: &[u8], line: &[u8], out: &mut [u16]) -> Listed
-    ensures answer { listed_reply result ≡ line_answer field (given album) (given line) (given out) }
-    ensures writes { out.new ≡ line_written field (given album) (given line) (given out) }
+    ensures answer { listed_reply result ≡ line_answer field album.now line.now out.old }
+    ensures writes { out.new ≡ line_written field album.now line.now out.old }
 {
     let mut code = [0u8; refusal::MAX_LINE];
     match judge(field, album, line, out, &mut code) {
@@ -58,8 +57,8 @@ pub fn line_value_over(field: u8, album: &[u8], line: &[u8], out: &mut [u16]) ->
 // layout is judged first, and the album with its words after the line.
 fn judge(field: u8, album: &[u8], line: &[u8], out: &[u16], code: &mut [u8]) -> Judged
     requires { max_line ≤ length code.old }
-    ensures result_value { judged_outcome result ≡ lowest (line_rows (modulus field) (longest field) (given album) (given line) (given out)) }
-    ensures program_of { ProgramOf (given line) code.new result }
+    ensures result_value { judged_outcome result ≡ lowest (line_rows (modulus field) (longest field) album.now line.now out.now) }
+    ensures program_of { ProgramOf line.now code.new result }
 {
     if let Outcome::Refused(why) = album_layout::judge_layout(album) {
         return Judged::Refused(why);
@@ -92,7 +91,7 @@ fn lacks(lists: usize, x: u8) -> bool
 
 // Whether the program has such an operand.
 fn lacks_list(lists: usize, code: &[u8]) -> bool
-    ensures { result ≡ lacks_byte lists (given code) }
+    ensures { result ≡ lacks_byte lists code.now }
 {
     let mut i = 0;
     while i < code.len() {
@@ -107,7 +106,7 @@ fn lacks_list(lists: usize, code: &[u8]) -> bool
 // The value of the program's tree, zeros after it.
 fn value_into(field: u8, album: &[u8], code: &[u8], out: &mut [u16]) -> Listed
     requires { (Passed (modulus field) album.now) × (Runs album.now code.now) × (length out.old ≡ longest field) }
-    ensures { ValueSo field (given album) (given code) (given out) out.new (listed_reply result) }
+    ensures { ValueSo field album.now code.now out.old out.new (listed_reply result) }
 {
     let mut stack = [0u16; STACK_WORDS];
     let mut sizes = [0usize; MAX_HEIGHT];
@@ -123,7 +122,7 @@ fn value_into(field: u8, album: &[u8], code: &[u8], out: &mut [u16]) -> Listed
 
 // Word k of a list, and 0 behind its end.
 fn word_or_zero(list: &[u16], k: usize) -> u16
-    ensures { result ≡ get_or (given list) k 0 }
+    ensures { result ≡ get_or list.now k 0 }
 {
     if k < list.len() { list[k] } else { 0 }
 }
@@ -131,7 +130,7 @@ fn word_or_zero(list: &[u16], k: usize) -> u16
 // A list and zeros after it.
 fn pad(list: &[u16], out: &mut [u16])
     requires { length list.now ≤ length out.old }
-    ensures { out.new ≡ padded (length (given out)) (given list) }
+    ensures { out.new ≡ padded (length out.old) list.now }
 {
     let mut k = 0;
     while k < out.len() {
@@ -151,7 +150,7 @@ fn run(
 ) -> Sized
     requires passed { (Passed (modulus field) album.now) × (Runs album.now code.now) }
     requires stack_len { (length stack.old ≡ max_height * max_words) × (length sizes.old ≡ max_height) × (length room.old ≡ max_words) }
-    ensures { RunSo (modulus field) (longest field) (machine.run (field_at field) (longest field) (lists_of (given album)) (given code) []) stack.new result }
+    ensures { RunSo (modulus field) (longest field) (machine.run (field_at field) (longest field) (lists_of album.now) code.now []) stack.new result }
 {
     let mut top = 0;
     let mut filled = 0;
@@ -181,7 +180,7 @@ fn step(
     room: &mut [u16],
 ) -> Stepped
     requires { Ready (modulus field) (longest field) album.now x stack.old sizes.old top filled room.old }
-    ensures { StepSo (modulus field) (longest field) (machine.step (field_at field) (longest field) (lists_of (given album)) x) (given stack) (given sizes) top filled stack.new sizes.new result }
+    ensures { StepSo (modulus field) (longest field) (machine.step (field_at field) (longest field) (lists_of album.now) x) stack.old sizes.old top filled stack.new sizes.new result }
 {
     if x < lines::FIRST_OPERATOR {
         let n = album_reader::read_at(
@@ -208,7 +207,7 @@ fn derive_top(
     room: &mut [u16],
 ) -> Stepped
     requires { Lying (modulus field) (longest field) stack.old sizes.old top filled room.old × (1 ≤ top) }
-    ensures { StepSo (modulus field) (longest field) (unary (derived (field_at field) (longest field))) (given stack) (given sizes) top filled stack.new sizes.new result }
+    ensures { StepSo (modulus field) (longest field) (unary (derived (field_at field) (longest field))) stack.old sizes.old top filled stack.new sizes.new result }
 {
     let k = sizes[top - 1];
     let from = filled - k;
@@ -230,7 +229,7 @@ fn join_top(
     room: &mut [u16],
 ) -> Stepped
     requires { Lying (modulus field) (longest field) stack.old sizes.old top filled room.old × (2 ≤ top) }
-    ensures { StepSo (modulus field) (longest field) (binary (operation (field_at field) (longest field) x)) (given stack) (given sizes) top filled stack.new sizes.new result }
+    ensures { StepSo (modulus field) (longest field) (binary (operation (field_at field) (longest field) x)) stack.old sizes.old top filled stack.new sizes.new result }
 {
     let between = filled - sizes[top - 1];
     let from = between - sizes[top - 2];
@@ -253,7 +252,7 @@ fn join_top(
 // a and b by an operator, in front of `room`.
 fn operate(field: u8, x: u8, a: &[u16], b: &[u16], room: &mut [u16]) -> Sized
     requires { (IsList (modulus field) (longest field) a.now) × (IsList (modulus field) (longest field) b.now) × (length room.old ≡ max_words) }
-    ensures { Came (modulus field) (longest field) (operation (field_at field) (longest field) x (given a) (given b)) room.new result }
+    ensures { Came (modulus field) (longest field) (operation (field_at field) (longest field) x a.now b.now) room.new result }
 {
     let n = words::larger(a.len(), b.len());
     if x == lines::ADD {
@@ -270,7 +269,7 @@ fn operate(field: u8, x: u8, a: &[u16], b: &[u16], room: &mut [u16]) -> Sized
 // The product of a and b, in front of `room`.
 fn multiply(field: u8, a: &[u16], b: &[u16], room: &mut [u16]) -> Sized
     requires { (IsList (modulus field) (longest field) a.now) × (IsList (modulus field) (longest field) b.now) × (length room.old ≡ max_words) }
-    ensures { Came (modulus field) (longest field) (multiplied (field_at field) (longest field) (given a) (given b)) room.new result }
+    ensures { Came (modulus field) (longest field) (multiplied (field_at field) (longest field) a.now b.now) room.new result }
 {
     let n = a.len() + b.len() - 1;
     if field::longest_of(field) < n {

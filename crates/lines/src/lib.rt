@@ -6,7 +6,6 @@
 
 ghost use Rattle.std.specs.Prelude.{◌≡◌, ◌≤◌, ◌<◌, length};
 ghost use Rattle.refusal.specs.Limits.{max_line};
-ghost use Rattle.refusal.specs.Contract.{given};
 ghost use Rattle.refusal.specs.Lowest.{lowest};
 ghost use Rattle.lines.specs.Grammar.{is_digit, sign_of, open_behind, deepest};
 ghost use Rattle.lines.specs.Lines.{line_refusals, read_outcome, judged_outcome, ProgramOf};
@@ -69,8 +68,8 @@ enum Parsed {
 // Reads a line. Its program goes to the start of `code`; what follows there, and all of it where the line is refused, is scratch. A slice
 // of fewer bytes than the longest line has is refused first.
 pub fn read_line(line: &[u8], code: &mut [u8]) -> Judged
-    ensures refusal { judged_outcome result ≡ read_outcome (given line) (given code) }
-    ensures program { ProgramOf (given line) code.new result }
+    ensures refusal { judged_outcome result ≡ read_outcome line.now code.old }
+    ensures program { ProgramOf line.now code.new result }
 {
     if code.len() < refusal::MAX_LINE {
         return Judged::Refused(Refusal::Misfit);
@@ -81,8 +80,8 @@ pub fn read_line(line: &[u8], code: &mut [u8]) -> Judged
 // The same where there is room for every program.
 fn read_into(line: &[u8], code: &mut [u8]) -> Judged
     requires { max_line ≤ length code.old }
-    ensures refusal { judged_outcome result ≡ lowest (line_refusals (given line)) }
-    ensures program { ProgramOf (given line) code.new result }
+    ensures refusal { judged_outcome result ≡ lowest (line_refusals line.now) }
+    ensures program { ProgramOf line.now code.new result }
 {
     if refusal::MAX_LINE < line.len() {
         return Judged::Refused(Refusal::Line);
@@ -119,7 +118,7 @@ fn open_behind(before: usize, b: u8) -> usize
 // The most parentheses that are open together.
 fn nesting(line: &[u8]) -> usize
     requires { length line.now ≤ max_line }
-    ensures { result ≡ deepest 0 (given line) }
+    ensures { result ≡ deepest 0 line.now }
 {
     let mut most = 0;
     let mut depth = 0;
@@ -157,7 +156,7 @@ fn sign_of(b: u8) -> Token
 // The next place that is no space.
 fn skip_spaces(line: &[u8], at: usize) -> usize
     requires { at ≤ length line.now }
-    ensures { Skipped (given line) at result }
+    ensures { Skipped line.now at result }
 {
     let mut i = at;
     while i < line.len() {
@@ -172,7 +171,7 @@ fn skip_spaces(line: &[u8], at: usize) -> usize
 // The token that comes next. A number takes at most two digits: a third begins another number.
 fn token_at(line: &[u8], at: usize) -> Next
     requires { at ≤ length line.now }
-    ensures { Begins (given line) at result }
+    ensures { Begins line.now at result }
 {
     let i = skip_spaces(line, at);
     if i == line.len() {
@@ -195,7 +194,7 @@ fn token_at(line: &[u8], at: usize) -> Next
 // The + or - that comes next.
 fn sum_sign(line: &[u8], at: usize) -> Sign
     requires { at ≤ length line.now }
-    ensures { SumSign (given line) at result }
+    ensures { SumSign line.now at result }
 {
     match token_at(line, at) {
         Next::Token(token, after) => match token {
@@ -210,7 +209,7 @@ fn sum_sign(line: &[u8], at: usize) -> Sign
 // The * that comes next.
 fn product_sign(line: &[u8], at: usize) -> Sign
     requires { at ≤ length line.now }
-    ensures { ProductSign (given line) at result }
+    ensures { ProductSign line.now at result }
 {
     match token_at(line, at) {
         Next::Token(token, after) => match token {
@@ -225,7 +224,7 @@ fn product_sign(line: &[u8], at: usize) -> Sign
 #[cycle(expression_factor_term)]
 fn expression(line: &[u8], at: usize, code: &mut [u8], n: usize) -> Parsed
     requires { Room line.now at code.old n }
-    ensures { said_expression (given line) at (given code) n code.new result }
+    ensures { said_expression line.now at code.old n code.new result }
 {
     let Parsed::Read(first, begun) = term(line, at, code, n) else {
         return Parsed::Nothing;
@@ -249,7 +248,7 @@ fn expression(line: &[u8], at: usize, code: &mut [u8], n: usize) -> Parsed
 #[cycle(expression_factor_term)]
 fn term(line: &[u8], at: usize, code: &mut [u8], n: usize) -> Parsed
     requires { Room line.now at code.old n }
-    ensures { said_term (given line) at (given code) n code.new result }
+    ensures { said_term line.now at code.old n code.new result }
 {
     let Parsed::Read(first, begun) = factor(line, at, code, n) else {
         return Parsed::Nothing;
@@ -273,7 +272,7 @@ fn term(line: &[u8], at: usize, code: &mut [u8], n: usize) -> Parsed
 #[cycle(expression_factor_term)]
 fn factor(line: &[u8], at: usize, code: &mut [u8], n: usize) -> Parsed
     requires { Room line.now at code.old n }
-    ensures { said_factor (given line) at (given code) n code.new result }
+    ensures { said_factor line.now at code.old n code.new result }
 {
     let Next::Token(token, after) = token_at(line, at) else {
         return Parsed::Nothing;

@@ -3,7 +3,6 @@
 #![tactic(auto)]
 
 ghost use Rattle.std.specs.Prelude.{◌≡◌, false, [], ◌∷◌, ◌≤◌, ◌<◌, length};
-ghost use Rattle.refusal.specs.Contract.{given};
 ghost use Rattle.refusal.specs.Limits.{max_words};
 ghost use Rattle.field.specs.Fields.{longest};
 ghost use Rattle.field_tables.specs.Factorials.{few_words};
@@ -25,8 +24,8 @@ const ANSWER_BYTES: usize = 6;
 
 // The product of f and g.
 pub fn product_over(field: u8, f: &[u8], g: &[u8], out: &mut [u8]) -> u8
-    ensures answer { result ≡ host_product_answer field (given f) (given g) (given out) }
-    ensures writes { out.new ≡ host_product_written field (given f) (given g) (given out) }
+    ensures answer { result ≡ host_product_answer field f.now g.now out.old }
+    ensures writes { out.new ≡ host_product_written field f.now g.now out.old }
 {
     if bad_list(field, f) {
         return refusal::number_of(Refusal::Length);
@@ -39,9 +38,9 @@ pub fn product_over(field: u8, f: &[u8], g: &[u8], out: &mut [u8]) -> u8
 
 // g divided by f: the quotient goes to q, the remainder to r.
 pub fn divide_over(field: u8, g: &[u8], f: &[u8], q: &mut [u8], r: &mut [u8]) -> u8
-    ensures answer { result ≡ host_division_answer field (given g) (given f) (given q) (given r) }
-    ensures quotient { q.new ≡ host_quotient_written field (given g) (given f) (given q) (given r) }
-    ensures remainder { r.new ≡ host_remainder_written field (given g) (given f) (given q) (given r) }
+    ensures answer { result ≡ host_division_answer field g.now f.now q.old r.old }
+    ensures quotient { q.new ≡ host_quotient_written field g.now f.now q.old r.old }
+    ensures remainder { r.new ≡ host_remainder_written field g.now f.now q.old r.old }
 {
     if bad_list(field, g) {
         return refusal::number_of(Refusal::Length);
@@ -54,9 +53,9 @@ pub fn divide_over(field: u8, g: &[u8], f: &[u8], q: &mut [u8], r: &mut [u8]) ->
 
 // The GCD of f and g: h, as many words as the longest list has; the answer, three words: w, c and rounds.
 pub fn gcd_over(field: u8, f: &[u8], g: &[u8], h: &mut [u8], answer: &mut [u8]) -> u8
-    ensures answer { result ≡ host_gcd_answer field (given f) (given g) (given h) (given answer) }
-    ensures writes { h.new ≡ host_gcd_written field (given f) (given g) (given h) (given answer) }
-    ensures values { answer.new ≡ host_values_written field (given f) (given g) (given h) (given answer) }
+    ensures answer { result ≡ host_gcd_answer field f.now g.now h.old answer.old }
+    ensures writes { h.new ≡ host_gcd_written field f.now g.now h.old answer.old }
+    ensures values { answer.new ≡ host_values_written field f.now g.now h.old answer.old }
 {
     if bad_list(field, f) {
         return refusal::number_of(Refusal::Length);
@@ -69,7 +68,7 @@ pub fn gcd_over(field: u8, f: &[u8], g: &[u8], h: &mut [u8], answer: &mut [u8]) 
 
 // Whether some bytes are no list: odd, no words, or more words than a list may have.
 fn bad_list(field: u8, list: &[u8]) -> bool
-    ensures { result ≡ bad_list (longest field) (given list) }
+    ensures { result ≡ bad_list (longest field) list.now }
 {
     if list.len() % 2 == 1 {
         return true;
@@ -83,7 +82,7 @@ fn bad_list(field: u8, list: &[u8]) -> bool
 // The number of words of a result slice, or `never`, a number that does not fit, where it is no result: odd, or more words than a list may
 // have.
 fn room(field: u8, res: &[u8], never: usize) -> usize
-    ensures { result ≡ room_of (longest field) never (given res) }
+    ensures { result ≡ room_of (longest field) never res.now }
 {
     if res.len() % 2 == 1 {
         return never;
@@ -96,7 +95,7 @@ fn room(field: u8, res: &[u8], never: usize) -> usize
 
 // The words handed to the GCD for h: those of the longest list, or 0 where h or the answer does not fit.
 fn gcd_room(field: u8, h: &[u8], answer: &[u8]) -> usize
-    ensures { result ≡ gcd_room (longest field) (given h) (given answer) }
+    ensures { result ≡ gcd_room (longest field) h.now answer.now }
 {
     let n = field::longest_of(field);
     if h.len() != 2 * n {
@@ -121,8 +120,8 @@ fn product_in(
     requires f_value { (bad_list (longest field) f.now ≡ false) × (bad_list (longest field) g.now ≡ false) }
     requires a_len { (length a.old ≡ word_count f.now) × (length b.old ≡ word_count g.now)
         × (length c.old ≡ room_of (longest field) 0 out.old) }
-    ensures value { result ≡ host_product_answer field (given f) (given g) (given out) }
-    ensures out_after { out.new ≡ host_product_written field (given f) (given g) (given out) }
+    ensures value { result ≡ host_product_answer field f.now g.now out.old }
+    ensures out_after { out.new ≡ host_product_written field f.now g.now out.old }
 {
     words::read_words(f, a);
     words::read_words(g, b);
@@ -140,8 +139,8 @@ fn product_in(
 fn product_few(field: u8, f: &[u8], g: &[u8], k: usize, out: &mut [u8]) -> u8
     requires f_value { (bad_list (longest field) f.now ≡ false) × (bad_list (longest field) g.now ≡ false) }
     requires f_bound { (word_count f.now ≤ few_words) × (word_count g.now ≤ few_words) × (k ≤ few_words) × (k ≡ room_of (longest field) 0 out.old) }
-    ensures value { result ≡ host_product_answer field (given f) (given g) (given out) }
-    ensures out_after { out.new ≡ host_product_written field (given f) (given g) (given out) }
+    ensures value { result ≡ host_product_answer field f.now g.now out.old }
+    ensures out_after { out.new ≡ host_product_written field f.now g.now out.old }
 {
     let n = f.len() / 2;
     let m = g.len() / 2;
@@ -155,8 +154,8 @@ fn product_few(field: u8, f: &[u8], g: &[u8], k: usize, out: &mut [u8]) -> u8
 fn product_many(field: u8, f: &[u8], g: &[u8], k: usize, out: &mut [u8]) -> u8
     requires f_value { (bad_list (longest field) f.now ≡ false) × (bad_list (longest field) g.now ≡ false) }
     requires f_bound { (word_count f.now ≤ max_words) × (word_count g.now ≤ max_words) × (k ≤ max_words) × (k ≡ room_of (longest field) 0 out.old) }
-    ensures value { result ≡ host_product_answer field (given f) (given g) (given out) }
-    ensures out_after { out.new ≡ host_product_written field (given f) (given g) (given out) }
+    ensures value { result ≡ host_product_answer field f.now g.now out.old }
+    ensures out_after { out.new ≡ host_product_written field f.now g.now out.old }
 {
     let n = f.len() / 2;
     let m = g.len() / 2;
@@ -169,8 +168,8 @@ fn product_many(field: u8, f: &[u8], g: &[u8], k: usize, out: &mut [u8]) -> u8
 // The product of two lists that pass.
 fn product_lists(field: u8, f: &[u8], g: &[u8], out: &mut [u8]) -> u8
     requires { (bad_list (longest field) f.now ≡ false) × (bad_list (longest field) g.now ≡ false) }
-    ensures value { result ≡ host_product_answer field (given f) (given g) (given out) }
-    ensures out_after { out.new ≡ host_product_written field (given f) (given g) (given out) }
+    ensures value { result ≡ host_product_answer field f.now g.now out.old }
+    ensures out_after { out.new ≡ host_product_written field f.now g.now out.old }
 {
     let k = room(field, out, 0);
     let longer = words::larger(f.len() / 2, g.len() / 2);
@@ -195,9 +194,9 @@ fn divide_in(
     requires g_value { (bad_list (longest field) g.now ≡ false) × (bad_list (longest field) f.now ≡ false) }
     requires a_len { (length a.old ≡ word_count g.now) × (length b.old ≡ word_count f.now)
         × (length c.old ≡ room_of (longest field) 0 q.old) × (length d.old ≡ room_of (longest field) (longest field) r.old) }
-    ensures value { result ≡ host_division_answer field (given g) (given f) (given q) (given r) }
-    ensures q_after { q.new ≡ host_quotient_written field (given g) (given f) (given q) (given r) }
-    ensures r_after { r.new ≡ host_remainder_written field (given g) (given f) (given q) (given r) }
+    ensures value { result ≡ host_division_answer field g.now f.now q.old r.old }
+    ensures q_after { q.new ≡ host_quotient_written field g.now f.now q.old r.old }
+    ensures r_after { r.new ≡ host_remainder_written field g.now f.now q.old r.old }
 {
     words::read_words(g, a);
     words::read_words(f, b);
@@ -217,9 +216,9 @@ fn divide_few(field: u8, g: &[u8], f: &[u8], k: usize, l: usize, q: &mut [u8], r
     requires g_value { (bad_list (longest field) g.now ≡ false) × (bad_list (longest field) f.now ≡ false) }
     requires g_bound { (word_count g.now ≤ few_words) × (word_count f.now ≤ few_words) × (k ≤ few_words) × (l ≤ few_words) }
     requires k_value { (k ≡ room_of (longest field) 0 q.old) × (l ≡ room_of (longest field) (longest field) r.old) }
-    ensures value { result ≡ host_division_answer field (given g) (given f) (given q) (given r) }
-    ensures q_after { q.new ≡ host_quotient_written field (given g) (given f) (given q) (given r) }
-    ensures r_after { r.new ≡ host_remainder_written field (given g) (given f) (given q) (given r) }
+    ensures value { result ≡ host_division_answer field g.now f.now q.old r.old }
+    ensures q_after { q.new ≡ host_quotient_written field g.now f.now q.old r.old }
+    ensures r_after { r.new ≡ host_remainder_written field g.now f.now q.old r.old }
 {
     let n = g.len() / 2;
     let m = f.len() / 2;
@@ -245,9 +244,9 @@ fn divide_many(field: u8, g: &[u8], f: &[u8], k: usize, l: usize, q: &mut [u8], 
     requires g_value { (bad_list (longest field) g.now ≡ false) × (bad_list (longest field) f.now ≡ false) }
     requires g_bound { (word_count g.now ≤ max_words) × (word_count f.now ≤ max_words) × (k ≤ max_words) × (l ≤ max_words) }
     requires k_value { (k ≡ room_of (longest field) 0 q.old) × (l ≡ room_of (longest field) (longest field) r.old) }
-    ensures value { result ≡ host_division_answer field (given g) (given f) (given q) (given r) }
-    ensures q_after { q.new ≡ host_quotient_written field (given g) (given f) (given q) (given r) }
-    ensures r_after { r.new ≡ host_remainder_written field (given g) (given f) (given q) (given r) }
+    ensures value { result ≡ host_division_answer field g.now f.now q.old r.old }
+    ensures q_after { q.new ≡ host_quotient_written field g.now f.now q.old r.old }
+    ensures r_after { r.new ≡ host_remainder_written field g.now f.now q.old r.old }
 {
     let n = g.len() / 2;
     let m = f.len() / 2;
@@ -271,9 +270,9 @@ fn divide_many(field: u8, g: &[u8], f: &[u8], k: usize, l: usize, q: &mut [u8], 
 // g divided by f, two lists that pass.
 fn divide_lists(field: u8, g: &[u8], f: &[u8], q: &mut [u8], r: &mut [u8]) -> u8
     requires { (bad_list (longest field) g.now ≡ false) × (bad_list (longest field) f.now ≡ false) }
-    ensures value { result ≡ host_division_answer field (given g) (given f) (given q) (given r) }
-    ensures q_after { q.new ≡ host_quotient_written field (given g) (given f) (given q) (given r) }
-    ensures r_after { r.new ≡ host_remainder_written field (given g) (given f) (given q) (given r) }
+    ensures value { result ≡ host_division_answer field g.now f.now q.old r.old }
+    ensures q_after { q.new ≡ host_quotient_written field g.now f.now q.old r.old }
+    ensures r_after { r.new ≡ host_remainder_written field g.now f.now q.old r.old }
 {
     let k = room(field, q, 0);
     let l = room(field, r, field::longest_of(field));
@@ -307,9 +306,9 @@ fn gcd_in(
     requires f_value { (bad_list (longest field) f.now ≡ false) × (bad_list (longest field) g.now ≡ false) }
     requires a_len { (length a.old ≡ word_count f.now) × (length b.old ≡ word_count g.now)
         × (length c.old ≡ gcd_room (longest field) h.old answer.old) }
-    ensures value { result ≡ host_gcd_answer field (given f) (given g) (given h) (given answer) }
-    ensures h_after { h.new ≡ host_gcd_written field (given f) (given g) (given h) (given answer) }
-    ensures answer_after { answer.new ≡ host_values_written field (given f) (given g) (given h) (given answer) }
+    ensures value { result ≡ host_gcd_answer field f.now g.now h.old answer.old }
+    ensures h_after { h.new ≡ host_gcd_written field f.now g.now h.old answer.old }
+    ensures answer_after { answer.new ≡ host_values_written field f.now g.now h.old answer.old }
 {
     words::read_words(f, a);
     words::read_words(g, b);
@@ -327,9 +326,9 @@ fn gcd_in(
 // The GCD of two lists that pass.
 fn gcd_lists(field: u8, f: &[u8], g: &[u8], h: &mut [u8], answer: &mut [u8]) -> u8
     requires { (bad_list (longest field) f.now ≡ false) × (bad_list (longest field) g.now ≡ false) }
-    ensures value { result ≡ host_gcd_answer field (given f) (given g) (given h) (given answer) }
-    ensures h_after { h.new ≡ host_gcd_written field (given f) (given g) (given h) (given answer) }
-    ensures answer_after { answer.new ≡ host_values_written field (given f) (given g) (given h) (given answer) }
+    ensures value { result ≡ host_gcd_answer field f.now g.now h.old answer.old }
+    ensures h_after { h.new ≡ host_gcd_written field f.now g.now h.old answer.old }
+    ensures answer_after { answer.new ≡ host_values_written field f.now g.now h.old answer.old }
 {
     let n = f.len() / 2;
     let m = g.len() / 2;

@@ -3,7 +3,6 @@
 
 ghost use Rattle.std.specs.Prelude.{◌≡◌, cond, suc, min, ◌+◌, ◌-◌, ◌<◌, ◌≤◌, length, take};
 ghost use Rattle.algebra.specs.PrimeField.{residue};
-ghost use Rattle.refusal.specs.Contract.{given};
 ghost use Rattle.refusal.specs.Limits.{max_words};
 ghost use Rattle.refusal.specs.Lowest.{lowest};
 ghost use Rattle.field.specs.Fields.{modulus, field_at, longest};
@@ -30,12 +29,12 @@ pub fn cofactors_over(
     a: &mut [u16],
     b: &mut [u16],
 ) -> Gcd
-    ensures answer { gcd_reply result ≡ cofactor_answer field (given f) (given g) (given h) (given a) (given b) }
-    ensures gcd { h.new ≡ cofactor_gcd field (given f) (given g) (given h) (given a) (given b) }
-    ensures cofactor_a { a.new ≡ cofactors_written_a field (given f) (given g) (given h) (given a) (given b) }
-    ensures cofactor_b { b.new ≡ cofactors_written_b field (given f) (given g) (given h) (given a) (given b) }
-    ensures greatest { Greatest (field_at field) (given f) (given g) h.new result }
-    ensures identity { Cofactors (field_at field) (given f) (given g) a.new b.new result }
+    ensures answer { gcd_reply result ≡ cofactor_answer field f.now g.now h.old a.old b.old }
+    ensures gcd { h.new ≡ cofactor_gcd field f.now g.now h.old a.old b.old }
+    ensures cofactor_a { a.new ≡ cofactors_written_a field f.now g.now h.old a.old b.old }
+    ensures cofactor_b { b.new ≡ cofactors_written_b field f.now g.now h.old a.old b.old }
+    ensures greatest { Greatest (field_at field) f.now g.now h.new result }
+    ensures identity { Cofactors (field_at field) f.now g.now a.new b.new result }
 {
     let answer = judge_cofactors(field, f, g, h, a, b);
     match answer {
@@ -46,7 +45,7 @@ pub fn cofactors_over(
 
 // The number of words of the cofactor of a list: m less its naive degree, plus 1.
 fn cofactor_words(list: &[u16], other: &[u16]) -> usize
-    ensures { result ≡ suc (identity_degree (given list) (given other) - naive_degree (given list)) }
+    ensures { result ≡ suc (identity_degree list.now other.now - naive_degree list.now) }
 {
     if list.len() < 2 {
         if other.len() < 2 {
@@ -62,7 +61,7 @@ fn cofactor_words(list: &[u16], other: &[u16]) -> usize
 
 // What the call refuses: what the GCD does, and slices for a and b of other lengths.
 fn judge_cofactors(field: u8, f: &[u16], g: &[u16], h: &[u16], a: &[u16], b: &[u16]) -> Outcome
-    ensures { result ≡ lowest (cofactor_rows (modulus field) (longest field) (given f) (given g) (given h) (given a) (given b)) }
+    ensures { result ≡ lowest (cofactor_rows (modulus field) (longest field) f.now g.now h.now a.now b.now) }
 {
     if let Outcome::Refused(why) = list_gcd::judge_gcd(field, f, g, h) {
         return Outcome::Refused(why);
@@ -103,8 +102,8 @@ fn words_after(n: usize, c: usize, steps: usize) -> usize
 fn undo_round(field: u8, kept: &[u16], at: usize, s: &mut [u16], t: &[u16], read: usize) -> usize
     requires at_in_bounds { (at ≤ length kept.now) × (last_count at kept.now < at) × (last_count at kept.now ≤ length s.old) × (read ≤ length t.now) }
     requires tight { Tight (modulus field) s.old }
-    ensures value { result ≡ last_count at (given kept) }
-    ensures s_after { s.new ≡ less_product (modulus field) (given s) (last_quotient at (given kept)) (take read (given t)) }
+    ensures value { result ≡ last_count at kept.now }
+    ensures s_after { s.new ≡ less_product (modulus field) s.old (last_quotient at kept.now) (take read t.now) }
 {
     let end = at - 1;
     let steps = kept[end] as usize;
@@ -118,7 +117,7 @@ fn substitute_back(field: u8, kept: &[u16], used: usize, s: &mut [u16], t: &mut 
     requires laid { Laid (field_at field) (length s.old) (take used kept.now) × (used ≤ length kept.now) }
     requires zero_pair { ZeroPair (length s.old) s.old t.old }
     requires s_nonzero { (0 < length s.old) × (length s.old ≤ max_words) }
-    ensures { Substituted (field_at field) (length (given s)) (take used (given kept)) (cond result s.new t.new) (cond result t.new s.new) }
+    ensures { Substituted (field_at field) (length s.old) (take used kept.now) (cond result s.new t.new) (cond result t.new s.new) }
 {
     let n = s.len();
     s[0] = 1;
@@ -153,8 +152,8 @@ fn write_pair(
 )
     requires tables { Tables (field_at field) (length s.old) whole.now part.now × (length s.old ≤ longest field) }
     requires t_len { (length t.old ≡ length s.old) × (length a.old ≤ length s.old) × (length b.old ≤ length s.old) }
-    ensures a_after { a.new ≡ times_list (field_at field) (length (given a)) (residue (field_at field) m) (given t) }
-    ensures b_after { b.new ≡ times_list (field_at field) (length (given b)) (residue (field_at field) m) (given s) }
+    ensures a_after { a.new ≡ times_list (field_at field) (length a.old) (residue (field_at field) m) t.old }
+    ensures b_after { b.new ≡ times_list (field_at field) (length b.old) (residue (field_at field) m) s.old }
 {
     let na = a.len();
     let nb = b.len();
@@ -176,8 +175,8 @@ fn write_cofactors(
 )
     requires tables { Tables (field_at field) (length s.old) whole.now part.now × (length s.old ≤ longest field) }
     requires t_len { (length t.old ≡ length s.old) × (length a.old ≤ length s.old) × (length b.old ≤ length s.old) }
-    ensures a_after { a.new ≡ times_list (field_at field) (length (given a)) (residue (field_at field) m) (cond first (given t) (given s)) }
-    ensures b_after { b.new ≡ times_list (field_at field) (length (given b)) (residue (field_at field) m) (cond first (given s) (given t)) }
+    ensures a_after { a.new ≡ times_list (field_at field) (length a.old) (residue (field_at field) m) (cond first t.old s.old) }
+    ensures b_after { b.new ≡ times_list (field_at field) (length b.old) (residue (field_at field) m) (cond first s.old t.old) }
 {
     if first {
         write_pair(field, whole, part, s, t, m, a, b);
@@ -208,7 +207,7 @@ fn cofactors_in(
     requires ready { Ready (field_at field) (length x.old) f.now g.now }
     requires slices { Slices (longest field) f.now g.now h.old a.old b.old }
     requires zeros { Zeros (length x.old) x.old y.old kept.old × ZeroPair (length x.old) s.old t.old }
-    ensures { Results (field_at field) (longest field) (given f) (given g) result h.new a.new b.new }
+    ensures { Results (field_at field) (longest field) f.now g.now result h.new a.new b.new }
 {
     let found = list_gcd::gcd_in(field, whole, part, inverses, f, g, x, y, kept, h);
     let first = substitute_back(field, kept, found.kept, s, t);
@@ -229,7 +228,7 @@ fn cofactors_few(
 ) -> Gcd
     requires ready { Ready (field_at field) n f.now g.now × (1 < n) × (n ≤ few_words) }
     requires slices { Slices (longest field) f.now g.now h.old a.old b.old }
-    ensures { Results (field_at field) (longest field) (given f) (given g) result h.new a.new b.new }
+    ensures { Results (field_at field) (longest field) f.now g.now result h.new a.new b.new }
 {
     let whole = field_tables::few_factorials(field);
     let part = field_tables::few_inverse_factorials(field);
@@ -269,7 +268,7 @@ fn cofactors_many(
 ) -> Gcd
     requires ready { Ready (field_at field) n f.now g.now × (1 < n) × (n ≤ longest field) }
     requires slices { Slices (longest field) f.now g.now h.old a.old b.old }
-    ensures { Results (field_at field) (longest field) (given f) (given g) result h.new a.new b.new }
+    ensures { Results (field_at field) (longest field) f.now g.now result h.new a.new b.new }
 {
     let whole = field_tables::factorials(field);
     let part = field_tables::inverse_factorials(field);
@@ -308,7 +307,7 @@ fn cofactors_into(
 ) -> Gcd
     requires ready { Ready (field_at field) (longest field) f.now g.now }
     requires slices { Slices (longest field) f.now g.now h.old a.old b.old }
-    ensures { Results (field_at field) (longest field) (given f) (given g) result h.new a.new b.new }
+    ensures { Results (field_at field) (longest field) f.now g.now result h.new a.new b.new }
 {
     let n = list_gcd::buffer_words(field, f, g);
     if n <= field_tables::FEW_WORDS {

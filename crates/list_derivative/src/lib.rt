@@ -2,7 +2,6 @@
 #![tactic(auto)]
 
 ghost use Rattle.std.specs.Prelude.{◌≡◌, ◌+◌, ◌≤◌, ◌<◌, length};
-ghost use Rattle.refusal.specs.Contract.{given};
 ghost use Rattle.field.specs.Fields.{modulus, field_at, longest};
 ghost use Rattle.refusal.specs.Refusal.{outcome_reply};
 ghost use Rattle.refusal.specs.Lowest.{lowest};
@@ -14,8 +13,8 @@ use refusal::{Outcome, Refusal};
 
 // The same over a field.
 pub fn derivative_over(field: u8, f: &[u16], out: &mut [u16]) -> Outcome
-    ensures answer { outcome_reply result ≡ derivative_answer field (given f) (given out) }
-    ensures writes { out.new ≡ derivative_written field (given f) (given out) }
+    ensures answer { outcome_reply result ≡ derivative_answer field f.now out.old }
+    ensures writes { out.new ≡ derivative_written field f.now out.old }
 {
     let answer = judge_derivative(field, f, out);
     if let Outcome::Done = answer {
@@ -26,7 +25,7 @@ pub fn derivative_over(field: u8, f: &[u16], out: &mut [u16]) -> Outcome
 
 // What a derivative refuses.
 fn judge_derivative(field: u8, f: &[u16], out: &[u16]) -> Outcome
-    ensures { result ≡ lowest (derivative_rows (modulus field) (longest field) (given f) (given out)) }
+    ensures { result ≡ lowest (derivative_rows (modulus field) (longest field) f.now out.now) }
 {
     if let Outcome::Refused(why) = lists::judge_list(field, f) {
         return Outcome::Refused(why);
@@ -40,7 +39,7 @@ fn judge_derivative(field: u8, f: &[u16], out: &[u16]) -> Outcome
 // n times the difference of each word of f to the next.
 fn differences(field: u8, f: &[u16], out: &mut [u16])
     requires { (0 < length out.old) × (length f.now ≡ length out.old + 1) × (length f.now ≤ longest field) }
-    ensures { out.new ≡ of.derivative (field_at field) (given f) }
+    ensures { out.new ≡ of.derivative (field_at field) f.now }
 {
     let n = out.len();
     let mut k = 0;
@@ -54,7 +53,7 @@ fn differences(field: u8, f: &[u16], out: &mut [u16])
 
 fn derivative_into(field: u8, f: &[u16], out: &mut [u16])
     requires { DerivativeFits (longest field) f.now out.old }
-    ensures { out.new ≡ of.derivative (field_at field) (given f) }
+    ensures { out.new ≡ of.derivative (field_at field) f.now }
 {
     if f.len() == 1 {
         out[0] = 0;

@@ -2,7 +2,6 @@
 #![tactic(auto)]
 
 ghost use Rattle.std.specs.Prelude.{◌≡◌, ◌≤◌, length};
-ghost use Rattle.refusal.specs.Contract.{given};
 ghost use Rattle.field.specs.Fields.{modulus, field_at, longest};
 ghost use Rattle.refusal.specs.Refusal.{outcome_reply};
 ghost use Rattle.refusal.specs.Lowest.{lowest};
@@ -15,10 +14,10 @@ use refusal::{Outcome, Refusal};
 
 // g divided by f over a field: the quotient goes to q, the remainder to r.
 pub fn divide_over(field: u8, g: &[u16], f: &[u16], q: &mut [u16], r: &mut [u16]) -> Outcome
-    ensures answer { outcome_reply result ≡ divide_answer field (given g) (given f) (given q) (given r) }
-    ensures quotient { q.new ≡ quotient_written field (given g) (given f) (given q) (given r) }
-    ensures remainder { r.new ≡ remainder_written field (given g) (given f) (given q) (given r) }
-    ensures property { result ≡ Outcome.Done → DividesSo (field_at field) (given g) (given f) q.new r.new }
+    ensures answer { outcome_reply result ≡ divide_answer field g.now f.now q.old r.old }
+    ensures quotient { q.new ≡ quotient_written field g.now f.now q.old r.old }
+    ensures remainder { r.new ≡ remainder_written field g.now f.now q.old r.old }
+    ensures property { result ≡ Outcome.Done → DividesSo (field_at field) g.now f.now q.new r.new }
 {
     let answer = judge_divide(field, g, f, q, r);
     match answer {
@@ -32,7 +31,7 @@ pub fn divide_over(field: u8, g: &[u16], f: &[u16], q: &mut [u16], r: &mut [u16]
 
 // What a division refuses.
 fn judge_divide(field: u8, g: &[u16], f: &[u16], q: &[u16], r: &[u16]) -> Outcome
-    ensures { result ≡ lowest (divide_rows (modulus field) (longest field) (given g) (given f) (given q) (given r)) }
+    ensures { result ≡ lowest (divide_rows (modulus field) (longest field) g.now f.now q.now r.now) }
 {
     if let Outcome::Refused(why) = lists::judge_lists(field, g, f) {
         return Outcome::Refused(why);
@@ -69,8 +68,8 @@ fn divide_in(
     requires tables_for { TablesFor field whole.now part.now }
     requires divide_fits { DivideFits (field_at field) (length whole.now) g.now f.now q.old r.old }
     requires x_len { (length x.old ≡ length g.now) × (length y.old ≡ length f.now) × (length k.old ≡ length q.old) }
-    ensures quotient { q.new ≡ quotient_of (field_at field) (given g) (given f) }
-    ensures remainder { r.new ≡ remainder_of (field_at field) (given g) (given f) }
+    ensures quotient { q.new ≡ quotient_of (field_at field) g.now f.now }
+    ensures remainder { r.new ≡ remainder_of (field_at field) g.now f.now }
 {
     let inv = field_inverse::inverse_or_zero(field, inverses, f[f.len() - 1]);
     word_scaling::weigh(field, g, whole, part, x);
@@ -93,8 +92,8 @@ fn divide_few(
 )
     requires tables_for { TablesFor field whole.now part.now }
     requires divide_fits { DivideFits (field_at field) (length whole.now) g.now f.now q.old r.old × (length g.now ≤ few_words) }
-    ensures quotient { q.new ≡ quotient_of (field_at field) (given g) (given f) }
-    ensures remainder { r.new ≡ remainder_of (field_at field) (given g) (given f) }
+    ensures quotient { q.new ≡ quotient_of (field_at field) g.now f.now }
+    ensures remainder { r.new ≡ remainder_of (field_at field) g.now f.now }
 {
     let m = g.len();
     let n = f.len();
@@ -130,8 +129,8 @@ fn divide_many(
 )
     requires tables_for { TablesFor field whole.now part.now }
     requires divide_fits { DivideFits (field_at field) (length whole.now) g.now f.now q.old r.old }
-    ensures quotient { q.new ≡ quotient_of (field_at field) (given g) (given f) }
-    ensures remainder { r.new ≡ remainder_of (field_at field) (given g) (given f) }
+    ensures quotient { q.new ≡ quotient_of (field_at field) g.now f.now }
+    ensures remainder { r.new ≡ remainder_of (field_at field) g.now f.now }
 {
     let m = g.len();
     let n = f.len();
@@ -167,8 +166,8 @@ fn divide_with(
 )
     requires tables_for { TablesFor field whole.now part.now }
     requires divide_fits { DivideFits (field_at field) (length whole.now) g.now f.now q.old r.old }
-    ensures quotient { q.new ≡ quotient_of (field_at field) (given g) (given f) }
-    ensures remainder { r.new ≡ remainder_of (field_at field) (given g) (given f) }
+    ensures quotient { q.new ≡ quotient_of (field_at field) g.now f.now }
+    ensures remainder { r.new ≡ remainder_of (field_at field) g.now f.now }
 {
     if g.len() <= field_tables::FEW_WORDS {
         divide_few(field, whole, part, inverses, g, f, q, r);
@@ -180,8 +179,8 @@ fn divide_with(
 // The same with our own tables, of the size that the dividend needs.
 fn divide_into(field: u8, g: &[u16], f: &[u16], q: &mut [u16], r: &mut [u16])
     requires { DivideFits (field_at field) (longest field) g.now f.now q.old r.old }
-    ensures quotient { q.new ≡ quotient_of (field_at field) (given g) (given f) }
-    ensures remainder { r.new ≡ remainder_of (field_at field) (given g) (given f) }
+    ensures quotient { q.new ≡ quotient_of (field_at field) g.now f.now }
+    ensures remainder { r.new ≡ remainder_of (field_at field) g.now f.now }
 {
     let inverses = field_tables::inverses(field);
     if g.len() <= field_tables::FEW_WORDS {

@@ -2,7 +2,6 @@
 #![tactic(auto)]
 
 ghost use Rattle.std.specs.Prelude.{◌≡◌, ◌≤◌, length};
-ghost use Rattle.refusal.specs.Contract.{given};
 ghost use Rattle.field.specs.Fields.{modulus, field_at, longest};
 ghost use Rattle.refusal.specs.Refusal.{outcome_reply};
 ghost use Rattle.refusal.specs.Lowest.{lowest};
@@ -28,8 +27,8 @@ pub enum Found {
 
 // The same over a field.
 pub fn extent_over(field: u8, f: &[u16]) -> Found
-    ensures answer { extent_reply result ≡ extent_answer field (given f) }
-    ensures read { searched_reply result ≡ searched_answer field (given f) }
+    ensures answer { extent_reply result ≡ extent_answer field f.now }
+    ensures read { searched_reply result ≡ searched_answer field f.now }
 {
     if let Outcome::Refused(why) = lists::judge_list(field, f) {
         return Found::Refused(why);
@@ -44,8 +43,8 @@ pub fn extent_over(field: u8, f: &[u16]) -> Found
 
 // The same over a field.
 pub fn trim_over(field: u8, f: &[u16], out: &mut [u16]) -> Outcome
-    ensures answer { outcome_reply result ≡ trim_answer field (given f) (given out) }
-    ensures writes { out.new ≡ trim_written field (given f) (given out) }
+    ensures answer { outcome_reply result ≡ trim_answer field f.now out.old }
+    ensures writes { out.new ≡ trim_written field f.now out.old }
 {
     let answer = judge_trim(field, f, out);
     if let Outcome::Done = answer {
@@ -56,7 +55,7 @@ pub fn trim_over(field: u8, f: &[u16], out: &mut [u16]) -> Outcome
 
 // What a trim refuses.
 fn judge_trim(field: u8, f: &[u16], out: &[u16]) -> Outcome
-    ensures { result ≡ lowest (trim_rows (modulus field) (longest field) (given f) (given out)) }
+    ensures { result ≡ lowest (trim_rows (modulus field) (longest field) f.now out.now) }
 {
     if let Outcome::Refused(why) = lists::judge_list(field, f) {
         return Outcome::Refused(why);
@@ -76,7 +75,7 @@ fn trim_in(field: u8, whole: &[u16], part: &[u16], f: &[u16], s: &mut [u16], out
     requires tables_for { TablesFor field whole.now part.now }
     requires trim_fits { TrimFits (length whole.now) f.now out.old }
     requires s_len { length s.old ≡ length f.now }
-    ensures { out.new ≡ of.trim (field_at field) (given f) }
+    ensures { out.new ≡ of.trim (field_at field) f.now }
 {
     word_scaling::weigh(field, f, whole, part, s);
     let form = &*s;
@@ -86,7 +85,7 @@ fn trim_in(field: u8, whole: &[u16], part: &[u16], f: &[u16], s: &mut [u16], out
 // The trim of a short list that is not refused, with small tables and a small array: tables are copied, and the array is filled with zeros.
 fn trim_few(field: u8, f: &[u16], out: &mut [u16])
     requires { TrimFits (longest field) f.now out.old × (length f.now ≤ few_words) }
-    ensures { out.new ≡ of.trim (field_at field) (given f) }
+    ensures { out.new ≡ of.trim (field_at field) f.now }
 {
     let whole = field_tables::few_factorials(field);
     let part = field_tables::few_inverse_factorials(field);
@@ -98,7 +97,7 @@ fn trim_few(field: u8, f: &[u16], out: &mut [u16])
 // The trim of any list that is not refused.
 fn trim_many(field: u8, f: &[u16], out: &mut [u16])
     requires { TrimFits (longest field) f.now out.old }
-    ensures { out.new ≡ of.trim (field_at field) (given f) }
+    ensures { out.new ≡ of.trim (field_at field) f.now }
 {
     let whole = field_tables::factorials(field);
     let part = field_tables::inverse_factorials(field);
@@ -110,7 +109,7 @@ fn trim_many(field: u8, f: &[u16], out: &mut [u16])
 // The same with tables and an array of the size that the list needs.
 fn trim_into(field: u8, f: &[u16], out: &mut [u16])
     requires { TrimFits (longest field) f.now out.old }
-    ensures { out.new ≡ of.trim (field_at field) (given f) }
+    ensures { out.new ≡ of.trim (field_at field) f.now }
 {
     if f.len() <= field_tables::FEW_WORDS {
         trim_few(field, f, out);

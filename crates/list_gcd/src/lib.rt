@@ -2,7 +2,6 @@
 #![tactic(auto)]
 
 ghost use Rattle.std.specs.Prelude.{◌≡◌, cond, [], ◌∷◌, ℕ, min, max, ◌+◌, ◌*◌, ◌<◌, ◌≤◌, eqb, length, get_or, take};
-ghost use Rattle.refusal.specs.Contract.{given};
 ghost use Rattle.algebra.specs.PrimeField.{residue};
 ghost use Rattle.field.specs.Fields.{modulus, field_at, longest};
 ghost use Rattle.refusal.specs.Limits.{max_words};
@@ -33,9 +32,9 @@ pub enum Gcd {
 
 // The GCD of f and g over a field: h goes to a slice of as many words as the longest list has, zeros after word w.
 pub fn gcd_over(field: u8, f: &[u16], g: &[u16], h: &mut [u16]) -> Gcd
-    ensures answer { gcd_reply result ≡ gcd_answer field (given f) (given g) (given h) }
-    ensures writes { h.new ≡ gcd_written field (given f) (given g) (given h) }
-    ensures greatest { Greatest (field_at field) (given f) (given g) h.new result }
+    ensures answer { gcd_reply result ≡ gcd_answer field f.now g.now h.old }
+    ensures writes { h.new ≡ gcd_written field f.now g.now h.old }
+    ensures greatest { Greatest (field_at field) f.now g.now h.new result }
 {
     let answer = judge_gcd(field, f, g, h);
     match answer {
@@ -46,7 +45,7 @@ pub fn gcd_over(field: u8, f: &[u16], g: &[u16], h: &mut [u16]) -> Gcd
 
 // Whether f and g are both zero.
 fn both_zero(f: &[u16], g: &[u16]) -> bool
-    ensures { result ≡ eqb (significant (given f) + significant (given g)) 0 }
+    ensures { result ≡ eqb (significant f.now + significant g.now) 0 }
 {
     if lists::significant_words(f) != 0 {
         return false;
@@ -56,7 +55,7 @@ fn both_zero(f: &[u16], g: &[u16]) -> bool
 
 // What the GCD refuses.
 pub fn judge_gcd(field: u8, f: &[u16], g: &[u16], h: &[u16]) -> Outcome
-    ensures { result ≡ lowest (gcd_rows (modulus field) (longest field) (given f) (given g) (given h)) }
+    ensures { result ≡ lowest (gcd_rows (modulus field) (longest field) f.now g.now h.now) }
 {
     if let Outcome::Refused(why) = lists::judge_lists(field, f, g) {
         return Outcome::Refused(why);
@@ -72,7 +71,7 @@ pub fn judge_gcd(field: u8, f: &[u16], g: &[u16], h: &[u16]) -> Outcome
 
 // The least power among those of f and g that are not zero; 0 where both are.
 fn common_power(f: &[u16], g: &[u16]) -> Power
-    ensures { result.0 ≡ common_power (given f ∷ given g ∷ []) }
+    ensures { result.0 ≡ common_power (f.now ∷ g.now ∷ []) }
 {
     let nf = lists::significant_words(f);
     let ng = lists::significant_words(g);
@@ -98,7 +97,7 @@ fn scale_into(field: u8, whole: &[u16], part: &[u16], list: &[u16], buffer: &mut
     requires tables { Tables (field_at field) (length buffer.old) whole.now part.now }
     requires list_in_bounds { (length list.now ≤ length buffer.old) × (length buffer.old ≤ longest field) }
     requires by_index { (k : ℕ) → get_or buffer.old k 0 ≡ 0 }
-    ensures { Holds (field_at field) (length (given buffer)) buffer.new (scaled (field_at field) (given list)) }
+    ensures { Holds (field_at field) (length buffer.old) buffer.new (scaled (field_at field) list.now) }
 {
     let n = list.len();
     word_scaling::weigh(field, list, whole, part, &mut buffer[..n]);
@@ -127,7 +126,7 @@ fn keep_round(
     requires buffer_2 { Buffer (field_at field) (length x.old) y.now }
     requires nx_value { (nx ≡ significant x.old) × (ny ≡ significant y.now) × (0 < ny) }
     requires x_len_bound { (length x.old ≤ max_words) × (at + (max nx ny + 2 * ny) ≤ length kept.old) }
-    ensures { RoundKept (field_at field) (given x) (given y) (take at (given kept)) result.steps result.left x.new (take (at + (result.steps + 1)) kept.new) }
+    ensures { RoundKept (field_at field) x.old y.now (take at kept.old) result.steps result.left x.new (take (at + (result.steps + 1)) kept.new) }
 {
     let made = euclid_round::shorten(field, inverses, x, nx, y, ny, &mut kept[at..]);
     kept[at + made.steps] = made.steps as u16;
@@ -139,8 +138,8 @@ fn all_rounds(field: u8, inverses: &[u16], x: &mut [u16], y: &mut [u16], kept: &
     requires buffer { Buffer (field_at field) (length x.old) x.old }
     requires buffer_2 { Buffer (field_at field) (length x.old) y.old }
     requires x_len_bound { (length x.old ≤ max_words) × (length kept.old ≡ 3 * length x.old) }
-    ensures ends { Ends (field_at field) (length (given x)) (given x) (given y) (cond result.first x.new y.new) result.rounds (take result.kept kept.new) }
-    ensures kept_in_bounds { result.kept ≤ length (given kept) }
+    ensures ends { Ends (field_at field) (length x.old) x.old y.old (cond result.first x.new y.new) result.rounds (take result.kept kept.new) }
+    ensures kept_in_bounds { result.kept ≤ length kept.old }
 {
     let mut rounds = 0;
     let mut at = 0;
@@ -191,9 +190,9 @@ fn write_gcd(
     requires tables { Tables (field_at field) (length last.old) whole.now part.now }
     requires buffer { Buffer (field_at field) (length last.old) last.old × (length last.old ≤ longest field) }
     requires last_nonzero { (0 < significant last.old) × (length h.old ≡ longest field) }
-    ensures degree_value { result.degree + 1 ≡ significant (given last) }
-    ensures inverse_value { residue (field_at field) result.inverse ≡ last_inverse (field_at field) (given last) }
-    ensures h_after { h.new ≡ monic_words (field_at field) (longest field) (given last) }
+    ensures degree_value { result.degree + 1 ≡ significant last.old }
+    ensures inverse_value { residue (field_at field) result.inverse ≡ last_inverse (field_at field) last.old }
+    ensures h_after { h.new ≡ monic_words (field_at field) (longest field) last.old }
 {
     let n = lists::significant_words(last);
     let inv = field_inverse::inverse_or_zero(field, inverses, last[n - 1]);
@@ -218,9 +217,9 @@ fn write_last(
     requires tables { Tables (field_at field) (length (cond first x.old y.old)) whole.now part.now }
     requires buffer { Buffer (field_at field) (length (cond first x.old y.old)) (cond first x.old y.old) × (length (cond first x.old y.old) ≤ longest field) }
     requires nonzero { (0 < significant (cond first x.old y.old)) × (length h.old ≡ longest field) }
-    ensures degree_value { result.degree + 1 ≡ significant (cond first (given x) (given y)) }
-    ensures inverse_value { residue (field_at field) result.inverse ≡ last_inverse (field_at field) (cond first (given x) (given y)) }
-    ensures h_after { h.new ≡ monic_words (field_at field) (longest field) (cond first (given x) (given y)) }
+    ensures degree_value { result.degree + 1 ≡ significant (cond first x.old y.old) }
+    ensures inverse_value { residue (field_at field) result.inverse ≡ last_inverse (field_at field) (cond first x.old y.old) }
+    ensures h_after { h.new ≡ monic_words (field_at field) (longest field) (cond first x.old y.old) }
 {
     if first {
         return write_gcd(field, whole, part, inverses, x, h);
@@ -243,9 +242,9 @@ fn find_last(
     requires tables { Tables (field_at field) (length x.old) whole.now part.now }
     requires ready { Ready (field_at field) (length x.old) f.now g.now × (length x.old ≤ longest field) }
     requires zeros { Zeros (length x.old) x.old y.old kept.old }
-    ensures rounds_value { result.rounds ≡ rounds_of (field_at field) (given f) (given g) }
-    ensures last_of { LastOf (field_at field) (length (given x)) (given f) (given g) (cond result.first x.new y.new) }
-    ensures trail_of { TrailOf (field_at field) (length (given x)) (given f) (given g) (take result.kept kept.new) × (result.kept ≤ length (given kept)) }
+    ensures rounds_value { result.rounds ≡ rounds_of (field_at field) f.now g.now }
+    ensures last_of { LastOf (field_at field) (length x.old) f.now g.now (cond result.first x.new y.new) }
+    ensures trail_of { TrailOf (field_at field) (length x.old) f.now g.now (take result.kept kept.new) × (result.kept ≤ length kept.old) }
 {
     scale_into(field, whole, part, g, x);
     scale_into(field, whole, part, f, y);
@@ -280,9 +279,9 @@ pub fn gcd_in(
     requires ready { Ready (field_at field) (length x.old) f.now g.now × (length x.old ≤ longest field) }
     requires zeros { Zeros (length x.old) x.old y.old kept.old }
     requires h_len { length h.old ≡ longest field }
-    ensures numbers { Numbers (field_at field) (given f) (given g) result.degree result.power result.rounds result.inverse }
-    ensures h_after { h.new ≡ padded (longest field) (gcd_of (field_at field) (given f) (given g)) }
-    ensures trail_of { TrailOf (field_at field) (length (given x)) (given f) (given g) (take result.kept kept.new) × (result.kept ≤ length (given kept)) }
+    ensures numbers { Numbers (field_at field) f.now g.now result.degree result.power result.rounds result.inverse }
+    ensures h_after { h.new ≡ padded (longest field) (gcd_of (field_at field) f.now g.now) }
+    ensures trail_of { TrailOf (field_at field) (length x.old) f.now g.now (take result.kept kept.new) × (result.kept ≤ length kept.old) }
 {
     let ended = find_last(field, whole, part, inverses, f, g, x, y, kept);
     let made = write_last(field, whole, part, inverses, ended.first, x, y, h);
@@ -310,7 +309,7 @@ pub fn answer_of(found: Found) -> Gcd
 // The words of a buffer: as many as the longer list has, and zeros after them, so that a row can be added in groups of 8 words.
 pub fn buffer_words(field: u8, f: &[u16], g: &[u16]) -> usize
     requires { (length f.now ≤ longest field) × (length g.now ≤ longest field) }
-    ensures { result ≡ min (longest field) (max (length (given f)) (length (given g)) + 7) }
+    ensures { result ≡ min (longest field) (max (length f.now) (length g.now) + 7) }
 {
     words::smaller(
         field::longest_of(field),
@@ -323,8 +322,8 @@ pub fn buffer_words(field: u8, f: &[u16], g: &[u16]) -> usize
 fn gcd_few(field: u8, f: &[u16], g: &[u16], n: usize, h: &mut [u16]) -> Gcd
     requires ready { Ready (field_at field) n f.now g.now × (n ≤ few_words) }
     requires h_len { length h.old ≡ longest field }
-    ensures value { result ≡ gcd_done (field_at field) (given f) (given g) }
-    ensures h_after { h.new ≡ padded (longest field) (gcd_of (field_at field) (given f) (given g)) }
+    ensures value { result ≡ gcd_done (field_at field) f.now g.now }
+    ensures h_after { h.new ≡ padded (longest field) (gcd_of (field_at field) f.now g.now) }
 {
     let whole = field_tables::few_factorials(field);
     let part = field_tables::few_inverse_factorials(field);
@@ -351,8 +350,8 @@ fn gcd_few(field: u8, f: &[u16], g: &[u16], n: usize, h: &mut [u16]) -> Gcd
 fn gcd_many(field: u8, f: &[u16], g: &[u16], n: usize, h: &mut [u16]) -> Gcd
     requires ready { Ready (field_at field) n f.now g.now × (n ≤ longest field) }
     requires h_len { length h.old ≡ longest field }
-    ensures value { result ≡ gcd_done (field_at field) (given f) (given g) }
-    ensures h_after { h.new ≡ padded (longest field) (gcd_of (field_at field) (given f) (given g)) }
+    ensures value { result ≡ gcd_done (field_at field) f.now g.now }
+    ensures h_after { h.new ≡ padded (longest field) (gcd_of (field_at field) f.now g.now) }
 {
     let whole = field_tables::factorials(field);
     let part = field_tables::inverse_factorials(field);
@@ -379,8 +378,8 @@ fn gcd_many(field: u8, f: &[u16], g: &[u16], n: usize, h: &mut [u16]) -> Gcd
 fn gcd_into(field: u8, f: &[u16], g: &[u16], h: &mut [u16]) -> Gcd
     requires ready { Ready (field_at field) (longest field) f.now g.now }
     requires h_len { length h.old ≡ longest field }
-    ensures value { result ≡ gcd_done (field_at field) (given f) (given g) }
-    ensures h_after { h.new ≡ padded (longest field) (gcd_of (field_at field) (given f) (given g)) }
+    ensures value { result ≡ gcd_done (field_at field) f.now g.now }
+    ensures h_after { h.new ≡ padded (longest field) (gcd_of (field_at field) f.now g.now) }
 {
     let n = buffer_words(field, f, g);
     if n <= field_tables::FEW_WORDS {

@@ -2,7 +2,6 @@
 #![tactic(auto)]
 
 ghost use Rattle.std.specs.Prelude.{◌≡◌, true, ◌++◌, ◌≤◌, length, take, drop};
-ghost use Rattle.refusal.specs.Contract.{given};
 ghost use Rattle.refusal.specs.Limits.{max_words};
 ghost use Rattle.refusal.specs.Refusal.{outcome_reply};
 ghost use Rattle.refusal.specs.Lowest.{lowest};
@@ -25,10 +24,10 @@ pub fn divide_ordinary_over(
     q: &mut [u16],
     r: &mut [u16],
 ) -> Outcome
-    ensures answer { outcome_reply result ≡ ordinary_answer field (given g) (given f) (given q) (given r) }
-    ensures quotient { q.new ≡ ordinary_quotient_written field (given g) (given f) (given q) (given r) }
-    ensures remainder { r.new ≡ ordinary_remainder_written field (given g) (given f) (given q) (given r) }
-    ensures property { result ≡ Outcome.Done → OrdinarySo (field_at field) (given g) (given f) q.new r.new }
+    ensures answer { outcome_reply result ≡ ordinary_answer field g.now f.now q.old r.old }
+    ensures quotient { q.new ≡ ordinary_quotient_written field g.now f.now q.old r.old }
+    ensures remainder { r.new ≡ ordinary_remainder_written field g.now f.now q.old r.old }
+    ensures property { result ≡ Outcome.Done → OrdinarySo (field_at field) g.now f.now q.new r.new }
 {
     let answer = judge_ordinary(field, g, f, q, r);
     match answer {
@@ -42,7 +41,7 @@ pub fn divide_ordinary_over(
 
 // What the division refuses.
 fn judge_ordinary(field: u8, g: &[u16], f: &[u16], q: &[u16], r: &[u16]) -> Outcome
-    ensures { result ≡ lowest (ordinary_rows (modulus field) (longest field) (given g) (given f) (given q) (given r)) }
+    ensures { result ≡ lowest (ordinary_rows (modulus field) (longest field) g.now f.now q.now r.now) }
 {
     if let Outcome::Refused(why) = lists::judge_lists(field, g, f) {
         return Outcome::Refused(why);
@@ -63,7 +62,7 @@ fn judge_ordinary(field: u8, g: &[u16], f: &[u16], q: &[u16], r: &[u16]) -> Outc
 fn place(field: u8, whole: &[u16], part: &[u16], list: &[u16], x: &mut [u16])
     requires tables_for { TablesFor field whole.now part.now }
     requires list_in_bounds { (length list.now ≤ length x.old) × (length list.now ≤ length whole.now) }
-    ensures { x.new ≡ powers_into (modulus field) (given whole) (given part) (given list) (take (length (given list)) (given x)) ++ drop (length (given list)) (given x) }
+    ensures { x.new ≡ powers_into (modulus field) whole.now part.now list.now (take (length list.now) x.old) ++ drop (length list.now) x.old }
 {
     let n = list.len();
     list_powers::powers_of_t(field, whole, part, list, &mut x[..n]);
@@ -73,7 +72,7 @@ fn place(field: u8, whole: &[u16], part: &[u16], list: &[u16], x: &mut [u16])
 fn write_back(field: u8, whole: &[u16], part: &[u16], x: &mut [u16], out: &mut [u16])
     requires tables_for { TablesFor field whole.now part.now }
     requires out_in_bounds { (length out.old ≤ length x.old) × (length out.old ≤ length whole.now) }
-    ensures { out.new ≡ weighed_into (modulus field) (expanded_into (modulus field) true (take (length (given out)) (given x))) (given part) (given whole) (given out) }
+    ensures { out.new ≡ weighed_into (modulus field) (expanded_into (modulus field) true (take (length out.old) x.old)) part.now whole.now out.old }
 {
     let n = out.len();
     list_powers::list_of_powers(field, whole, part, &mut x[..n], out);
@@ -97,8 +96,8 @@ fn divide_in(
     requires tables_for { TablesFor field whole.now part.now }
     requires ordinary_fits { OrdinaryFits (field_at field) (length whole.now) g.now f.now q.old r.old }
     requires buffers { Buffers (length g.now) (length f.now) x.old y.old k.old }
-    ensures quotient { q.new ≡ ordinary_quotient (field_at field) (given g) (given f) }
-    ensures remainder { r.new ≡ ordinary_remainder (field_at field) (given g) (given f) }
+    ensures quotient { q.new ≡ ordinary_quotient (field_at field) g.now f.now }
+    ensures remainder { r.new ≡ ordinary_remainder (field_at field) g.now f.now }
 {
     let l = x.len();
     place(field, whole, part, g, x);
@@ -113,8 +112,8 @@ fn divide_in(
 fn divide_few(field: u8, g: &[u16], f: &[u16], l: usize, q: &mut [u16], r: &mut [u16])
     requires ordinary_fits { OrdinaryFits (field_at field) (longest field) g.now f.now q.old r.old }
     requires g_len_bound { (length g.now ≤ l) × (length f.now ≤ l) × (l ≤ few_words) }
-    ensures quotient { q.new ≡ ordinary_quotient (field_at field) (given g) (given f) }
-    ensures remainder { r.new ≡ ordinary_remainder (field_at field) (given g) (given f) }
+    ensures quotient { q.new ≡ ordinary_quotient (field_at field) g.now f.now }
+    ensures remainder { r.new ≡ ordinary_remainder (field_at field) g.now f.now }
 {
     let whole = field_tables::few_factorials(field);
     let part = field_tables::few_inverse_factorials(field);
@@ -141,8 +140,8 @@ fn divide_few(field: u8, g: &[u16], f: &[u16], l: usize, q: &mut [u16], r: &mut 
 fn divide_many(field: u8, g: &[u16], f: &[u16], l: usize, q: &mut [u16], r: &mut [u16])
     requires ordinary_fits { OrdinaryFits (field_at field) (longest field) g.now f.now q.old r.old }
     requires g_len_bound { (length g.now ≤ l) × (length f.now ≤ l) × (l ≤ max_words) }
-    ensures quotient { q.new ≡ ordinary_quotient (field_at field) (given g) (given f) }
-    ensures remainder { r.new ≡ ordinary_remainder (field_at field) (given g) (given f) }
+    ensures quotient { q.new ≡ ordinary_quotient (field_at field) g.now f.now }
+    ensures remainder { r.new ≡ ordinary_remainder (field_at field) g.now f.now }
 {
     let whole = field_tables::factorials(field);
     let part = field_tables::inverse_factorials(field);
@@ -168,8 +167,8 @@ fn divide_many(field: u8, g: &[u16], f: &[u16], l: usize, q: &mut [u16], r: &mut
 // The same with tables and arrays of the size that the longer list needs.
 fn divide_into(field: u8, g: &[u16], f: &[u16], q: &mut [u16], r: &mut [u16])
     requires { OrdinaryFits (field_at field) (longest field) g.now f.now q.old r.old }
-    ensures quotient { q.new ≡ ordinary_quotient (field_at field) (given g) (given f) }
-    ensures remainder { r.new ≡ ordinary_remainder (field_at field) (given g) (given f) }
+    ensures quotient { q.new ≡ ordinary_quotient (field_at field) g.now f.now }
+    ensures remainder { r.new ≡ ordinary_remainder (field_at field) g.now f.now }
 {
     let l = words::larger(g.len(), f.len());
     if l <= field_tables::FEW_WORDS {

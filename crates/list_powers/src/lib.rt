@@ -3,7 +3,6 @@
 #![tactic(auto)]
 
 ghost use Rattle.std.specs.Prelude.{◌≡◌, true, ◌≤◌, length};
-ghost use Rattle.refusal.specs.Contract.{given};
 ghost use Rattle.field.specs.Fields.{modulus, field_at};
 ghost use Rattle.field_tables.specs.Factorials.{TablesFor};
 ghost use Rattle.word_scaling.specs.Scaling.{weighed_into};
@@ -19,7 +18,7 @@ pub struct DegreeInT(pub usize);
 pub fn powers_of_t(field: u8, whole: &[u16], part: &[u16], list: &[u16], out: &mut [u16])
     requires tables_for { TablesFor field whole.now part.now }
     requires out_in_bounds { length out.old ≤ length whole.now }
-    ensures { out.new ≡ powers_into (modulus field) (given whole) (given part) (given list) (given out) }
+    ensures { out.new ≡ powers_into (modulus field) whole.now part.now list.now out.old }
 {
     word_scaling::weigh(field, list, whole, part, out);
     word_expansion_halves::expand(field, whole, part, false, out);
@@ -29,8 +28,8 @@ pub fn powers_of_t(field: u8, whole: &[u16], part: &[u16], list: &[u16], out: &m
 pub fn list_of_powers(field: u8, whole: &[u16], part: &[u16], powers: &mut [u16], out: &mut [u16])
     requires tables_for { TablesFor field whole.now part.now }
     requires powers_in_bounds { length powers.old ≤ length whole.now }
-    ensures form { powers.new ≡ expanded_into (modulus field) true (given powers) }
-    ensures writes { out.new ≡ weighed_into (modulus field) (expanded_into (modulus field) true (given powers)) (given part) (given whole) (given out) }
+    ensures form { powers.new ≡ expanded_into (modulus field) true powers.old }
+    ensures writes { out.new ≡ weighed_into (modulus field) (expanded_into (modulus field) true powers.old) part.now whole.now out.old }
 {
     word_expansion_halves::expand(field, whole, part, true, powers);
     word_scaling::weigh(field, powers, part, whole, out);
@@ -38,7 +37,7 @@ pub fn list_of_powers(field: u8, whole: &[u16], part: &[u16], powers: &mut [u16]
 
 // The degree in t of a list; 0 for a zero list, which has none, and for one that is too long.
 pub fn degree_in_t(field: u8, list: &[u16]) -> DegreeInT
-    ensures { result.0 ≡ degree_found field (given list) }
+    ensures { result.0 ≡ degree_found field list.now }
 {
     let n = list.len();
     if field::longest_of(field) < n {
@@ -54,7 +53,7 @@ pub fn degree_in_t(field: u8, list: &[u16]) -> DegreeInT
 fn degree_in(field: u8, whole: &[u16], part: &[u16], list: &[u16], x: &mut [u16]) -> usize
     requires tables_for { TablesFor field whole.now part.now }
     requires list_in_bounds { (length list.now ≤ length whole.now) × (length x.old ≡ length list.now) }
-    ensures { result ≡ degree_in_t (field_at field) (given list) }
+    ensures { result ≡ degree_in_t (field_at field) list.now }
 {
     powers_of_t(field, whole, part, list, x);
     lists::extent_of(x).0

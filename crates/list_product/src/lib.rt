@@ -2,7 +2,6 @@
 #![tactic(auto)]
 
 ghost use Rattle.std.specs.Prelude.{◌≡◌, ◌≤◌, length};
-ghost use Rattle.refusal.specs.Contract.{given};
 ghost use Rattle.field.specs.Fields.{modulus, field_at, longest};
 ghost use Rattle.refusal.specs.Refusal.{outcome_reply};
 ghost use Rattle.refusal.specs.Lowest.{lowest};
@@ -17,8 +16,8 @@ use refusal::{Outcome, Refusal};
 
 // The product over a field.
 pub fn product_over(field: u8, f: &[u16], g: &[u16], out: &mut [u16]) -> Outcome
-    ensures answer { outcome_reply result ≡ product_answer field (given f) (given g) (given out) }
-    ensures writes { out.new ≡ product_written field (given f) (given g) (given out) }
+    ensures answer { outcome_reply result ≡ product_answer field f.now g.now out.old }
+    ensures writes { out.new ≡ product_written field f.now g.now out.old }
 {
     let answer = judge_product(field, f, g, out);
     match answer {
@@ -32,8 +31,8 @@ pub fn product_over(field: u8, f: &[u16], g: &[u16], out: &mut [u16]) -> Outcome
 
 // The raise over a field.
 pub fn raise_over(field: u8, f: &[u16], to: NaiveDegree, out: &mut [u16]) -> Outcome
-    ensures answer { outcome_reply result ≡ raise_answer field (given f) to.0 (given out) }
-    ensures writes { out.new ≡ raise_written field (given f) to.0 (given out) }
+    ensures answer { outcome_reply result ≡ raise_answer field f.now to.0 out.old }
+    ensures writes { out.new ≡ raise_written field f.now to.0 out.old }
 {
     let answer = judge_raise(field, f, to, out);
     match answer {
@@ -47,7 +46,7 @@ pub fn raise_over(field: u8, f: &[u16], to: NaiveDegree, out: &mut [u16]) -> Out
 
 // What the product refuses.
 fn judge_product(field: u8, f: &[u16], g: &[u16], out: &[u16]) -> Outcome
-    ensures { result ≡ lowest (product_rows (modulus field) (longest field) (given f) (given g) (given out)) }
+    ensures { result ≡ lowest (product_rows (modulus field) (longest field) f.now g.now out.now) }
 {
     if let Outcome::Refused(why) = lists::judge_lists(field, f, g) {
         return Outcome::Refused(why);
@@ -63,7 +62,7 @@ fn judge_product(field: u8, f: &[u16], g: &[u16], out: &[u16]) -> Outcome
 
 // What a raise refuses.
 fn judge_raise(field: u8, f: &[u16], to: NaiveDegree, out: &[u16]) -> Outcome
-    ensures { result ≡ lowest (raise_rows (modulus field) (longest field) (given f) to.0 (given out)) }
+    ensures { result ≡ lowest (raise_rows (modulus field) (longest field) f.now to.0 out.now) }
 {
     let target = to.0;
     if let Outcome::Refused(why) = lists::judge_list(field, f) {
@@ -96,7 +95,7 @@ fn product_in(
     requires tables_for { TablesFor field whole.now part.now }
     requires product_fits { ProductFits (length whole.now) f.now g.now out.old }
     requires a_len { (length a.old ≡ length f.now) × (length b.old ≡ length g.now) × (length s.old ≡ length out.old) }
-    ensures { out.new ≡ of.product (field_at field) (given f) (given g) }
+    ensures { out.new ≡ of.product (field_at field) f.now g.now }
 {
     word_scaling::weigh(field, f, whole, part, a);
     word_scaling::weigh(field, g, whole, part, b);
@@ -108,7 +107,7 @@ fn product_in(
 fn product_few(field: u8, whole: &[u16], part: &[u16], f: &[u16], g: &[u16], out: &mut [u16])
     requires tables_for { TablesFor field whole.now part.now }
     requires product_fits { ProductFits (length whole.now) f.now g.now out.old × (length out.old ≤ few_words) }
-    ensures { out.new ≡ of.product (field_at field) (given f) (given g) }
+    ensures { out.new ≡ of.product (field_at field) f.now g.now }
 {
     let d = f.len();
     let e = g.len();
@@ -133,7 +132,7 @@ fn product_few(field: u8, whole: &[u16], part: &[u16], f: &[u16], g: &[u16], out
 fn product_many(field: u8, whole: &[u16], part: &[u16], f: &[u16], g: &[u16], out: &mut [u16])
     requires tables_for { TablesFor field whole.now part.now }
     requires product_fits { ProductFits (length whole.now) f.now g.now out.old }
-    ensures { out.new ≡ of.product (field_at field) (given f) (given g) }
+    ensures { out.new ≡ of.product (field_at field) f.now g.now }
 {
     let d = f.len();
     let e = g.len();
@@ -158,7 +157,7 @@ fn product_many(field: u8, whole: &[u16], part: &[u16], f: &[u16], g: &[u16], ou
 fn product_with(field: u8, whole: &[u16], part: &[u16], f: &[u16], g: &[u16], out: &mut [u16])
     requires tables_for { TablesFor field whole.now part.now }
     requires product_fits { ProductFits (length whole.now) f.now g.now out.old }
-    ensures { out.new ≡ of.product (field_at field) (given f) (given g) }
+    ensures { out.new ≡ of.product (field_at field) f.now g.now }
 {
     if out.len() <= field_tables::FEW_WORDS {
         product_few(field, whole, part, f, g, out);
@@ -170,7 +169,7 @@ fn product_with(field: u8, whole: &[u16], part: &[u16], f: &[u16], g: &[u16], ou
 // The same with our own tables, of the size that the result needs.
 fn product_into(field: u8, f: &[u16], g: &[u16], out: &mut [u16])
     requires { ProductFits (longest field) f.now g.now out.old }
-    ensures { out.new ≡ of.product (field_at field) (given f) (given g) }
+    ensures { out.new ≡ of.product (field_at field) f.now g.now }
 {
     if out.len() <= field_tables::FEW_WORDS {
         let whole = field_tables::few_factorials(field);
@@ -187,7 +186,7 @@ fn product_into(field: u8, f: &[u16], g: &[u16], out: &mut [u16])
 fn raise_with(field: u8, whole: &[u16], part: &[u16], f: &[u16], out: &mut [u16])
     requires tables_for { TablesFor field whole.now part.now }
     requires raise_fits { RaiseFits (modulus field) (length whole.now) f.now out.old }
-    ensures { out.new ≡ of.raise (field_at field) (naive_degree (given out)) (given f) }
+    ensures { out.new ≡ of.raise (field_at field) (naive_degree out.old) f.now }
 {
     let ones = [1u16; refusal::MAX_WORDS];
     let m = out.len() - f.len() + 1;
@@ -197,7 +196,7 @@ fn raise_with(field: u8, whole: &[u16], part: &[u16], f: &[u16], out: &mut [u16]
 // The same with our own tables, of the size that the result needs.
 fn raise_into(field: u8, f: &[u16], out: &mut [u16])
     requires { RaiseFits (modulus field) (longest field) f.now out.old }
-    ensures { out.new ≡ of.raise (field_at field) (naive_degree (given out)) (given f) }
+    ensures { out.new ≡ of.raise (field_at field) (naive_degree out.old) f.now }
 {
     if out.len() <= field_tables::FEW_WORDS {
         let whole = field_tables::few_factorials(field);

@@ -2,7 +2,6 @@
 #![tactic(auto)]
 
 ghost use Rattle.std.specs.Prelude.{◌≡◌, cond, ◌+◌, ◌-◌, ◌%◌, length};
-ghost use Rattle.refusal.specs.Contract.{given};
 ghost use Rattle.field.specs.Fields.{modulus, field_at, longest};
 ghost use Rattle.refusal.specs.Refusal.{outcome_reply};
 ghost use Rattle.refusal.specs.Lowest.{lowest};
@@ -14,24 +13,24 @@ use refusal::{Outcome, Refusal};
 
 // The sum over a field.
 pub fn sum_over(field: u8, f: &[u16], g: &[u16], out: &mut [u16]) -> Outcome
-    ensures answer { outcome_reply result ≡ sum_answer field (given f) (given g) (given out) }
-    ensures writes { out.new ≡ sum_written field (given f) (given g) (given out) }
+    ensures answer { outcome_reply result ≡ sum_answer field f.now g.now out.old }
+    ensures writes { out.new ≡ sum_written field f.now g.now out.old }
 {
     combine(field, f, g, false, out)
 }
 
 // The difference over a field.
 pub fn difference_over(field: u8, f: &[u16], g: &[u16], out: &mut [u16]) -> Outcome
-    ensures answer { outcome_reply result ≡ sum_answer field (given f) (given g) (given out) }
-    ensures writes { out.new ≡ difference_written field (given f) (given g) (given out) }
+    ensures answer { outcome_reply result ≡ sum_answer field f.now g.now out.old }
+    ensures writes { out.new ≡ difference_written field f.now g.now out.old }
 {
     combine(field, f, g, true, out)
 }
 
 // f plus g, or f less g.
 fn combine(field: u8, f: &[u16], g: &[u16], minus: bool, out: &mut [u16]) -> Outcome
-    ensures answer { outcome_reply result ≡ sum_answer field (given f) (given g) (given out) }
-    ensures writes { out.new ≡ combined_written field minus (given f) (given g) (given out) }
+    ensures answer { outcome_reply result ≡ sum_answer field f.now g.now out.old }
+    ensures writes { out.new ≡ combined_written field minus f.now g.now out.old }
 {
     let answer = judge_sum(field, f, g, out);
     match answer {
@@ -45,7 +44,7 @@ fn combine(field: u8, f: &[u16], g: &[u16], minus: bool, out: &mut [u16]) -> Out
 
 // What a sum and a difference refuse.
 fn judge_sum(field: u8, f: &[u16], g: &[u16], out: &[u16]) -> Outcome
-    ensures { result ≡ lowest (sum_rows (modulus field) (longest field) (given f) (given g) (given out)) }
+    ensures { result ≡ lowest (sum_rows (modulus field) (longest field) f.now g.now out.now) }
 {
     if let Outcome::Refused(of_lists) = lists::judge_lists(field, f, g) {
         return Outcome::Refused(of_lists);
@@ -70,7 +69,7 @@ fn combine_word(field: u8, a: u16, b: u16, minus: bool) -> u16
 // The same word by word.
 fn combine_words(field: u8, a: &[u16], b: &[u16], minus: bool, out: &mut [u16])
     requires { (length a.now ≡ length out.old) × (length b.now ≡ length out.old) }
-    ensures { out.new ≡ combined_words (field_at field) minus (given a) (given b) }
+    ensures { out.new ≡ combined_words (field_at field) minus a.now b.now }
 {
     let mut k = 0;
     while k < out.len() {
@@ -91,7 +90,7 @@ fn combine_in(
 )
     requires sum_fits { SumFits (modulus field) (longest field) f.now g.now out.old }
     requires a_len { (length a.old ≡ length out.old) × (length b.old ≡ length out.old) }
-    ensures { out.new ≡ combined (field_at field) minus (given f) (given g) }
+    ensures { out.new ≡ combined (field_at field) minus f.now g.now }
 {
     let degree = out.len() - 1;
     list_product::raise_over(field, f, NaiveDegree(degree), a);
@@ -101,7 +100,7 @@ fn combine_in(
 
 fn combine_into(field: u8, f: &[u16], g: &[u16], minus: bool, out: &mut [u16])
     requires { SumFits (modulus field) (longest field) f.now g.now out.old }
-    ensures { out.new ≡ combined (field_at field) minus (given f) (given g) }
+    ensures { out.new ≡ combined (field_at field) minus f.now g.now }
 {
     let n = out.len();
     let mut a = [0u16; refusal::MAX_WORDS];

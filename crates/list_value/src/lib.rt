@@ -2,7 +2,6 @@
 #![tactic(auto)]
 
 ghost use Rattle.std.specs.Prelude.{◌≡◌, ◌+◌, ◌*◌, ◌/◌, ◌%◌, ◌≤◌, length};
-ghost use Rattle.refusal.specs.Contract.{given};
 ghost use Rattle.field.specs.Fields.{modulus, field_at, longest};
 ghost use Rattle.refusal.specs.Lowest.{lowest};
 ghost use Rattle.field.specs.Field.{word_reply};
@@ -18,7 +17,7 @@ use refusal::{Outcome, Refusal};
 
 // The same over a field.
 pub fn evaluate_over(field: u8, f: &[u16], x: u16) -> Word
-    ensures answer { word_reply result ≡ evaluate_answer field (given f) x }
+    ensures answer { word_reply result ≡ evaluate_answer field f.now x }
 {
     if let Outcome::Refused(why) = judge_evaluate(field, f, x) {
         return Word::Refused(why);
@@ -28,7 +27,7 @@ pub fn evaluate_over(field: u8, f: &[u16], x: u16) -> Word
 
 // What an evaluation refuses.
 fn judge_evaluate(field: u8, f: &[u16], x: u16) -> Outcome
-    ensures { result ≡ lowest (evaluate_rows (modulus field) (longest field) (given f) x) }
+    ensures { result ≡ lowest (evaluate_rows (modulus field) (longest field) f.now x) }
 {
     if let Outcome::Refused(why) = lists::judge_list(field, f) {
         return Outcome::Refused(why);
@@ -49,8 +48,8 @@ fn two_products(field: u8, a: u16, b: u16, c: u64, d: u16) -> u16
 
 // The powers 1, x, x^2, … in u, and the next one.
 fn fill_powers(field: u8, x: u16, u: &mut [u16]) -> u16
-    ensures words { u.new ≡ powers_of (field_at field) x (length (given u)) }
-    ensures next { result ≡ power_of (field_at field) x (length (given u)) }
+    ensures words { u.new ≡ powers_of (field_at field) x (length u.old) }
+    ensures next { result ≡ power_of (field_at field) x (length u.old) }
 {
     let mut power: u16 = 1;
     let mut j = 0;
@@ -65,7 +64,7 @@ fn fill_powers(field: u8, x: u16, u: &mut [u16]) -> u16
 // The weights of a group of n words: word j of u is x^j y^(n-1-j), from the powers of x in a and those of y in b.
 fn fill_weights(field: u8, a: &[u16], b: &[u16], u: &mut [u16])
     requires { (length a.now ≡ length u.old) × (length b.now ≡ length u.old) }
-    ensures { u.new ≡ weights_of (modulus field) (length (given u)) (given a) (given b) }
+    ensures { u.new ≡ weights_of (modulus field) (length u.old) a.now b.now }
 {
     let n = u.len();
     let mut j = 0;
@@ -86,7 +85,7 @@ fn add_product(sum: u64, a: u16, b: u16) -> u64
 // The products of the words of s from k on with those of u, added up, and not reduced.
 fn sum_products(s: &[u16], k: usize, u: &[u16]) -> u64
     requires { (k + length u.now ≤ length s.now) × (length u.now ≤ 8) }
-    ensures { (result ≡ products_of (given s) k (given u) (length (given u))) × (result ≤ most_of_group) }
+    ensures { (result ≡ products_of s.now k u.now (length u.now)) × (result ≤ most_of_group) }
 {
     let mut sum: u64 = 0;
     let mut j = 0;
@@ -108,7 +107,7 @@ struct Begun {
 // added up. Each group is reduced once.
 fn sum_groups(field: u8, s: &[u16], u: &[u16], x: u16, y: u16, c: u16) -> Begun
     requires { length u.now ≡ 8 }
-    ensures { Terms (field_at field) (groups (field_at field) 8 (given s) (given u)) x y c (length (given s) / 8) result.sum result.power }
+    ensures { Terms (field_at field) (groups (field_at field) 8 s.now u.now) x y c (length s.now / 8) result.sum result.power }
 {
     let n = s.len() / 8;
     let mut sum: u16 = 0;
@@ -134,7 +133,7 @@ fn begin_in(
     u: &mut [u16],
 ) -> Begun
     requires { (length a.old ≡ 8) × (length b.old ≡ 8) × (length u.old ≡ 8) }
-    ensures { Terms (field_at field) (word (field_at field) (given s)) x y c (8 * (length (given s) / 8)) result.sum result.power }
+    ensures { Terms (field_at field) (word (field_at field) s.now) x y c (8 * (length s.now / 8)) result.sum result.power }
 {
     let x8 = fill_powers(field, x, a);
     let y8 = fill_powers(field, y, b);
@@ -143,7 +142,7 @@ fn begin_in(
 }
 
 fn begin(field: u8, s: &[u16], x: u16, y: u16, c: u16) -> Begun
-    ensures { Terms (field_at field) (word (field_at field) (given s)) x y c (8 * (length (given s) / 8)) result.sum result.power }
+    ensures { Terms (field_at field) (word (field_at field) s.now) x y c (8 * (length s.now / 8)) result.sum result.power }
 {
     let mut a = [0u16; 8];
     let mut b = [0u16; 8];
@@ -154,7 +153,7 @@ fn begin(field: u8, s: &[u16], x: u16, y: u16, c: u16) -> Begun
 // The sum of c s_k x^k y^(n-k) for words s_0 to s_n: whole groups of eight, then the words after them. The first power is c times 1, so that
 // the factor costs nothing.
 fn homogeneous(field: u8, s: &[u16], x: u16, y: u16, c: u16) -> u16
-    ensures { result ≡ homogeneous_of (field_at field) (given s) x y c }
+    ensures { result ≡ homogeneous_of (field_at field) s.now x y c }
 {
     let begun = begin(field, s, x, y, c);
     let mut sum = begun.sum;
@@ -173,7 +172,7 @@ fn value_in(field: u8, whole: &[u16], part: &[u16], f: &[u16], x: u16, s: &mut [
     requires tables_for { TablesFor field whole.now part.now }
     requires list { IsList (modulus field) (length whole.now) f.now }
     requires s_len { length s.old ≡ length f.now }
-    ensures { result ≡ of.evaluate (field_at field) (given f) x }
+    ensures { result ≡ of.evaluate (field_at field) f.now x }
 {
     let n = f.len();
     word_scaling::weigh_partly(field, f, part, s);
@@ -186,7 +185,7 @@ fn value_in(field: u8, whole: &[u16], part: &[u16], f: &[u16], x: u16, s: &mut [
 // zeros.
 fn value_few(field: u8, f: &[u16], x: u16) -> u16
     requires { IsList (modulus field) few_words f.now }
-    ensures { result ≡ of.evaluate (field_at field) (given f) x }
+    ensures { result ≡ of.evaluate (field_at field) f.now x }
 {
     let whole = field_tables::few_factorials(field);
     let part = field_tables::few_inverse_factorials(field);
@@ -198,7 +197,7 @@ fn value_few(field: u8, f: &[u16], x: u16) -> u16
 // The value of any list that is not refused.
 fn value_many(field: u8, f: &[u16], x: u16) -> u16
     requires { IsList (modulus field) (longest field) f.now }
-    ensures { result ≡ of.evaluate (field_at field) (given f) x }
+    ensures { result ≡ of.evaluate (field_at field) f.now x }
 {
     let whole = field_tables::factorials(field);
     let part = field_tables::inverse_factorials(field);
@@ -210,7 +209,7 @@ fn value_many(field: u8, f: &[u16], x: u16) -> u16
 // The same with tables and an array of the size that the list needs.
 fn value_at(field: u8, f: &[u16], x: u16) -> u16
     requires { IsList (modulus field) (longest field) f.now }
-    ensures { result ≡ of.evaluate (field_at field) (given f) x }
+    ensures { result ≡ of.evaluate (field_at field) f.now x }
 {
     if f.len() <= field_tables::FEW_WORDS {
         return value_few(field, f, x);

@@ -2,7 +2,6 @@
 #![tactic(auto)]
 
 ghost use Rattle.std.specs.Prelude.{◌≡◌, [], ◌∷◌, ◌-◌};
-ghost use Rattle.refusal.specs.Contract.{given};
 ghost use Rattle.refusal.specs.Lowest.{lowest};
 ghost use Rattle.field.specs.Fields.{modulus, longest};
 ghost use Rattle.lists.specs.Degrees.{naive_degree, significant, extent, power, searched};
@@ -41,7 +40,7 @@ fn power_of(degree: NaiveDegree, extent: Extent) -> Power
 
 // The naive degree of a list; 0 where it has no words.
 pub fn degree_of(list: &[u16]) -> NaiveDegree
-    ensures { result.0 ≡ naive_degree (given list) }
+    ensures { result.0 ≡ naive_degree list.now }
 {
     if list.len() == 0 {
         return NaiveDegree(0);
@@ -51,7 +50,7 @@ pub fn degree_of(list: &[u16]) -> NaiveDegree
 
 // Whether a list has 0 words, or more than a list over the field may have.
 fn wrong_length(field: u8, list: &[u16]) -> bool
-    ensures { result ≡ wrong_length (longest field) (given list) }
+    ensures { result ≡ wrong_length (longest field) list.now }
 {
     if list.len() == 0 {
         return true;
@@ -61,7 +60,7 @@ fn wrong_length(field: u8, list: &[u16]) -> bool
 
 // Whether a word of a list is p or more: whether the largest is. The loop has one way out, so that LLVM takes eight words at a time.
 pub fn has_loose(field: u8, list: &[u16]) -> bool
-    ensures { result ≡ has_loose (modulus field) (given list) }
+    ensures { result ≡ has_loose (modulus field) list.now }
 {
     let mut largest: u16 = 0;
     let mut i = 0;
@@ -77,8 +76,8 @@ pub fn has_loose(field: u8, list: &[u16]) -> bool
 
 // The search for the last word that is not 0: it begins at the last word, ends at the first that is not 0, and counts what it reads.
 pub fn search_from_top(list: &[u16]) -> TopSearch
-    ensures words { result.words ≡ significant (given list) }
-    ensures read { result.read ≡ searched (given list) }
+    ensures words { result.words ≡ significant list.now }
+    ensures read { result.read ≡ searched list.now }
 {
     let mut n = list.len();
     let mut read = 0;
@@ -95,14 +94,14 @@ pub fn search_from_top(list: &[u16]) -> TopSearch
 
 // The number of words up to the last one that is not 0.
 pub fn significant_words(list: &[u16]) -> usize
-    ensures { result ≡ significant (given list) }
+    ensures { result ≡ significant list.now }
 {
     search_from_top(list).words
 }
 
 // The extent of a list; 0 for a zero list, which has none.
 pub fn extent_of(list: &[u16]) -> Extent
-    ensures { result.0 ≡ extent (given list) }
+    ensures { result.0 ≡ extent list.now }
 {
     let n = significant_words(list);
     if n == 0 {
@@ -113,14 +112,14 @@ pub fn extent_of(list: &[u16]) -> Extent
 
 // The power of a list that is not zero.
 pub fn power_in(list: &[u16]) -> Power
-    ensures { result.0 ≡ power (given list) }
+    ensures { result.0 ≡ power list.now }
 {
     power_of(degree_of(list), extent_of(list))
 }
 
 // What a call refuses in its one list.
 pub fn judge_list(field: u8, list: &[u16]) -> Outcome
-    ensures { result ≡ lowest (list_refusals (modulus field) (longest field) (given list ∷ [])) }
+    ensures { result ≡ lowest (list_refusals (modulus field) (longest field) (list.now ∷ [])) }
 {
     if wrong_length(field, list) {
         return Outcome::Refused(Refusal::Length);
@@ -133,7 +132,7 @@ pub fn judge_list(field: u8, list: &[u16]) -> Outcome
 
 // What a call refuses in its two lists.
 pub fn judge_lists(field: u8, f: &[u16], g: &[u16]) -> Outcome
-    ensures { result ≡ lowest (list_refusals (modulus field) (longest field) (given f ∷ given g ∷ [])) }
+    ensures { result ≡ lowest (list_refusals (modulus field) (longest field) (f.now ∷ g.now ∷ [])) }
 {
     if wrong_length(field, f) {
         return Outcome::Refused(Refusal::Length);

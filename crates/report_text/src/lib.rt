@@ -3,7 +3,6 @@
 
 ghost use Rattle.std.specs.Prelude.{◌≡◌, [], ◌∷◌, map, ◌+◌, ◌≤◌, ◌<◌, length, take};
 ghost use Rattle.field.specs.Fields.{modulus, field_at, longest};
-ghost use Rattle.refusal.specs.Contract.{given};
 ghost use Rattle.refusal.specs.Limits.{max_words};
 ghost use Rattle.lists.specs.Padded.{padded};
 ghost use Rattle.album_layout.specs.Layout.{lists_of};
@@ -30,8 +29,8 @@ pub enum Text {
 
 // The report on an album, zeros after it; the program's is that over field 0.
 pub fn report_over(field: u8, album: &[u8], out: &mut [u8]) -> Text
-    ensures answer { text_reply result ≡ report_answer field (given album) (given out) }
-    ensures writes { out.new ≡ report_written field (given album) (given out) }
+    ensures answer { text_reply result ≡ report_answer field album.now out.old }
+    ensures writes { out.new ≡ report_written field album.now out.old }
 {
     if out.len() != MAX_TEXT {
         return Text::Refused(Refusal::Misfit);
@@ -46,7 +45,7 @@ pub fn report_over(field: u8, album: &[u8], out: &mut [u8]) -> Text
 // Zeros from a place on.
 pub fn clear(from: usize, out: &mut [u8])
     requires { from ≤ length out.old }
-    ensures { out.new ≡ padded (length (given out)) (take from (given out)) }
+    ensures { out.new ≡ padded (length out.old) (take from out.old) }
 {
     let mut i = from;
     while i < out.len() {
@@ -58,7 +57,7 @@ pub fn clear(from: usize, out: &mut [u8])
 // The report by way of as much of two arrays as the longest list takes.
 fn report_between(field: u8, album: &[u8], list: &mut [u16], h: &mut [u16], out: &mut [u8]) -> usize
     requires { (length list.old ≡ max_words) × (length h.old ≡ max_words) × (length out.old ≡ max_text) }
-    ensures { Put (report_of (modulus field) (field_at field) (given album)) 0 (given out) out.new result }
+    ensures { Put (report_of (modulus field) (field_at field) album.now) 0 out.old out.new result }
 {
     let n = field::longest_of(field);
     report_in(field, album, &mut list[..n], &mut h[..n], out)
@@ -67,7 +66,7 @@ fn report_between(field: u8, album: &[u8], list: &mut [u16], h: &mut [u16], out:
 // The same by way of buffers for a list and for h.
 fn report_in(field: u8, album: &[u8], list: &mut [u16], h: &mut [u16], out: &mut [u8]) -> usize
     requires { (length list.old ≡ longest field) × (length h.old ≡ longest field) × (length out.old ≡ max_text) }
-    ensures { Put (report_of (modulus field) (field_at field) (given album)) 0 (given out) out.new result }
+    ensures { Put (report_of (modulus field) (field_at field) album.now) 0 out.old out.new result }
 {
     match album_layout::judge_album(field, album) {
         Outcome::Refused(why) => put_refused(why, 0, out),
@@ -79,7 +78,7 @@ fn report_in(field: u8, album: &[u8], list: &mut [u16], h: &mut [u16], out: &mut
 fn put_sound(field: u8, album: &[u8], list: &mut [u16], h: &mut [u16], out: &mut [u8]) -> usize
     requires passed { Passed (modulus field) album.now }
     requires list_len { (length list.old ≡ longest field) × (length h.old ≡ longest field) × (length out.old ≡ max_text) }
-    ensures { Put (sound_report (field_at field) (lists_of (given album))) 0 (given out) out.new result }
+    ensures { Put (sound_report (field_at field) (lists_of album.now)) 0 out.old out.new result }
 {
     let first = put_named(b"lists", words::byte_at(album, 0), 0, out);
     let at = put_lists(field, album, list, first, out);
@@ -90,7 +89,7 @@ fn put_sound(field: u8, album: &[u8], list: &mut [u16], h: &mut [u16], out: &mut
 fn put_answer(field: u8, album: &[u8], h: &mut [u16], at: usize, out: &mut [u8]) -> usize
     requires passed { (Passed (modulus field) album.now) × (length h.old ≡ longest field) }
     requires max_answer_in_bounds { at + max_answer ≤ length out.old }
-    ensures { Put (answer_lines (field_at field) (lists_of (given album))) at (given out) out.new result }
+    ensures { Put (answer_lines (field_at field) (lists_of album.now)) at out.old out.new result }
 {
     match album_gcd::album_gcd_over(field, album, h) {
         Gcd::Done(w, c, _) => put_gcd(field, &h[..w.0 + 1], c, at, out),
@@ -101,7 +100,7 @@ fn put_answer(field: u8, album: &[u8], h: &mut [u16], at: usize, out: &mut [u8])
 // One byte.
 fn put(byte: u8, at: usize, out: &mut [u8]) -> usize
     requires { Room (byte ∷ []) at out.old }
-    ensures { Put (byte ∷ []) at (given out) out.new result }
+    ensures { Put (byte ∷ []) at out.old out.new result }
 {
     out[at] = byte;
     at + 1
@@ -110,7 +109,7 @@ fn put(byte: u8, at: usize, out: &mut [u8]) -> usize
 // Some bytes.
 fn put_bytes(bytes: &[u8], at: usize, out: &mut [u8]) -> usize
     requires { Room bytes.now at out.old }
-    ensures { Put (given bytes) at (given out) out.new result }
+    ensures { Put bytes.now at out.old out.new result }
 {
     let mut i = 0;
     while i < bytes.len() {
@@ -123,7 +122,7 @@ fn put_bytes(bytes: &[u8], at: usize, out: &mut [u8]) -> usize
 // A number in decimal digits.
 fn put_number(n: usize, at: usize, out: &mut [u8]) -> usize
     requires { Room (decimal n) at out.old }
-    ensures { Put (decimal n) at (given out) out.new result }
+    ensures { Put (decimal n) at out.old out.new result }
 {
     if n < 10 {
         return put(48 + n as u8, at, out);
@@ -135,7 +134,7 @@ fn put_number(n: usize, at: usize, out: &mut [u8]) -> usize
 // A space and a number.
 fn put_field(n: usize, at: usize, out: &mut [u8]) -> usize
     requires { Room (32 ∷ decimal n) at out.old }
-    ensures { Put (32 ∷ decimal n) at (given out) out.new result }
+    ensures { Put (32 ∷ decimal n) at out.old out.new result }
 {
     let next = put(32, at, out);
     put_number(n, next, out)
@@ -144,7 +143,7 @@ fn put_field(n: usize, at: usize, out: &mut [u8]) -> usize
 // A line of a name and a number.
 fn put_named(name: &[u8], n: usize, at: usize, out: &mut [u8]) -> usize
     requires { Room (line (name.now ∷ decimal n ∷ [])) at out.old }
-    ensures { Put (line (given name ∷ decimal n ∷ [])) at (given out) out.new result }
+    ensures { Put (line (name.now ∷ decimal n ∷ [])) at out.old out.new result }
 {
     let named = put_bytes(name, at, out);
     let end = put_field(n, named, out);
@@ -154,7 +153,7 @@ fn put_named(name: &[u8], n: usize, at: usize, out: &mut [u8]) -> usize
 // The line of a refusal.
 pub fn put_refused(why: Refusal, at: usize, out: &mut [u8]) -> usize
     requires { Room (refused_line why) at out.old }
-    ensures { Put (refused_line why) at (given out) out.new result }
+    ensures { Put (refused_line why) at out.old out.new result }
 {
     put_named(b"refused", refusal::number_of(why) as usize, at, out)
 }
@@ -162,7 +161,7 @@ pub fn put_refused(why: Refusal, at: usize, out: &mut [u8]) -> usize
 // The extent and the power of a list, `-` for each where it is zero, and the end of its line.
 fn put_extent(list: &[u16], at: usize, out: &mut [u8]) -> usize
     requires { Room (line_end list.now) at out.old }
-    ensures { Put (line_end (given list)) at (given out) out.new result }
+    ensures { Put (line_end list.now) at out.old out.new result }
 {
     if lists::significant_words(list) == 0 {
         return put_bytes(b" - -\n", at, out);
@@ -177,7 +176,7 @@ fn put_extent(list: &[u16], at: usize, out: &mut [u8]) -> usize
 // The line of list i.
 fn put_list(i: usize, list: &[u16], at: usize, out: &mut [u8]) -> usize
     requires { (0 < length list.now) × (Room (list_line i list.now) at out.old) }
-    ensures { Put (list_line i (given list)) at (given out) out.new result }
+    ensures { Put (list_line i list.now) at out.old out.new result }
 {
     let number = put_number(i, at, out);
     let degree = lists::degree_of(list);
@@ -188,7 +187,7 @@ fn put_list(i: usize, list: &[u16], at: usize, out: &mut [u8]) -> usize
 // The words of h, one space between them.
 pub fn put_words(h: &[u16], at: usize, out: &mut [u8]) -> usize
     requires { (0 < length h.now) × (Room (line (map decimal h.now)) at out.old) }
-    ensures { Put (line (map decimal (given h))) at (given out) out.new result }
+    ensures { Put (line (map decimal h.now)) at out.old out.new result }
 {
     let mut place = put_number(h[0] as usize, at, out);
     let mut k = 1;
@@ -202,7 +201,7 @@ pub fn put_words(h: &[u16], at: usize, out: &mut [u8]) -> usize
 // The degree in t of (1-t)^c · h.
 fn gcd_degree(field: u8, h: &[u16], c: Power) -> usize
     requires { (length h.now ≤ longest field) × (c.0 < max_words) }
-    ensures { result ≡ gcd_degree (field_at field) (given h) c.0 }
+    ensures { result ≡ gcd_degree (field_at field) h.now c.0 }
 {
     list_powers::degree_in_t(field, h).0 + c.0
 }
@@ -211,7 +210,7 @@ fn gcd_degree(field: u8, h: &[u16], c: Power) -> usize
 fn put_gcd(field: u8, h: &[u16], c: Power, at: usize, out: &mut [u8]) -> usize
     requires h_nonzero { (0 < length h.now) × (length h.now ≤ longest field) × (c.0 < max_words) }
     requires room { Room (gcd_lines (field_at field) h.now c.0) at out.old }
-    ensures { Put (gcd_lines (field_at field) (given h) c.0) at (given out) out.new result }
+    ensures { Put (gcd_lines (field_at field) h.now c.0) at out.old out.new result }
 {
     let named = put_bytes(b"gcd", at, out);
     let degree = put_field(gcd_degree(field, h, c), named, out);
@@ -224,7 +223,7 @@ fn put_gcd(field: u8, h: &[u16], c: Power, at: usize, out: &mut [u8]) -> usize
 fn put_lists(field: u8, album: &[u8], list: &mut [u16], at: usize, out: &mut [u8]) -> usize
     requires passed { (Passed (modulus field) album.now) × (length list.old ≡ longest field) }
     requires room { Room (list_lines 0 (lists_of album.now)) at out.old }
-    ensures { Put (list_lines 0 (lists_of (given album))) at (given out) out.new result }
+    ensures { Put (list_lines 0 (lists_of album.now)) at out.old out.new result }
 {
     let n = words::byte_at(album, 0);
     let mut place = at;

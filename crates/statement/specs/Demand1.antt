@@ -1,7 +1,7 @@
 -- Demand 1, in one form for every public call: a call with some rows answers a number and leaves some lent slices. A refusal goes before
 -- another by their ranks (crates/refusal/specs/Rank.antt), among document 01's by their numbers.
 --     Slice          a lent slice: the type of its elements, what it held on entry, and what it holds at exit
---     slice, slice_of the slice of words or bytes that a call is lent; a slice by what it held and holds
+--     slice_of       a slice by what it held and holds: of a lent slice s, slice_of s.old s.new
 --     Unchanged      every slice holds what it held
 --     NoneApplies    no row applies
 --     Demand1After   of a call that may be refused late, by an operation that it does: `refused`, where some row applies, the answer is the
@@ -13,7 +13,6 @@
 --     Left           what the contracts say of the slices: refused, every slice is unchanged
 -- Assumes nothing.
 use Rattle.std.specs.Prelude.{◌≡◌, List, [], ◌∷◌, ℕ}
-use Rattle.refusal.specs.Contract.{Lent, given}
 use Rattle.refusal.specs.Refusal.{number}
 use Rattle.refusal.specs.Lowest.{Condition, Applies, IsLowest}
 use Rattle.refusal.specs.declared.Refusal.{Refusal}
@@ -27,9 +26,6 @@ pub record Slice : Type 1 where
 
 abbrev pub slice_of : {A : Type 0} → List A → List A → Slice
 slice_of {A} entry exit = record { Element = A; entry = entry; exit = exit }
-
-abbrev pub slice : Lent → Slice
-slice s = slice_of (given s) s.exit.now
 
 abbrev pub Unchanged : List Slice → Type 0
 Unchanged [] = Unit {0}

@@ -5,7 +5,6 @@
 #![tactic(auto)]
 
 ghost use Rattle.std.specs.Prelude.{◌≡◌, [], ◌∷◌, length};
-ghost use Rattle.refusal.specs.Contract.{given};
 ghost use Rattle.field.specs.Field.{word_reply};
 ghost use Rattle.field.specs.Calls.{word_sum_answer, word_difference_answer, word_product_answer};
 ghost use Rattle.field_inverse.specs.Calls.{inverse_answer};
@@ -42,7 +41,7 @@ const COMPLETED: u8 = 0;
 #[unsafe(no_mangle)]
 pub extern "C" fn test_field_sum(a: u16, b: u16, answer: &mut [usize]) -> u8
     ensures number { result ≡ (word_sum_answer 0 a b).number }
-    ensures values { answer.new ≡ fitted (word_sum_answer 0 a b).values (given answer) }
+    ensures values { answer.new ≡ fitted (word_sum_answer 0 a b).values answer.old }
 {
     note_word(field_calls::sum(a, b), answer)
 }
@@ -51,7 +50,7 @@ pub extern "C" fn test_field_sum(a: u16, b: u16, answer: &mut [usize]) -> u8
 #[unsafe(no_mangle)]
 pub extern "C" fn test_field_difference(a: u16, b: u16, answer: &mut [usize]) -> u8
     ensures number { result ≡ (word_difference_answer 0 a b).number }
-    ensures values { answer.new ≡ fitted (word_difference_answer 0 a b).values (given answer) }
+    ensures values { answer.new ≡ fitted (word_difference_answer 0 a b).values answer.old }
 {
     note_word(field_calls::difference(a, b), answer)
 }
@@ -60,7 +59,7 @@ pub extern "C" fn test_field_difference(a: u16, b: u16, answer: &mut [usize]) ->
 #[unsafe(no_mangle)]
 pub extern "C" fn test_field_product(a: u16, b: u16, answer: &mut [usize]) -> u8
     ensures number { result ≡ (word_product_answer 0 a b).number }
-    ensures values { answer.new ≡ fitted (word_product_answer 0 a b).values (given answer) }
+    ensures values { answer.new ≡ fitted (word_product_answer 0 a b).values answer.old }
 {
     note_word(field_calls::product(a, b), answer)
 }
@@ -69,7 +68,7 @@ pub extern "C" fn test_field_product(a: u16, b: u16, answer: &mut [usize]) -> u8
 #[unsafe(no_mangle)]
 pub extern "C" fn test_inverse(a: u16, answer: &mut [usize]) -> u8
     ensures number { result ≡ (inverse_answer 0 a).number }
-    ensures values { answer.new ≡ fitted (inverse_answer 0 a).values (given answer) }
+    ensures values { answer.new ≡ fitted (inverse_answer 0 a).values answer.old }
 {
     note_word(field_calls::inverse(a), answer)
 }
@@ -77,8 +76,8 @@ pub extern "C" fn test_inverse(a: u16, answer: &mut [usize]) -> u8
 // The product of two lists.
 #[unsafe(no_mangle)]
 pub extern "C" fn test_product(f: &[u16], g: &[u16], out: &mut [u16]) -> u8
-    ensures number { result ≡ (product_answer 0 (given f) (given g) (given out)).number }
-    ensures writes { out.new ≡ product_written 0 (given f) (given g) (given out) }
+    ensures number { result ≡ (product_answer 0 f.now g.now out.old).number }
+    ensures writes { out.new ≡ product_written 0 f.now g.now out.old }
 {
     refusal::outcome_number(list_calls::product(f, g, out))
 }
@@ -86,8 +85,8 @@ pub extern "C" fn test_product(f: &[u16], g: &[u16], out: &mut [u16]) -> u8
 // A list raised to a naive degree.
 #[unsafe(no_mangle)]
 pub extern "C" fn test_raise(f: &[u16], to: usize, out: &mut [u16]) -> u8
-    ensures number { result ≡ (raise_answer 0 (given f) to (given out)).number }
-    ensures writes { out.new ≡ raise_written 0 (given f) to (given out) }
+    ensures number { result ≡ (raise_answer 0 f.now to out.old).number }
+    ensures writes { out.new ≡ raise_written 0 f.now to out.old }
 {
     refusal::outcome_number(list_calls::raise(f, NaiveDegree(to), out))
 }
@@ -95,8 +94,8 @@ pub extern "C" fn test_raise(f: &[u16], to: usize, out: &mut [u16]) -> u8
 // The sum of two lists.
 #[unsafe(no_mangle)]
 pub extern "C" fn test_sum(f: &[u16], g: &[u16], out: &mut [u16]) -> u8
-    ensures number { result ≡ (sum_answer 0 (given f) (given g) (given out)).number }
-    ensures writes { out.new ≡ sum_written 0 (given f) (given g) (given out) }
+    ensures number { result ≡ (sum_answer 0 f.now g.now out.old).number }
+    ensures writes { out.new ≡ sum_written 0 f.now g.now out.old }
 {
     refusal::outcome_number(list_calls::sum(f, g, out))
 }
@@ -104,8 +103,8 @@ pub extern "C" fn test_sum(f: &[u16], g: &[u16], out: &mut [u16]) -> u8
 // The difference of two lists.
 #[unsafe(no_mangle)]
 pub extern "C" fn test_difference(f: &[u16], g: &[u16], out: &mut [u16]) -> u8
-    ensures number { result ≡ (sum_answer 0 (given f) (given g) (given out)).number }
-    ensures writes { out.new ≡ difference_written 0 (given f) (given g) (given out) }
+    ensures number { result ≡ (sum_answer 0 f.now g.now out.old).number }
+    ensures writes { out.new ≡ difference_written 0 f.now g.now out.old }
 {
     refusal::outcome_number(list_calls::difference(f, g, out))
 }
@@ -113,8 +112,8 @@ pub extern "C" fn test_difference(f: &[u16], g: &[u16], out: &mut [u16]) -> u8
 // The extent of a list; a zero list has none, and the answer is left as it came.
 #[unsafe(no_mangle)]
 pub extern "C" fn test_find_extent(f: &[u16], answer: &mut [usize]) -> u8
-    ensures number { result ≡ (extent_answer 0 (given f)).number }
-    ensures values { answer.new ≡ fitted (extent_answer 0 (given f)).values (given answer) }
+    ensures number { result ≡ (extent_answer 0 f.now).number }
+    ensures values { answer.new ≡ fitted (extent_answer 0 f.now).values answer.old }
 {
     note_found(list_calls::find_extent(f), answer)
 }
@@ -122,8 +121,8 @@ pub extern "C" fn test_find_extent(f: &[u16], answer: &mut [usize]) -> u8
 // The same call, and how many words its search read.
 #[unsafe(no_mangle)]
 pub extern "C" fn test_searched(f: &[u16], answer: &mut [usize]) -> u8
-    ensures number { result ≡ (searched_answer 0 (given f)).number }
-    ensures values { answer.new ≡ fitted (searched_answer 0 (given f)).values (given answer) }
+    ensures number { result ≡ (searched_answer 0 f.now).number }
+    ensures values { answer.new ≡ fitted (searched_answer 0 f.now).values answer.old }
 {
     note_searched(list_calls::find_extent(f), answer)
 }
@@ -131,8 +130,8 @@ pub extern "C" fn test_searched(f: &[u16], answer: &mut [usize]) -> u8
 // A list less its top zeros.
 #[unsafe(no_mangle)]
 pub extern "C" fn test_trim(f: &[u16], out: &mut [u16]) -> u8
-    ensures number { result ≡ (trim_answer 0 (given f) (given out)).number }
-    ensures writes { out.new ≡ trim_written 0 (given f) (given out) }
+    ensures number { result ≡ (trim_answer 0 f.now out.old).number }
+    ensures writes { out.new ≡ trim_written 0 f.now out.old }
 {
     refusal::outcome_number(list_calls::trim(f, out))
 }
@@ -140,8 +139,8 @@ pub extern "C" fn test_trim(f: &[u16], out: &mut [u16]) -> u8
 // The derivative of a list.
 #[unsafe(no_mangle)]
 pub extern "C" fn test_derivative(f: &[u16], out: &mut [u16]) -> u8
-    ensures number { result ≡ (derivative_answer 0 (given f) (given out)).number }
-    ensures writes { out.new ≡ derivative_written 0 (given f) (given out) }
+    ensures number { result ≡ (derivative_answer 0 f.now out.old).number }
+    ensures writes { out.new ≡ derivative_written 0 f.now out.old }
 {
     refusal::outcome_number(list_calls::derivative(f, out))
 }
@@ -149,8 +148,8 @@ pub extern "C" fn test_derivative(f: &[u16], out: &mut [u16]) -> u8
 // The value of f at x.
 #[unsafe(no_mangle)]
 pub extern "C" fn test_evaluate(f: &[u16], x: u16, answer: &mut [usize]) -> u8
-    ensures number { result ≡ (evaluate_answer 0 (given f) x).number }
-    ensures values { answer.new ≡ fitted (evaluate_answer 0 (given f) x).values (given answer) }
+    ensures number { result ≡ (evaluate_answer 0 f.now x).number }
+    ensures values { answer.new ≡ fitted (evaluate_answer 0 f.now x).values answer.old }
 {
     note_word(list_calls::evaluate(f, x), answer)
 }
@@ -158,9 +157,9 @@ pub extern "C" fn test_evaluate(f: &[u16], x: u16, answer: &mut [usize]) -> u8
 // g divided by f.
 #[unsafe(no_mangle)]
 pub extern "C" fn test_divide(g: &[u16], f: &[u16], q: &mut [u16], r: &mut [u16]) -> u8
-    ensures number { result ≡ (divide_answer 0 (given g) (given f) (given q) (given r)).number }
-    ensures quotient { q.new ≡ quotient_written 0 (given g) (given f) (given q) (given r) }
-    ensures remainder { r.new ≡ remainder_written 0 (given g) (given f) (given q) (given r) }
+    ensures number { result ≡ (divide_answer 0 g.now f.now q.old r.old).number }
+    ensures quotient { q.new ≡ quotient_written 0 g.now f.now q.old r.old }
+    ensures remainder { r.new ≡ remainder_written 0 g.now f.now q.old r.old }
 {
     refusal::outcome_number(list_calls::divide(g, f, q, r))
 }
@@ -168,9 +167,9 @@ pub extern "C" fn test_divide(g: &[u16], f: &[u16], q: &mut [u16], r: &mut [u16]
 // g divided by f in the usual sense.
 #[unsafe(no_mangle)]
 pub extern "C" fn test_divide_ordinary(g: &[u16], f: &[u16], q: &mut [u16], r: &mut [u16]) -> u8
-    ensures number { result ≡ (ordinary_answer 0 (given g) (given f) (given q) (given r)).number }
-    ensures quotient { q.new ≡ ordinary_quotient_written 0 (given g) (given f) (given q) (given r) }
-    ensures remainder { r.new ≡ ordinary_remainder_written 0 (given g) (given f) (given q) (given r) }
+    ensures number { result ≡ (ordinary_answer 0 g.now f.now q.old r.old).number }
+    ensures quotient { q.new ≡ ordinary_quotient_written 0 g.now f.now q.old r.old }
+    ensures remainder { r.new ≡ ordinary_remainder_written 0 g.now f.now q.old r.old }
 {
     refusal::outcome_number(list_calls::divide_ordinary(g, f, q, r))
 }
@@ -178,7 +177,7 @@ pub extern "C" fn test_divide_ordinary(g: &[u16], f: &[u16], q: &mut [u16], r: &
 // The degree in t of a list, which is behind no call: what a worker of the engine finds.
 #[unsafe(no_mangle)]
 pub extern "C" fn test_degree_in_t(list: &[u16]) -> usize
-    ensures { result ≡ degree_found 0 (given list) }
+    ensures { result ≡ degree_found 0 list.now }
 {
     list_powers::degree_in_t(0, list).0
 }
@@ -186,9 +185,9 @@ pub extern "C" fn test_degree_in_t(list: &[u16]) -> usize
 // The GCD of two lists; the answer is w, c and rounds.
 #[unsafe(no_mangle)]
 pub extern "C" fn test_gcd(f: &[u16], g: &[u16], h: &mut [u16], answer: &mut [usize]) -> u8
-    ensures number { result ≡ (gcd_answer 0 (given f) (given g) (given h)).number }
-    ensures writes { h.new ≡ gcd_written 0 (given f) (given g) (given h) }
-    ensures values { answer.new ≡ fitted (gcd_answer 0 (given f) (given g) (given h)).values (given answer) }
+    ensures number { result ≡ (gcd_answer 0 f.now g.now h.old).number }
+    ensures writes { h.new ≡ gcd_written 0 f.now g.now h.old }
+    ensures values { answer.new ≡ fitted (gcd_answer 0 f.now g.now h.old).values answer.old }
 {
     note_gcd(list_calls::gcd_of(f, g, h), answer)
 }
@@ -203,11 +202,11 @@ pub extern "C" fn test_cofactors(
     b: &mut [u16],
     answer: &mut [usize],
 ) -> u8
-    ensures number { result ≡ (cofactor_answer 0 (given f) (given g) (given h) (given a) (given b)).number }
-    ensures gcd { h.new ≡ cofactor_gcd 0 (given f) (given g) (given h) (given a) (given b) }
-    ensures cofactor_a { a.new ≡ cofactors_written_a 0 (given f) (given g) (given h) (given a) (given b) }
-    ensures cofactor_b { b.new ≡ cofactors_written_b 0 (given f) (given g) (given h) (given a) (given b) }
-    ensures values { answer.new ≡ fitted (cofactor_answer 0 (given f) (given g) (given h) (given a) (given b)).values (given answer) }
+    ensures number { result ≡ (cofactor_answer 0 f.now g.now h.old a.old b.old).number }
+    ensures gcd { h.new ≡ cofactor_gcd 0 f.now g.now h.old a.old b.old }
+    ensures cofactor_a { a.new ≡ cofactors_written_a 0 f.now g.now h.old a.old b.old }
+    ensures cofactor_b { b.new ≡ cofactors_written_b 0 f.now g.now h.old a.old b.old }
+    ensures values { answer.new ≡ fitted (cofactor_answer 0 f.now g.now h.old a.old b.old).values answer.old }
 {
     note_gcd(list_calls::find_cofactors(f, g, h, a, b), answer)
 }
@@ -215,7 +214,7 @@ pub extern "C" fn test_cofactors(
 // The check of an album with an index.
 #[unsafe(no_mangle)]
 pub extern "C" fn test_check(album: &[u8], i: usize) -> u8
-    ensures number { result ≡ (check_answer 0 (given album) i).number }
+    ensures number { result ≡ (check_answer 0 album.now i).number }
 {
     refusal::outcome_number(album_calls::check(album, i))
 }
@@ -223,8 +222,8 @@ pub extern "C" fn test_check(album: &[u8], i: usize) -> u8
 // The bytes of list i, in a slice of exactly their number. The call has no number to return: the number of its bytes, 0 when refused.
 #[unsafe(no_mangle)]
 pub extern "C" fn test_body(album: &[u8], i: usize, out: &mut [u8]) -> usize
-    ensures answer { result ≡ length (body_of 0 (given album) i) }
-    ensures writes { out.new ≡ fitted (body_of 0 (given album) i) (given out) }
+    ensures answer { result ≡ length (body_of 0 album.now i) }
+    ensures writes { out.new ≡ fitted (body_of 0 album.now i) out.old }
 {
     let part = album_calls::body(album, i);
     if out.len() == part.len() {
@@ -241,9 +240,9 @@ pub extern "C" fn test_read_list(
     out: &mut [u16],
     answer: &mut [usize],
 ) -> u8
-    ensures number { result ≡ (read_answer 0 (given album) i (given out)).number }
-    ensures writes { out.new ≡ read_written 0 (given album) i (given out) }
-    ensures values { answer.new ≡ fitted (read_answer 0 (given album) i (given out)).values (given answer) }
+    ensures number { result ≡ (read_answer 0 album.now i out.old).number }
+    ensures writes { out.new ≡ read_written 0 album.now i out.old }
+    ensures values { answer.new ≡ fitted (read_answer 0 album.now i out.old).values answer.old }
 {
     note_listed(album_calls::read_list(album, i, out), answer)
 }
@@ -256,9 +255,9 @@ pub extern "C" fn test_line_value(
     out: &mut [u16],
     answer: &mut [usize],
 ) -> u8
-    ensures number { result ≡ (line_answer 0 (given album) (given line) (given out)).number }
-    ensures writes { out.new ≡ line_written 0 (given album) (given line) (given out) }
-    ensures values { answer.new ≡ fitted (line_answer 0 (given album) (given line) (given out)).values (given answer) }
+    ensures number { result ≡ (line_answer 0 album.now line.now out.old).number }
+    ensures writes { out.new ≡ line_written 0 album.now line.now out.old }
+    ensures values { answer.new ≡ fitted (line_answer 0 album.now line.now out.old).values answer.old }
 {
     note_listed(album_calls::line_value(album, line, out), answer)
 }
@@ -271,9 +270,9 @@ pub extern "C" fn test_write_album(
     out: &mut [u8],
     answer: &mut [usize],
 ) -> u8
-    ensures number { result ≡ (write_answer 0 (given words) (given degrees) (given out)).number }
-    ensures writes { out.new ≡ write_written 0 (given words) (given degrees) (given out) }
-    ensures values { answer.new ≡ fitted (write_answer 0 (given words) (given degrees) (given out)).values (given answer) }
+    ensures number { result ≡ (write_answer 0 words.now degrees.now out.old).number }
+    ensures writes { out.new ≡ write_written 0 words.now degrees.now out.old }
+    ensures values { answer.new ≡ fitted (write_answer 0 words.now degrees.now out.old).values answer.old }
 {
     note_written(album_calls::write_album(words, degrees, out), answer)
 }
@@ -281,8 +280,8 @@ pub extern "C" fn test_write_album(
 // The contents of an album as records.
 #[unsafe(no_mangle)]
 pub extern "C" fn test_contents(album: &[u8], out: &mut [Entry]) -> u8
-    ensures number { result ≡ (contents_answer 0 (given album) out.old).number }
-    ensures writes { out.new ≡ contents_written 0 (given album) out.old }
+    ensures number { result ≡ (contents_answer 0 album.now out.old).number }
+    ensures writes { out.new ≡ contents_written 0 album.now out.old }
 {
     refusal::outcome_number(album_contents::contents(album, out))
 }
@@ -290,16 +289,16 @@ pub extern "C" fn test_contents(album: &[u8], out: &mut [Entry]) -> u8
 // The GCD of an album; the answer is w, c and rounds.
 #[unsafe(no_mangle)]
 pub extern "C" fn test_gcd_of_album(album: &[u8], h: &mut [u16], answer: &mut [usize]) -> u8
-    ensures number { result ≡ (album_gcd_answer 0 (given album) (given h)).number }
-    ensures writes { h.new ≡ album_gcd_written 0 (given album) (given h) }
-    ensures values { answer.new ≡ fitted (album_gcd_answer 0 (given album) (given h)).values (given answer) }
+    ensures number { result ≡ (album_gcd_answer 0 album.now h.old).number }
+    ensures writes { h.new ≡ album_gcd_written 0 album.now h.old }
+    ensures values { answer.new ≡ fitted (album_gcd_answer 0 album.now h.old).values answer.old }
 {
     note_gcd(album_calls::gcd_of_album(album, h), answer)
 }
 
 fn note_word(found: Word, answer: &mut [usize]) -> u8
     ensures number { result ≡ (word_reply found).number }
-    ensures values { answer.new ≡ fitted (word_reply found).values (given answer) }
+    ensures values { answer.new ≡ fitted (word_reply found).values answer.old }
 {
     match found {
         Word::Done(word) => {
@@ -312,7 +311,7 @@ fn note_word(found: Word, answer: &mut [usize]) -> u8
 
 fn note_found(found: Found, answer: &mut [usize]) -> u8
     ensures number { result ≡ (extent_reply found).number }
-    ensures values { answer.new ≡ fitted (extent_reply found).values (given answer) }
+    ensures values { answer.new ≡ fitted (extent_reply found).values answer.old }
 {
     match found {
         Found::At(extent, _) => {
@@ -326,7 +325,7 @@ fn note_found(found: Found, answer: &mut [usize]) -> u8
 
 fn note_searched(found: Found, answer: &mut [usize]) -> u8
     ensures number { result ≡ (searched_reply found).number }
-    ensures values { answer.new ≡ fitted (searched_reply found).values (given answer) }
+    ensures values { answer.new ≡ fitted (searched_reply found).values answer.old }
 {
     match found {
         Found::At(_, searched) => {
@@ -343,7 +342,7 @@ fn note_searched(found: Found, answer: &mut [usize]) -> u8
 
 fn note_listed(found: Listed, answer: &mut [usize]) -> u8
     ensures number { result ≡ (listed_reply found).number }
-    ensures values { answer.new ≡ fitted (listed_reply found).values (given answer) }
+    ensures values { answer.new ≡ fitted (listed_reply found).values answer.old }
 {
     match found {
         Listed::Done(degree) => {
@@ -356,7 +355,7 @@ fn note_listed(found: Listed, answer: &mut [usize]) -> u8
 
 fn note_written(found: Written, answer: &mut [usize]) -> u8
     ensures number { result ≡ (written_reply found).number }
-    ensures values { answer.new ≡ fitted (written_reply found).values (given answer) }
+    ensures values { answer.new ≡ fitted (written_reply found).values answer.old }
 {
     match found {
         Written::Done(size) => {
@@ -369,7 +368,7 @@ fn note_written(found: Written, answer: &mut [usize]) -> u8
 
 fn note_gcd(found: Gcd, answer: &mut [usize]) -> u8
     ensures number { result ≡ (gcd_reply found).number }
-    ensures values { answer.new ≡ fitted (gcd_reply found).values (given answer) }
+    ensures values { answer.new ≡ fitted (gcd_reply found).values answer.old }
 {
     match found {
         Gcd::Done(w, c, rounds) => {
@@ -381,7 +380,7 @@ fn note_gcd(found: Gcd, answer: &mut [usize]) -> u8
 }
 
 fn note_one(value: usize, answer: &mut [usize])
-    ensures { answer.new ≡ fitted (value ∷ []) (given answer) }
+    ensures { answer.new ≡ fitted (value ∷ []) answer.old }
 {
     if answer.len() == 1 {
         answer[0] = value;
@@ -389,7 +388,7 @@ fn note_one(value: usize, answer: &mut [usize])
 }
 
 fn note_three(w: usize, c: usize, rounds: usize, answer: &mut [usize])
-    ensures { answer.new ≡ fitted (w ∷ c ∷ rounds ∷ []) (given answer) }
+    ensures { answer.new ≡ fitted (w ∷ c ∷ rounds ∷ []) answer.old }
 {
     if answer.len() == 3 {
         answer[0] = w;
@@ -400,7 +399,7 @@ fn note_three(w: usize, c: usize, rounds: usize, answer: &mut [usize])
 
 fn copy(from: &[u8], to: &mut [u8])
     requires { length from.now ≡ length to.old }
-    ensures { to.new ≡ given from }
+    ensures { to.new ≡ from.now }
 {
     let mut i = 0;
     while i < to.len() {

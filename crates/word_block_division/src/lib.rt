@@ -4,7 +4,6 @@
 #![tactic(auto)]
 
 ghost use Rattle.std.specs.Prelude.{◌≡◌, true, List, ℕ, ◌+◌, ◌-◌, ◌*◌, ◌≤◌, length, take, drop};
-ghost use Rattle.refusal.specs.Contract.{given};
 ghost use Rattle.refusal.specs.Limits.{max_words};
 ghost use Rattle.field.specs.Fields.{modulus, field_at};
 ghost use Rattle.lists.specs.Words.{ZeroFrom, Tight};
@@ -34,7 +33,7 @@ fn block_words(n: usize, k: usize) -> usize
 
 // Whether the division can be made in blocks: the lengths fit, no word is loose, and inv is the inverse of the divisor's last word.
 fn is_suited(field: u8, x: &[u16], y: &[u16], inv: u16, k: usize) -> bool
-    ensures { result ≡ true → Suits (modulus field) inv (given x) (given y) k }
+    ensures { result ≡ true → Suits (modulus field) inv x.now y.now k }
 {
     let n = y.len();
     if n == 0 {
@@ -64,7 +63,7 @@ fn is_suited(field: u8, x: &[u16], y: &[u16], inv: u16, k: usize) -> bool
 // The reciprocal of a divisor's top, of as many words: the quotient of u^(2 e - 2) by it. z is 0.
 fn invert(field: u8, top: &[u16], inv: u16, z: &mut [u16], s: &mut [u16])
     requires { Inverts (modulus field) inv top.now × (length s.old ≡ length top.now) × (length z.old + 1 ≡ 2 * length top.now) × ZeroFrom 0 z.old }
-    ensures { Reciprocal (field_at field) (given top) s.new }
+    ensures { Reciprocal (field_at field) top.now s.new }
 {
     let last = z.len() - 1;
     z[last] = 1;
@@ -84,7 +83,7 @@ fn reduce_block(
     requires reciprocal { Reciprocal (field_at field) (drop (length y.now - length s.now) y.now) s.now × Tight (modulus field) x.old }
     requires y_len_bound { (length y.now ≤ max_words) × (length s.now ≤ length y.now) × (1 ≤ length q.old) × (length q.old ≤ length s.now) }
     requires x_len { (length x.old + 1 ≡ length y.now + length q.old) × (length t.old + 1 ≡ length q.old + length s.now) × (length v.old ≡ length x.old) }
-    ensures { Divided (field_at field) (given y) (given x) q.new x.new }
+    ensures { Divided (field_at field) y.now x.old q.new x.new }
 {
     let d = y.len() - 1;
     let e = s.len() - 1;
@@ -109,7 +108,7 @@ fn reduce_at(
     requires reciprocal { Reciprocal (field_at field) (drop (length y.now - length s.now) y.now) s.now × Tight (modulus field) x.old }
     requires y_len_bound { (length y.now ≤ max_words) × (length s.now ≤ length y.now) × (1 ≤ n) × (n ≤ length s.now) }
     requires y_in_bounds { (k + n + length y.now ≤ length x.old + 1) × (k + n ≤ length q.old) × (n + length s.now ≤ length t.old + 1) × (n + length y.now ≤ length v.old + 1) }
-    ensures { (x₀ : List ℕ) → Begun (field_at field) (given y) x₀ (k + n) (given x) (given q) → Begun (field_at field) (given y) x₀ k x.new q.new }
+    ensures { (x₀ : List ℕ) → Begun (field_at field) y.now x₀ (k + n) x.old q.old → Begun (field_at field) y.now x₀ k x.new q.new }
 {
     let m = n + y.len() - 1;
     let l = n + s.len() - 1;
@@ -137,7 +136,7 @@ fn reduce_blocks(
     requires reciprocal { Reciprocal (field_at field) (drop (length y.now - length s.now) y.now) s.now × Tight (modulus field) x.old }
     requires y_len_bound { (length y.now ≤ max_words) × (1 ≤ length s.now) × (length s.now ≤ length y.now) }
     requires x_len { (length x.old + 1 ≡ length y.now + length q.old) × (length t.old + 1 ≡ 2 * length s.now) × (length y.now + length s.now ≤ length v.old + 1) }
-    ensures { Divided (field_at field) (given y) (given x) q.new x.new }
+    ensures { Divided (field_at field) y.now x.old q.new x.new }
 {
     let mut k = q.len();
     while 0 < k {
@@ -160,7 +159,7 @@ fn reduce_in(
 )
     requires suits { Suits (modulus field) inv x.old y.now (length q.old) × (1 ≤ length s.old) × (length s.old ≤ length y.now) }
     requires t_len { (length t.old + 1 ≡ 2 * length s.old) × (length y.now + length s.old ≤ length v.old + 1) × ZeroFrom 0 t.old }
-    ensures { Divided (field_at field) (given y) (given x) q.new x.new }
+    ensures { Divided (field_at field) y.now x.old q.new x.new }
 {
     let c = y.len() - s.len();
     invert(field, &y[c..], inv, t, s);
@@ -170,7 +169,7 @@ fn reduce_in(
 // The division in blocks of e words.
 fn reduce_by(field: u8, x: &mut [u16], y: &[u16], inv: u16, q: &mut [u16], e: usize)
     requires { Suits (modulus field) inv x.old y.now (length q.old) × (1 ≤ e) × (e ≤ block_words) × (e ≤ length y.now) }
-    ensures { Divided (field_at field) (given y) (given x) q.new x.new }
+    ensures { Divided (field_at field) y.now x.old q.new x.new }
 {
     let m = 2 * e - 1;
     let mut s = [0u16; LONG];
@@ -181,8 +180,8 @@ fn reduce_by(field: u8, x: &mut [u16], y: &[u16], inv: u16, q: &mut [u16], e: us
 
 // Division of x by y from the top: the quotient's words go to q, what is left stays in x. `inv` is the inverse of y's last word.
 pub fn reduce(field: u8, x: &mut [u16], y: &[u16], inv: u16, q: &mut [u16])
-    ensures left { x.new ≡ words_reduced (modulus field) inv (given x) (given y) (given q) }
-    ensures quotient { q.new ≡ words_of_quotient (modulus field) inv (given x) (given y) (given q) }
+    ensures left { x.new ≡ words_reduced (modulus field) inv x.old y.now q.old }
+    ensures quotient { q.new ≡ words_of_quotient (modulus field) inv x.old y.now q.old }
 {
     let e = block_words(y.len(), q.len());
     if e == 0 {
@@ -202,8 +201,8 @@ pub fn reduce_padded(field: u8, x: &mut [u16], y: &[u16], n: usize, inv: u16, q:
     requires le_n { (1 ≤ n) × (n ≤ length y.now) × (n - 1 + length q.old ≤ length x.old) }
     requires tight { Tight (modulus field) x.old }
     requires zero_from { ZeroFrom n y.now }
-    ensures left { x.new ≡ reduced (modulus field) inv (take n (given y)) (length (given q)) (given x) }
-    ensures quotient { q.new ≡ digits (modulus field) inv (take n (given y)) (length (given q)) (given x) }
+    ensures left { x.new ≡ reduced (modulus field) inv (take n y.now) (length q.old) x.old }
+    ensures quotient { q.new ≡ digits (modulus field) inv (take n y.now) (length q.old) x.old }
 {
     if q.len() < SHORT {
         word_division::reduce_padded(field, x, y, n, inv, q);

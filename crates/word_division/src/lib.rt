@@ -2,7 +2,6 @@
 #![tactic(auto)]
 
 ghost use Rattle.std.specs.Prelude.{◌≡◌, ◌+◌, ◌-◌, ◌≤◌, length, take};
-ghost use Rattle.refusal.specs.Contract.{given};
 ghost use Rattle.field.specs.Fields.{modulus};
 ghost use Rattle.lists.specs.Words.{ZeroFrom, Tight};
 ghost use Rattle.word_division.specs.Reduction.{negated, reduced, digits, less_product, words_reduced, words_of_quotient};
@@ -10,8 +9,8 @@ ghost use Rattle.word_division.specs.Reduction.{negated, reduced, digits, less_p
 // Division of x by y from the top: the quotient's words go to q, what is left stays in x. `inv` is the inverse of y's last word. Where the
 // slices' lengths do not fit, nothing is written.
 pub fn reduce(field: u8, x: &mut [u16], y: &[u16], inv: u16, q: &mut [u16])
-    ensures left { x.new ≡ words_reduced (modulus field) inv (given x) (given y) (given q) }
-    ensures quotient { q.new ≡ words_of_quotient (modulus field) inv (given x) (given y) (given q) }
+    ensures left { x.new ≡ words_reduced (modulus field) inv x.old y.now q.old }
+    ensures quotient { q.new ≡ words_of_quotient (modulus field) inv x.old y.now q.old }
 {
     if y.len() == 0 {
         return;
@@ -29,8 +28,8 @@ pub fn reduce(field: u8, x: &mut [u16], y: &[u16], inv: u16, q: &mut [u16])
 // The division, where the lengths fit.
 fn reduce_in(field: u8, x: &mut [u16], y: &[u16], inv: u16, q: &mut [u16])
     requires { (1 ≤ length y.now) × (length x.old + 1 ≡ length y.now + length q.old) }
-    ensures left { x.new ≡ reduced (modulus field) inv (given y) (length (given q)) (given x) }
-    ensures quotient { q.new ≡ digits (modulus field) inv (given y) (length (given q)) (given x) }
+    ensures left { x.new ≡ reduced (modulus field) inv y.now (length q.old) x.old }
+    ensures quotient { q.new ≡ digits (modulus field) inv y.now (length q.old) x.old }
 {
     let d = y.len() - 1;
     let mut k = q.len();
@@ -48,8 +47,8 @@ pub fn reduce_padded(field: u8, x: &mut [u16], y: &[u16], n: usize, inv: u16, q:
     requires le_n { (1 ≤ n) × (n ≤ length y.now) × (n - 1 + length q.old ≤ length x.old) }
     requires tight { Tight (modulus field) x.old }
     requires zero_from { ZeroFrom n y.now }
-    ensures left { x.new ≡ reduced (modulus field) inv (take n (given y)) (length (given q)) (given x) }
-    ensures quotient { q.new ≡ digits (modulus field) inv (take n (given y)) (length (given q)) (given x) }
+    ensures left { x.new ≡ reduced (modulus field) inv (take n y.now) (length q.old) x.old }
+    ensures quotient { q.new ≡ digits (modulus field) inv (take n y.now) (length q.old) x.old }
 {
     let lift = word_row::lift_of(field, inv);
     let mut k = q.len();
@@ -65,7 +64,7 @@ pub fn reduce_padded(field: u8, x: &mut [u16], y: &[u16], n: usize, inv: u16, q:
 pub fn sub_product(field: u8, s: &mut [u16], q: &[u16], t: &[u16])
     requires q_in_bounds { length q.now ≤ length s.old }
     requires tight { Tight (modulus field) s.old }
-    ensures { s.new ≡ less_product (modulus field) (given s) (given q) (given t) }
+    ensures { s.new ≡ less_product (modulus field) s.old q.now t.now }
 {
     let lift = word_row::lift_of(field, 1);
     let mut k = 0;

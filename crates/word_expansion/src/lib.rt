@@ -3,7 +3,6 @@
 #![tactic(auto)]
 
 ghost use Rattle.std.specs.Prelude.{◌≡◌, cond, ◌-◌, ◌<◌};
-ghost use Rattle.refusal.specs.Contract.{given};
 ghost use Rattle.field.specs.Fields.{modulus};
 ghost use Rattle.lists.specs.Words.{Tight};
 ghost use Rattle.word_expansion.specs.Expansion.{gained, expanded, expanded_into};
@@ -11,7 +10,7 @@ ghost use Rattle.word_expansion.specs.Expansion.{gained, expanded, expanded_into
 // The coefficients of the sum of x_k · t^k · (1 + t)^(n-k), or with 1 - t, n + 1 being the number of words; where a word is loose, nothing
 // is written.
 pub fn expand(field: u8, plus: bool, x: &mut [u16])
-    ensures { x.new ≡ expanded_into (modulus field) plus (given x) }
+    ensures { x.new ≡ expanded_into (modulus field) plus x.old }
 {
     if lists::has_loose(field, x) {
         return;
@@ -22,7 +21,7 @@ pub fn expand(field: u8, plus: bool, x: &mut [u16])
 // The same, where no word is loose: what the words before a word say is multiplied by 1 ± t, and that word comes to it.
 fn expand_in(p: u16, plus: bool, x: &mut [u16])
     requires { Tight p x.old }
-    ensures { x.new ≡ expanded p plus (given x) }
+    ensures { x.new ≡ expanded p plus x.old }
 {
     let mut k = 1;
     while k < x.len() {
@@ -34,7 +33,7 @@ fn expand_in(p: u16, plus: bool, x: &mut [u16])
 // Each word gains the word before it, or loses it. The word before is kept in a variable, so that LLVM takes eight words at a time.
 fn gain(p: u16, plus: bool, x: &mut [u16])
     requires { Tight p x.old }
-    ensures { x.new ≡ gained p plus (given x) }
+    ensures { x.new ≡ gained p plus x.old }
 {
     let mut before: u16 = 0;
     let mut i = 0;

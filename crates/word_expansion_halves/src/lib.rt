@@ -4,7 +4,6 @@
 #![tactic(auto)]
 
 ghost use Rattle.std.specs.Prelude.{◌≡◌, ◌+◌, ◌≤◌, ◌<◌, length};
-ghost use Rattle.refusal.specs.Contract.{given};
 ghost use Rattle.refusal.specs.Limits.{max_words};
 ghost use Rattle.field.specs.Fields.{modulus, field_at};
 ghost use Rattle.lists.specs.Words.{Tight};
@@ -24,7 +23,7 @@ const ROW: usize = refusal::MAX_WORDS / 2 + 1;
 pub fn expand(field: u8, whole: &[u16], part: &[u16], plus: bool, x: &mut [u16])
     requires tables_for { TablesFor field whole.now part.now }
     requires x_in_bounds { length x.old ≤ length whole.now }
-    ensures { x.new ≡ expanded_into (modulus field) plus (given x) }
+    ensures { x.new ≡ expanded_into (modulus field) plus x.old }
 {
     if lists::has_loose(field, x) {
         return;
@@ -36,7 +35,7 @@ pub fn expand(field: u8, whole: &[u16], part: &[u16], plus: bool, x: &mut [u16])
 fn expand_tight(field: u8, whole: &[u16], part: &[u16], plus: bool, x: &mut [u16])
     requires tables_for { TablesFor field whole.now part.now }
     requires x_in_bounds { (length x.old ≤ length whole.now) × Tight (modulus field) x.old }
-    ensures { x.new ≡ expanded (modulus field) plus (given x) }
+    ensures { x.new ≡ expanded (modulus field) plus x.old }
 {
     let n = x.len();
     if n <= SHORT {
@@ -74,7 +73,7 @@ fn join(field: u8, whole: &[u16], part: &[u16], plus: bool, h: usize, x: &mut [u
     requires tables_for { TablesFor field whole.now part.now }
     requires x_in_bounds { (length x.old ≤ length whole.now) × Tight (modulus field) x.old }
     requires h_in_bounds { (h < length x.old) × (length x.old ≤ h + h) }
-    ensures { x.new ≡ joined (field_at field) plus h (given x) }
+    ensures { x.new ≡ joined (field_at field) plus h x.old }
 {
     let n = x.len();
     let k = n - h + 1;
@@ -97,7 +96,7 @@ fn join_in(
     requires tables_for { TablesFor field whole.now part.now }
     requires x_in_bounds { (length x.old ≤ length whole.now) × Tight (modulus field) x.old }
     requires room { Room h (length x.old) (length row.old) (length out.old) }
-    ensures { x.new ≡ joined (field_at field) plus h (given x) }
+    ensures { x.new ≡ joined (field_at field) plus h x.old }
 {
     let k = row.len();
     fill_row(field, whole, part, plus, &mut out[..k], row);
@@ -109,7 +108,7 @@ fn join_in(
 // The words of a power of 1 ± t, in row: those of the binomial coefficients with their signs, which come to the other slice.
 fn fill_row(field: u8, whole: &[u16], part: &[u16], plus: bool, sign: &mut [u16], row: &mut [u16])
     requires { length sign.old ≡ length row.old }
-    ensures { row.new ≡ weighed_into (modulus field) (signs (modulus field) plus (length (given row))) (given whole) (given part) (given row) }
+    ensures { row.new ≡ weighed_into (modulus field) (signs (modulus field) plus (length row.old)) whole.now part.now row.old }
 {
     fill_signs(field::modulus_of(field), plus, sign);
     word_scaling::weigh(field, sign, whole, part, row);
@@ -118,7 +117,7 @@ fn fill_row(field: u8, whole: &[u16], part: &[u16], plus: bool, sign: &mut [u16]
 // 1 throughout, or 1 and -1 in turn.
 fn fill_signs(p: u16, plus: bool, x: &mut [u16])
     requires { 1 < p }
-    ensures { x.new ≡ signs p plus (length (given x)) }
+    ensures { x.new ≡ signs p plus (length x.old) }
 {
     let mut sign: u16 = 1;
     let mut k = 0;

@@ -2,7 +2,6 @@
 #![tactic(auto)]
 
 ghost use Rattle.std.specs.Prelude.{◌≡◌, ◌+◌, ◌*◌, ◌/◌, ◌%◌, ◌<◌, ◌≤◌, length};
-ghost use Rattle.refusal.specs.Contract.{given};
 ghost use Rattle.lists.specs.Words.{ZeroFrom};
 ghost use Rattle.word_pairs.specs.Pairs.{Odd};
 ghost use Rattle.word_grid.specs.Grid.{Grid, low_of, high_of, Reducible, reduced_words};
@@ -19,7 +18,7 @@ fn groups(
 )
     requires n_in_bounds { (16 * count + 16 * n ≤ length lo.old + 16) × (16 * count + 16 * n ≤ length hi.old + 16) × (32 * n + 28 ≤ length w.now) × (16 * count ≤ length x.now) × (256 ≤ length v.old) × (count ≤ 64) × (n ≤ 1024) }
     requires odd { Odd w.now }
-    ensures { Grid (given w) (given x) n (given lo) (given hi) count lo.new hi.new }
+    ensures { Grid w.now x.now n lo.old hi.old count lo.new hi.new }
 {
     let mut g = 0;
     while g < count {
@@ -41,7 +40,7 @@ pub fn add_rows(
 )
     requires n_in_bounds { (m + 16 * n ≤ length lo.old + 1) × (m + 16 * n ≤ length hi.old + 1) × (32 * n + 28 ≤ length w.now) × (m + 15 ≤ length x.now) × (256 ≤ length v.old) × (m ≤ 1024) × (n ≤ 1024) }
     requires odd { Odd w.now × ZeroFrom m x.now }
-    ensures { Grid (given w) (given x) n (given lo) (given hi) ((m + 15) / 16) lo.new hi.new }
+    ensures { Grid w.now x.now n lo.old hi.old ((m + 15) / 16) lo.new hi.new }
 {
     let g = (m + 7) / 16;
     groups(lo, hi, w, x, v, g, n);
@@ -105,7 +104,7 @@ fn reduce(a: u32, b: u32, p: u32) -> u16
 // All words, reduced.
 pub fn reduce_words(lo: &[u32], hi: &[u32], out: &mut [u16], p: u32)
     requires { (65497 ≤ p) × (p ≤ 65521) × (length out.old ≤ length lo.now) × (length out.old ≤ length hi.now) × Reducible p lo.now hi.now }
-    ensures { out.new ≡ reduced_words p (length (given out)) (given lo) (given hi) }
+    ensures { out.new ≡ reduced_words p (length out.old) lo.now hi.now }
 {
     let mut k = 0;
     while k < out.len() {

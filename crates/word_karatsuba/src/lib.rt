@@ -3,7 +3,6 @@
 #![tactic(auto)]
 
 ghost use Rattle.std.specs.Prelude.{◌≡◌, ◌||◌, ◌+◌, ◌-◌, ◌*◌, ◌%◌, ◌≤◌, ◌<◌, eqb, ltb, length};
-ghost use Rattle.refusal.specs.Contract.{given};
 ghost use Rattle.refusal.specs.Limits.{max_words};
 ghost use Rattle.field.specs.Fields.{modulus, field_at};
 ghost use Rattle.lists.specs.Words.{ZeroFrom, Tight};
@@ -51,7 +50,7 @@ fn plus(a: u16, b: u16, p: u16) -> u16
 // x plus y. The words of x are below p; those of y need not be.
 fn add_words(x: &mut [u16], y: &[u16], p: u16)
     requires { (length y.now ≤ length x.old) × (32768 ≤ p) × Tight p x.old }
-    ensures { x.new ≡ row p (given x) 1 (given y) }
+    ensures { x.new ≡ row p x.old 1 y.now }
 {
     let mut i = 0;
     while i < y.len() {
@@ -63,7 +62,7 @@ fn add_words(x: &mut [u16], y: &[u16], p: u16)
 // x less y. All words are below p.
 pub fn sub_words(x: &mut [u16], y: &[u16], p: u16)
     requires { (length y.now ≤ length x.old) × (2 ≤ p) × Tight p x.old × Tight p y.now }
-    ensures { x.new ≡ row p (given x) (negated p 1) (given y) }
+    ensures { x.new ≡ row p x.old (negated p 1) y.now }
 {
     let mut i = 0;
     while i < y.len() {
@@ -75,7 +74,7 @@ pub fn sub_words(x: &mut [u16], y: &[u16], p: u16)
 // x, whose words are below p, plus the first h words of a list, plus the rest of it.
 fn add_halves(field: u8, list: &[u16], h: usize, x: &mut [u16])
     requires { (h ≤ length list.now) × (h ≤ length x.old) × (length list.now ≤ h + length x.old) × Tight (modulus field) x.old }
-    ensures { x.new ≡ halves_added (modulus field) h (given list) (given x) }
+    ensures { x.new ≡ halves_added (modulus field) h list.now x.old }
 {
     let p = field::modulus_of(field);
     add_words(x, &list[..h], p);
@@ -86,7 +85,7 @@ fn add_halves(field: u8, list: &[u16], h: usize, x: &mut [u16])
 fn join(field: u8, h: usize, s: &mut [u16], out: &mut [u16])
     requires le_h { (1 ≤ h) × (2 * h ≤ length s.old) × (length s.old + h ≤ length out.old) × (length out.old ≤ length s.old + 2 * h) }
     requires out_len_bound { (length out.old < 2 * max_words) × Tight (modulus field) s.old × Tight (modulus field) out.old }
-    ensures { out.new ≡ products_joined (modulus field) h (given s) (given out) }
+    ensures { out.new ≡ products_joined (modulus field) h s.old out.old }
 {
     let p = field::modulus_of(field);
     sub_words(s, &out[..2 * h - 1], p);
@@ -99,7 +98,7 @@ fn join(field: u8, h: usize, s: &mut [u16], out: &mut [u16])
 fn convolve_parts(field: u8, a: &[u16], b: &[u16], h: usize, out: &mut [u16])
     requires cut { Cut (length a.now) (length b.now) h }
     requires a_len_bound { (length a.now ≤ max_words) × (length b.now ≤ max_words) × (length out.old + 1 ≡ length a.now + length b.now) }
-    ensures { Apart (field_at field) h (given a) (given b) out.new }
+    ensures { Apart (field_at field) h a.now b.now out.new }
 {
     convolve_fitting(field, &a[..h], &b[..h], &mut out[..2 * h - 1]);
     out[2 * h - 1] = 0;
@@ -122,7 +121,7 @@ fn convolve_in(
     requires a_len_bound { (length a.now ≤ max_words) × (length b.now ≤ max_words) × (length out.old + 1 ≡ length a.now + length b.now) }
     requires x_len { (length x.old ≡ h) × (length y.old ≡ h + 1) × (length s.old ≡ 2 * h) }
     requires zero_from { ZeroFrom 0 x.old × ZeroFrom 0 y.old }
-    ensures { out.new ≡ convolution (field_at field) (given a) (given b) }
+    ensures { out.new ≡ convolution (field_at field) a.now b.now }
 {
     add_halves(field, a, h, x);
     add_halves(field, b, h, y);
@@ -135,7 +134,7 @@ fn convolve_in(
 #[cycle(convolve_fitting_convolve_in_convolve_parts)]
 fn convolve_fitting(field: u8, a: &[u16], b: &[u16], out: &mut [u16])
     requires { (length a.now ≤ max_words) × (length b.now ≤ max_words) × (length out.old + 1 ≡ length a.now + length b.now) }
-    ensures { out.new ≡ convolution (field_at field) (given a) (given b) }
+    ensures { out.new ≡ convolution (field_at field) a.now b.now }
 {
     let h = halving(a.len(), b.len());
     if h == 0 {
@@ -165,7 +164,7 @@ fn is_turned(n: usize, m: usize) -> bool
 // The words of the product of two scaled forms. Short factors go to `word_product` from here: called from two places, it is not written into
 // the recursion, where each level would have its buffers.
 pub fn convolve(field: u8, a: &[u16], b: &[u16], out: &mut [u16])
-    ensures { out.new ≡ convolved_into (field_at field) max_words (given a) (given b) (given out) }
+    ensures { out.new ≡ convolved_into (field_at field) max_words a.now b.now out.old }
 {
     if refusal::MAX_WORDS < a.len() {
         return;

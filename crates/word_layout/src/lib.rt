@@ -2,7 +2,6 @@
 #![tactic(auto)]
 
 ghost use Rattle.std.specs.Prelude.{◌+◌, ◌*◌, ◌<◌, ◌≤◌, length};
-ghost use Rattle.refusal.specs.Contract.{given};
 ghost use Rattle.lists.specs.Words.{ZeroFrom};
 ghost use Rattle.word_pairs.specs.Pairs.{up};
 ghost use Rattle.word_strips.specs.Strips.{Spread};
@@ -23,7 +22,7 @@ fn centred(a: u16, p: u16) -> u16
 // The words of a list, centred, from d on, in s, which is 0.
 pub fn centre(s: &mut [u16], d: usize, list: &[u16], p: u16)
     requires { (d + length list.now ≤ length s.old) × (d ≤ 65536) × (32768 ≤ p) × ZeroFrom 0 s.old }
-    ensures { Centred p d (given list) s.new (length (given list)) }
+    ensures { Centred p d list.now s.new (length list.now) }
 {
     let mut i = 0;
     while i < list.len() {
@@ -35,7 +34,7 @@ pub fn centre(s: &mut [u16], d: usize, list: &[u16], p: u16)
 // Two words, sixteen times, from o on.
 fn repeat_pair(v: &mut [u16], o: usize, s: u16, t: u16)
     requires { (o + 32 ≤ length v.old) × (o ≤ 65536) }
-    ensures { Repeated o s t 16 (given v) v.new }
+    ensures { Repeated o s t 16 v.old v.new }
 {
     let mut l = 0;
     while l < 16 {
@@ -49,7 +48,7 @@ fn repeat_pair(v: &mut [u16], o: usize, s: u16, t: u16)
 // The first n pairs of words of x from d on, each sixteen times.
 pub fn spread(v: &mut [u16], x: &[u16], d: usize, n: usize)
     requires { (32 * n ≤ length v.old) × (d + 2 * n ≤ length x.now) × (d ≤ 65536) × (n ≤ 8) }
-    ensures { Spread n v.new (given x) d }
+    ensures { Spread n v.new x.now d }
 {
     let mut j = 0;
     while j < n {
@@ -61,7 +60,7 @@ pub fn spread(v: &mut [u16], x: &[u16], d: usize, n: usize)
 // Each of the words 1 to n of y beside the one before it, in w, which is 0.
 pub fn weave(w: &mut [u16], y: &[u16], n: usize)
     requires { (2 * n ≤ length w.old) × (n < length y.now) × (n ≤ 65536) × ZeroFrom 0 w.old }
-    ensures { Woven (given y) w.new n }
+    ensures { Woven y.now w.new n }
 {
     let mut q = 0;
     while q < n {

@@ -4,7 +4,6 @@
 
 ghost use Rattle.std.specs.Prelude.{◌≡◌, ◌+◌, ◌*◌, ◌/◌, ◌%◌, ◌<◌, length, FitsSigned, slice_index};
 ghost use Rattle.std.specs.Int.{w32};
-ghost use Rattle.refusal.specs.Contract.{given};
 ghost use Rattle.word_pairs.specs.Pairs.{up, up32, Diff, pair_of, Odd};
 
 // A word's bits as a signed integer.
@@ -25,7 +24,7 @@ fn pair(w0: u16, v0: u16, w1: u16, v1: u16) -> i32
 // The sum of two products of neighbours.
 pub fn pair_at(w: &[u16], v: &[u16], i: usize, d: usize, j: usize, e: usize) -> i32
     requires { (i + d + 1 < length w.now) × (j + e + 1 < length v.now) × (i < 65536) × (d < 65536) × (j < 65536) × (e < 65536) × Odd w.now }
-    ensures { FitsSigned w32 result × (up32 result ≡ pair_of (slice_index (given w) (i + d)) (slice_index (given v) (j + e)) (slice_index (given w) (i + d + 1)) (slice_index (given v) (j + e + 1))) }
+    ensures { FitsSigned w32 result × (up32 result ≡ pair_of (slice_index w.now (i + d)) (slice_index v.now (j + e)) (slice_index w.now (i + d + 1)) (slice_index v.now (j + e + 1))) }
 {
     pair(w[i + d], v[j + e], w[i + d + 1], v[j + e + 1])
 }

@@ -4,7 +4,6 @@
 #![tactic(auto)]
 
 ghost use Rattle.std.specs.Prelude.{◌≡◌, ◌+◌, ◌-◌, ◌*◌, ◌≤◌, ◌<◌, length};
-ghost use Rattle.refusal.specs.Contract.{given};
 ghost use Rattle.refusal.specs.Limits.{max_words};
 ghost use Rattle.field.specs.Fields.{field_at};
 ghost use Rattle.lists.specs.Words.{ZeroFrom};
@@ -46,7 +45,7 @@ fn end_row(k: usize, n: usize) -> usize
 // Word k of the product, in whole numbers.
 fn dot(a: &[u16], b: &[u16], k: usize) -> u64
     requires { (k + 1 < length a.now + length b.now) × (length a.now ≤ max_words) × (length b.now ≤ max_words) }
-    ensures { result ≡ word_sum (given a) (given b) k }
+    ensures { result ≡ word_sum a.now b.now k }
 {
     let e = end_row(k, a.len());
     let mut s = 0;
@@ -61,7 +60,7 @@ fn dot(a: &[u16], b: &[u16], k: usize) -> u64
 // The product, word by word.
 fn dots(field: u8, a: &[u16], b: &[u16], out: &mut [u16])
     requires { (length a.now ≤ max_words) × (length b.now ≤ max_words) × (length out.old + 1 ≡ length a.now + length b.now) }
-    ensures { out.new ≡ convolution (field_at field) (given a) (given b) }
+    ensures { out.new ≡ convolution (field_at field) a.now b.now }
 {
     let mut k = 0;
     while k < out.len() {
@@ -75,7 +74,7 @@ fn dots(field: u8, a: &[u16], b: &[u16], out: &mut [u16])
 fn lay(a: &[u16], b: &[u16], x: &mut [u16], y: &mut [u16], w: &mut [u16], n: usize, p: u16)
     requires le_p { (32768 ≤ p) × (length a.now ≤ length x.old) × (length b.now + 15 ≤ 16 * n) × (16 * n + 16 < length y.old) × (32 * n + 32 ≤ length w.old) × (n ≤ 1024) }
     requires zero_from { ZeroFrom 0 x.old × ZeroFrom 0 y.old × ZeroFrom 0 w.old }
-    ensures { Ready p (given a) (given b) w.new x.new }
+    ensures { Ready p a.now b.now w.new x.new }
 {
     word_layout::centre(x, 0, a, p);
     word_layout::centre(y, 15, b, p);
@@ -99,7 +98,7 @@ fn convolve_in(
     requires a_in_bounds { (length a.now + 15 ≤ length x.old) × (length b.now + 47 ≤ length y.old) × (2 * length b.now + 92 ≤ length w.old) × (256 ≤ length v.old) }
     requires b_in_bounds { (length a.now + length b.now + 29 ≤ length lo.old) × (length a.now + length b.now + 29 ≤ length hi.old) }
     requires zero_from { ZeroFrom 0 x.old × ZeroFrom 0 y.old × ZeroFrom 0 w.old × ZeroFrom 0 lo.old × ZeroFrom 0 hi.old }
-    ensures { out.new ≡ convolution (field_at field) (given a) (given b) }
+    ensures { out.new ≡ convolution (field_at field) a.now b.now }
 {
     let p = field::modulus_of(field);
     let n = (b.len() + 30) / 16;
@@ -111,7 +110,7 @@ fn convolve_in(
 // The product of two factors of few words together.
 fn convolve_few(field: u8, a: &[u16], b: &[u16], out: &mut [u16])
     requires { (length a.now + length b.now ≤ few_words) × (length out.old + 1 ≡ length a.now + length b.now) }
-    ensures { out.new ≡ convolution (field_at field) (given a) (given b) }
+    ensures { out.new ≡ convolution (field_at field) a.now b.now }
 {
     let mut x = [0u16; FEW + 16];
     let mut y = [0u16; FEW + 48];
@@ -127,7 +126,7 @@ fn convolve_few(field: u8, a: &[u16], b: &[u16], out: &mut [u16])
 // Of two factors of more words.
 fn convolve_more(field: u8, a: &[u16], b: &[u16], out: &mut [u16])
     requires { (length a.now + length b.now ≤ more_words) × (length out.old + 1 ≡ length a.now + length b.now) }
-    ensures { out.new ≡ convolution (field_at field) (given a) (given b) }
+    ensures { out.new ≡ convolution (field_at field) a.now b.now }
 {
     let mut x = [0u16; MORE + 16];
     let mut y = [0u16; MORE + 48];
@@ -143,7 +142,7 @@ fn convolve_more(field: u8, a: &[u16], b: &[u16], out: &mut [u16])
 // Of two factors of many words.
 fn convolve_many(field: u8, a: &[u16], b: &[u16], out: &mut [u16])
     requires { (length a.now + length b.now ≤ many_words) × (length out.old + 1 ≡ length a.now + length b.now) }
-    ensures { out.new ≡ convolution (field_at field) (given a) (given b) }
+    ensures { out.new ≡ convolution (field_at field) a.now b.now }
 {
     let mut x = [0u16; MANY + 16];
     let mut y = [0u16; MANY + 48];
@@ -159,7 +158,7 @@ fn convolve_many(field: u8, a: &[u16], b: &[u16], out: &mut [u16])
 // Of any two factors.
 fn convolve_any(field: u8, a: &[u16], b: &[u16], out: &mut [u16])
     requires { (length a.now ≤ max_words) × (length b.now ≤ max_words) × (length out.old + 1 ≡ length a.now + length b.now) }
-    ensures { out.new ≡ convolution (field_at field) (given a) (given b) }
+    ensures { out.new ≡ convolution (field_at field) a.now b.now }
 {
     let mut x = [0u16; ANY + 16];
     let mut y = [0u16; ANY + 48];
@@ -183,7 +182,7 @@ fn tiny(n: usize) -> usize
 // The product, where the lengths fit, with buffers of the size that it needs.
 fn convolve_fitting(field: u8, a: &[u16], b: &[u16], out: &mut [u16])
     requires { (length a.now ≤ max_words) × (length b.now ≤ max_words) × (length out.old + 1 ≡ length a.now + length b.now) }
-    ensures { out.new ≡ convolution (field_at field) (given a) (given b) }
+    ensures { out.new ≡ convolution (field_at field) a.now b.now }
 {
     let together = a.len() + b.len();
     if together <= tiny(a.len()) {
@@ -207,7 +206,7 @@ fn convolve_fitting(field: u8, a: &[u16], b: &[u16], out: &mut [u16])
 
 // The words of the product of two scaled forms.
 pub fn convolve(field: u8, a: &[u16], b: &[u16], out: &mut [u16])
-    ensures { out.new ≡ convolved_into (field_at field) max_words (given a) (given b) (given out) }
+    ensures { out.new ≡ convolved_into (field_at field) max_words a.now b.now out.old }
 {
     if refusal::MAX_WORDS < a.len() {
         return;

@@ -2,7 +2,6 @@
 #![tactic(auto)]
 
 ghost use Rattle.std.specs.Prelude.{◌≡◌, ℕ, ◌+◌, ◌-◌, ◌*◌, ◌%◌, ◌<◌, ◌≤◌, min, length};
-ghost use Rattle.refusal.specs.Contract.{given};
 ghost use Rattle.field.specs.Fields.{modulus, square};
 ghost use Rattle.lists.specs.Words.{Tight};
 ghost use Rattle.word_row.specs.Rows.{row, minus_product, Partway};
@@ -10,7 +9,7 @@ ghost use Rattle.word_row.specs.Montgomery.{Modulus, Factor, lift_of};
 
 // x plus m times y, as far as both reach: whole groups of 8 words by Montgomery's products, and the rest word by word.
 pub fn add_row(field: u8, x: &mut [u16], m: u16, y: &[u16])
-    ensures { x.new ≡ row (modulus field) (given x) m (given y) }
+    ensures { x.new ≡ row (modulus field) x.old m y.now }
 {
     let n = words::smaller(x.len(), y.len());
     let wide = n - n % 8;
@@ -38,7 +37,7 @@ pub fn lift_of(field: u8, m: u16) -> u16
 pub fn sub_row(field: u8, x: &mut [u16], a: u16, m: u16, lift: u16, y: &[u16])
     requires tight { Tight (modulus field) x.old }
     requires lift_value { lift ≡ lift_of (modulus field) (square field) m }
-    ensures { x.new ≡ row (modulus field) (given x) (minus_product (modulus field) a m) (given y) }
+    ensures { x.new ≡ row (modulus field) x.old (minus_product (modulus field) a m) y.now }
 {
     let p = field::modulus_of(field);
     let e = field::word_inverse_of(field);
@@ -54,7 +53,7 @@ fn lifted_row(x: &mut [u16], y: &[u16], n: usize, g: u16, s: u16, p: u16)
     requires le_p { (32768 ≤ p) × (g < p) }
     requires n_in_bounds { (n ≤ length x.old) × (n ≤ length y.now) }
     requires tight { Tight p x.old }
-    ensures { (e m : ℕ) → Factor p e m g s → Partway p (given x) m (given y) x.new n }
+    ensures { (e m : ℕ) → Factor p e m g s → Partway p x.old m y.now x.new n }
 {
     let mut j = 0;
     while j < n {
@@ -65,7 +64,7 @@ fn lifted_row(x: &mut [u16], y: &[u16], n: usize, g: u16, s: u16, p: u16)
 
 // x plus m times y word by word, for the fewer than 8 words at a row's end.
 fn add_rest(field: u8, x: &mut [u16], m: u16, y: &[u16])
-    ensures { x.new ≡ row (modulus field) (given x) m (given y) }
+    ensures { x.new ≡ row (modulus field) x.old m y.now }
 {
     let n = words::smaller(x.len(), y.len());
     let mut i = 0;
@@ -80,7 +79,7 @@ fn add_rest(field: u8, x: &mut [u16], m: u16, y: &[u16])
 fn montgomery_row(x: &mut [u16], m: u16, y: &[u16], n: usize, p: u16, e: u16, square: u16)
     requires modulus { Modulus p e square }
     requires n_in_bounds { (n ≤ length x.old) × (n ≤ length y.now) }
-    ensures { Partway p (given x) m (given y) x.new n }
+    ensures { Partway p x.old m y.now x.new n }
 {
     // m times 2^16. LLVM knows that it has 16 bits, since it is a difference of words; of a remainder by p it would not.
     let g = add_product(0, m, square, word_montgomery::low_half(square, e), p);

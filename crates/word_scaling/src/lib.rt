@@ -3,7 +3,6 @@
 #![tactic(auto)]
 
 ghost use Rattle.std.specs.Prelude.{◌≡◌, ◌*◌, ◌%◌, ◌<◌, ◌≤◌, length};
-ghost use Rattle.refusal.specs.Contract.{given};
 ghost use Rattle.field.specs.Fields.{modulus, word_inverse};
 ghost use Rattle.lists.specs.Words.{Tight};
 ghost use Rattle.word_montgomery.specs.Montgomery.{montgomery};
@@ -44,7 +43,7 @@ fn product_of_four(field: u8, x: u16, d: u16, a: u16, b: u16) -> u16
 // Word k times whole[n], part[k] and part[n - k], n + 1 being the length of out. C(n,k) is n! / (k! (n - k)!): with the factorials as
 // whole and their inverses as part the words are multiplied by C(n,k), and with the two exchanged they are divided by it.
 pub fn weigh(field: u8, words: &[u16], whole: &[u16], part: &[u16], out: &mut [u16])
-    ensures { out.new ≡ weighed_into (modulus field) (given words) (given whole) (given part) (given out) }
+    ensures { out.new ≡ weighed_into (modulus field) words.now whole.now part.now out.old }
 {
     if words.len() < out.len() {
         return;
@@ -61,7 +60,7 @@ pub fn weigh(field: u8, words: &[u16], whole: &[u16], part: &[u16], out: &mut [u
 // The same, where the lengths fit.
 fn weigh_in(field: u8, words: &[u16], whole: &[u16], part: &[u16], out: &mut [u16])
     requires { (length out.old ≤ length words.now) × (length out.old ≤ length whole.now) × (length out.old ≤ length part.now) }
-    ensures { out.new ≡ weighted (modulus field) (given whole) (given part) (length (given out)) (given words) }
+    ensures { out.new ≡ weighted (modulus field) whole.now part.now (length out.old) words.now }
 {
     let n = out.len();
     if n == 0 {
@@ -90,7 +89,7 @@ fn product_of_three(field: u8, x: u16, a: u16, b: u16) -> u16
 // `weigh` writes: where these factors can be left to the end, a word takes two products and not three. No word is loose.
 pub fn weigh_partly(field: u8, words: &[u16], part: &[u16], out: &mut [u16])
     requires { (length out.old ≤ length words.now) × (length out.old ≤ length part.now) × Tight (modulus field) words.now }
-    ensures { out.new ≡ partly_weighted (modulus field) (word_inverse field) (given part) (length (given out)) (given words) }
+    ensures { out.new ≡ partly_weighted (modulus field) (word_inverse field) part.now (length out.old) words.now }
 {
     let n = out.len();
     let mut k = 0;

@@ -6,7 +6,6 @@
 #![tactic(auto)]
 
 ghost use Rattle.std.specs.Prelude.{◌+◌, ◌*◌, ◌<◌, ◌≤◌, length};
-ghost use Rattle.refusal.specs.Contract.{given};
 ghost use Rattle.lists.specs.Words.{ZeroFrom};
 ghost use Rattle.word_pairs.specs.Pairs.{Odd};
 ghost use Rattle.word_strips.specs.Strips.{Spread, Span};
@@ -15,7 +14,7 @@ ghost use Rattle.word_strips.specs.Strips.{Spread, Span};
 fn strip(lo: &mut [u32], hi: &mut [u32], w: &[u16], x: &[u16], v: &[u16], g: usize, s: usize)
     requires s_in_bounds { (16 * g + 16 * s + 16 ≤ length lo.old) × (16 * g + 16 * s + 16 ≤ length hi.old) × (32 * s + 60 ≤ length w.now) × (256 ≤ length v.now) × (g ≤ 128) × (s ≤ 1024) }
     requires odd { Odd w.now × Spread 8 v.now x.now (16 * g) }
-    ensures { Span (given w) (given x) (16 * g) (16 * s) (16 * s + 16) (given lo) (given hi) lo.new hi.new }
+    ensures { Span w.now x.now (16 * g) (16 * s) (16 * s + 16) lo.old hi.old lo.new hi.new }
 {
     let o = 16 * (g + s);
     let mut l = 0;
@@ -42,7 +41,7 @@ fn strip(lo: &mut [u32], hi: &mut [u32], w: &[u16], x: &[u16], v: &[u16], g: usi
 fn half_strip(lo: &mut [u32], hi: &mut [u32], w: &[u16], x: &[u16], v: &[u16], g: usize, s: usize)
     requires s_in_bounds { (16 * g + 16 * s + 16 ≤ length lo.old) × (16 * g + 16 * s + 16 ≤ length hi.old) × (32 * s + 60 ≤ length w.now) × (128 ≤ length v.now) × (g ≤ 128) × (s ≤ 1024) }
     requires odd { Odd w.now × Spread 4 v.now x.now (16 * g) × ZeroFrom (16 * g + 8) x.now }
-    ensures { Span (given w) (given x) (16 * g) (16 * s) (16 * s + 16) (given lo) (given hi) lo.new hi.new }
+    ensures { Span w.now x.now (16 * g) (16 * s) (16 * s + 16) lo.old hi.old lo.new hi.new }
 {
     let o = 16 * (g + s);
     let mut l = 0;
@@ -63,7 +62,7 @@ fn half_strip(lo: &mut [u32], hi: &mut [u32], w: &[u16], x: &[u16], v: &[u16], g
 pub fn group(lo: &mut [u32], hi: &mut [u32], w: &[u16], x: &[u16], v: &[u16], g: usize, n: usize)
     requires n_in_bounds { (16 * g + 16 * n ≤ length lo.old) × (16 * g + 16 * n ≤ length hi.old) × (32 * n + 28 ≤ length w.now) × (256 ≤ length v.now) × (g ≤ 128) × (n ≤ 1024) }
     requires odd { Odd w.now × Spread 8 v.now x.now (16 * g) }
-    ensures { Span (given w) (given x) (16 * g) 0 (16 * n) (given lo) (given hi) lo.new hi.new }
+    ensures { Span w.now x.now (16 * g) 0 (16 * n) lo.old hi.old lo.new hi.new }
 {
     let mut s = 0;
     while s < n {
@@ -84,7 +83,7 @@ pub fn half_group(
 )
     requires n_in_bounds { (16 * g + 16 * n ≤ length lo.old) × (16 * g + 16 * n ≤ length hi.old) × (32 * n + 28 ≤ length w.now) × (128 ≤ length v.now) × (g ≤ 128) × (n ≤ 1024) }
     requires odd { Odd w.now × Spread 4 v.now x.now (16 * g) × ZeroFrom (16 * g + 8) x.now }
-    ensures { Span (given w) (given x) (16 * g) 0 (16 * n) (given lo) (given hi) lo.new hi.new }
+    ensures { Span w.now x.now (16 * g) 0 (16 * n) lo.old hi.old lo.new hi.new }
 {
     let mut s = 0;
     while s < n {

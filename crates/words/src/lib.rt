@@ -3,13 +3,12 @@
 #![tactic(auto)]
 
 ghost use Rattle.std.specs.Prelude.{◌≡◌, ℕ, max, min, ◌+◌, ◌*◌, ◌/◌, ◌%◌, ◌≤◌, ◌<◌, length, get_or};
-ghost use Rattle.refusal.specs.Contract.{given};
 ghost use Rattle.lists.specs.Bytes.{byte_values, word_at, words_of};
 ghost use Rattle.words.specs.Transfer.{words_into, bytes_into, copied_into};
 
 // Byte i, as a number.
 pub fn byte_at(bytes: &[u8], i: usize) -> usize
-    ensures { (result ≡ get_or (given bytes) i 0) × (result < byte_values) }
+    ensures { (result ≡ get_or bytes.now i 0) × (result < byte_values) }
 {
     if i < bytes.len() {
         bytes[i] as usize
@@ -20,7 +19,7 @@ pub fn byte_at(bytes: &[u8], i: usize) -> usize
 
 // The word at a place, as a number.
 pub fn word_at(bytes: &[u8], at: usize) -> usize
-    ensures { (result ≡ word_at (given bytes) at) × (result < 65536) }
+    ensures { (result ≡ word_at bytes.now at) × (result < 65536) }
 {
     if at < bytes.len() {
         byte_at(bytes, at) + 256 * byte_at(bytes, at + 1)
@@ -53,7 +52,7 @@ fn word(low: u8, high: u8) -> u16
 // The first n words of some bytes. No test stands in the loop, so that LLVM takes several words at a time.
 fn read_first(bytes: &[u8], words: &mut [u16], n: usize)
     requires { (n ≤ length words.old) × (2 * n ≤ length bytes.now) }
-    ensures { (k : ℕ) → k < n → get_or words.new k 0 ≡ get_or (words_of (given bytes)) k 0 }
+    ensures { (k : ℕ) → k < n → get_or words.new k 0 ≡ get_or (words_of bytes.now) k 0 }
 {
     let mut k = 0;
     while k < n {
@@ -64,7 +63,7 @@ fn read_first(bytes: &[u8], words: &mut [u16], n: usize)
 
 // The words of some bytes, as many as the slice takes, zeros after them.
 pub fn read_words(bytes: &[u8], words: &mut [u16])
-    ensures { words.new ≡ words_into (length (given words)) (given bytes) }
+    ensures { words.new ≡ words_into (length words.old) bytes.now }
 {
     let n = smaller(words.len(), bytes.len() / 2);
     read_first(bytes, words, n);
@@ -77,7 +76,7 @@ pub fn read_words(bytes: &[u8], words: &mut [u16])
 
 // The bytes of some words, in a slice of exactly so many bytes; nothing in another.
 pub fn write_words(words: &[u16], bytes: &mut [u8])
-    ensures { bytes.new ≡ bytes_into (given words) (given bytes) }
+    ensures { bytes.new ≡ bytes_into words.now bytes.old }
 {
     if bytes.len() % 2 == 1 {
         return;
@@ -95,7 +94,7 @@ pub fn write_words(words: &[u16], bytes: &mut [u8])
 
 // The words of a slice, in another of as many; nothing in one of another length.
 pub fn copy(from: &[u16], to: &mut [u16])
-    ensures { to.new ≡ copied_into (given from) (given to) }
+    ensures { to.new ≡ copied_into from.now to.old }
 {
     if from.len() != to.len() {
         return;

@@ -1,0 +1,17 @@
+-- `word_strips::strip` meets its contract: each turn is one output more.
+-- Assumes nothing.
+use Prim.Native.Nat.{◌+◌, ◌-◌, ◌*◌, ◌≤◌, ◌<◌}
+use native.Mathlib.Nat.{add-zero, add_assoc}
+use native.Mathlib.Omega.{arith}
+use mathlib.Core.Path.{sym}
+use lib.Dec.{lit<}
+use lib.ListN.{length, get_or}
+use Rattle.word_strips.specs.Strips.{whole_at, high_at, Gain, Span}
+use Rattle.word_strips.proofs.Turns.{pair_is, turn-gain, start, joined, single, to}
+use Rattle.word_strips.proofs.strip.Given as goal
+
+abbrev pub invariant-loop-l : goal.invariant-loop-l
+invariant-loop-l l = (l.l ≤ 16) × Span l.w l.x (16 * l.g) (16 * l.s) (16 * l.s + l.l) l.initial.lo l.initial.hi l.lo l.hi
+
+abbrev pub decreases-loop-l : goal.decreases-loop-l
+decreases-loop-l l = 16 - l.l

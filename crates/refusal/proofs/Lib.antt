@@ -1,3 +1,4 @@
+pub mod Clauses
 pub mod First
 pub mod Rank
 pub mod Answers

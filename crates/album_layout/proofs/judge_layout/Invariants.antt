@@ -1,0 +1,23 @@
+-- `album_layout::judge_layout` meets its contract. The loop's invariant: n is the number of lists, at most the limit, and the table of contents
+-- lies in the album; the first k entries name the places where the bodies start and degrees of at most the limit, and the next body starts
+-- at `at`. The measure is the
+-- number of entries left.
+-- Assumes nothing.
+use mathlib.Core.Path.{◌≡◌, subst}
+use mathlib.Core.Bool.{true}
+use mathlib.Core.List.{List}
+use Prim.Native.Nat.{ℕ, ◌+◌, ◌*◌, ◌-◌, ◌≤◌}
+use native.Mathlib.Numerals.{add-one}
+use native.Mathlib.Omega.{arith}
+use lib.ListN.{length}
+use Rattle.refusal.specs.Limits.{maxDegree, max_lists, max_words}
+use Rattle.album_layout.specs.Layout.{count, entry_at, start_at, offsets_agree, degrees_fit}
+use Rattle.album_layout.proofs.Places.{start-next, start-low, agree-next, fit_next}
+use Rattle.album_layout.proofs.Judged.{layout-empty, layout-none, layout-many, layout-size, layout-place, layout-degree, layout-done}
+use Rattle.album_layout.proofs.judge_layout.Given as goal
+
+abbrev pub invariant-loop-k : goal.invariant-loop-k
+invariant-loop-k l = (l.k ≤ l.n) × (l.n ≡ count l.album) × (l.n ≤ max_lists) × (entry_at l.n ≤ length l.album) × (l.at ≡ start_at l.album l.k) × (l.at ≤ entry_at max_lists + 2 * max_words * l.k) × (offsets_agree l.album l.k ≡ true) × (degrees_fit maxDegree l.album l.k ≡ true)
+
+abbrev pub decreases-loop-k : goal.decreases-loop-k
+decreases-loop-k l = l.n - l.k

@@ -48,4 +48,4 @@ unfoldable pub body_place : (k : ℕ) → List ℕ → ℕ → ℕ
 body_place k s i = placed (lowest (check_refusals (modulus k) s i)) (start_at s i)
 
 abbrev pub PartFrom : Bor (List ℕ) → ℕ → Bor (List ℕ) → Type 0
-PartFrom whole at part = (part.ptr.0 ≡ whole.ptr.0) × (part.ptr.1 ≡ whole.ptr.1 + at)
+PartFrom whole at part = (part.ref_ptr.0 ≡ whole.ref_ptr.0) × (part.ref_ptr.1 ≡ whole.ref_ptr.1 + at)

@@ -20,7 +20,7 @@ returns-in-Done c =
     let found = c.body_at.ensures in
     let same = body-done c.args.field s c.args.i e in
     let fine = call-fine _ s c.args.i e in
-    let bytes = c.type_inv.album in record { part = found.part ∙ same.0; place = (found.place.0, found.place.1 ∙ ap (λ k. c.args.album.ptr.1 + k) same.1); some = λ d. omega (arith, ap length found.part, body-some s c.args.i fine.0 fine.1 (λ k. omega (arith, bytes k))) }
+    let bytes = c.type_inv.album in record { part = found.part ∙ same.0; place = (found.place.0, found.place.1 ∙ ap (λ k. c.args.album.ref_ptr.1 + k) same.1); some = λ d. omega (arith, ap length found.part, body-some s c.args.i fine.0 fine.1 (λ k. omega (arith, bytes k))) }
 
 pub returns-in-Refused : goal.returns-in-Refused
 returns-in-Refused c =

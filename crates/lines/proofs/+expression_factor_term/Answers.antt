@@ -1,11 +1,9 @@
 -- Functions `lines::expression`, `lines::term` and `lines::factor` meet their contracts: one law of proofs/Turns for each way through them.
 -- Assumes nothing.
-use mathlib.Core.Path.{◌≡◌, subst}
-use Prim.Native.Nat.{◌+◌}
+use mathlib.Core.Path.{subst}
 use native.Mathlib.Omega.{arith}
 use Rattle.lines.specs.declared.Token.{Token}
 use Rattle.lines.specs.Internal.{rest_of, Follows}
-use Rattle.lines.specs.Reader.{first_term, first_factor}
 use Rattle.lines.proofs.Turns.{number_read, derive-read, group-read}
 use Rattle.lines.proofs.Turns.{none-begins, none_left, derive-fails, group-fails, group-ends, group-open}
 use Rattle.lines.proofs.Turns.{products-begin, products-turn, products-end, products-fail}
@@ -208,4 +206,4 @@ factor-returns-in_default-token t c =
     let f = c.in-Token.ensures in
     let other = c.in_default-token in
     λ k. rw f.is (none-begins c.in-Token.token other.not-Number other.not-Derive other.not-Open
-        (rest_of c.args.line.now c.in-Token.after) k)
+    (rest_of c.args.line.now c.in-Token.after) k)

@@ -1,11 +1,9 @@
 -- `lines::nesting` meets its contract. The loop's invariant: the most so far, and what the rest of the line comes to, is the line's depth.
 -- The measure is the number of bytes left.
 -- Assumes nothing.
-use mathlib.Core.Path.{◌≡◌, sym, ◌∙◌}
-use Prim.Native.Nat.{◌≤◌, ◌-◌, max}
+use mathlib.Core.Path.{sym, ◌∙◌}
 use native.Mathlib.Omega.{arith}
-use lib.ListN.{length, drop, get_or}
-use Rattle.lines.specs.Grammar.{deepest}
+use lib.ListN.{get_or}
 use Rattle.lines.proofs.Whole.{deepest-turn, deepest-end, open-bound}
 use Rattle.lines.proofs.nesting.Goals as goal
 

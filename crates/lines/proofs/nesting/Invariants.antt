@@ -1,12 +1,10 @@
 -- `lines::nesting` meets its contract. The loop's invariant: the most so far, and what the rest of the line comes to, is the line's depth.
 -- The measure is the number of bytes left.
 -- Assumes nothing.
-use mathlib.Core.Path.{◌≡◌, sym, ◌∙◌}
+use mathlib.Core.Path.{◌≡◌}
 use Prim.Native.Nat.{◌≤◌, ◌-◌, max}
-use native.Mathlib.Omega.{arith}
-use lib.ListN.{length, drop, get_or}
+use lib.ListN.{length, drop}
 use Rattle.lines.specs.Grammar.{deepest}
-use Rattle.lines.proofs.Whole.{deepest-turn, deepest-end, open-bound}
 use Rattle.lines.proofs.nesting.Given as goal
 
 abbrev pub invariant-loop-i : goal.invariant-loop-i

@@ -1,5 +1,6 @@
 -- `lines::sign_of` meets its contract. Assumes nothing.
 use mathlib.Core.Path.{sym, ap}
+use native.Mathlib.Omega.{arith}
 use borrow.Author.Tests.{ne_eqb}
 use Rattle.lines.specs.Grammar.{sign_of}
 use Rattle.lines.proofs.sign_of.Goals as goal
@@ -31,14 +32,12 @@ returns-in-41 c = sym (ap sign_of c.in-41.is)
 pub returns-in_default : goal.returns-in_default
 unfolding sign_of
 returns-in_default c =
-    let n = c.in_default.in_default-own.rest in
     let b = c.args.b in
     rw (
-      ne_eqb b 43 n.0.0.0.0.0.1,
-      ne_eqb b 45 n.0.0.0.0.1,
-      ne_eqb b 42 n.0.0.0.1,
-      ne_eqb b 68
-          n.0.0.1,
-      ne_eqb b 40 n.0.1,
-      ne_eqb b 41 n.1,
+      ne_eqb b 43 (λ z. omega arith),
+      ne_eqb b 45 (λ z. omega arith),
+      ne_eqb b 42 (λ z. omega arith),
+      ne_eqb b 68 (λ z. omega arith),
+      ne_eqb b 40 (λ z. omega arith),
+      ne_eqb b 41 (λ z. omega arith),
     )

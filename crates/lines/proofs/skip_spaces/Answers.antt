@@ -1,11 +1,8 @@
 -- `lines::skip_spaces` meets its contract. The loop's invariant: from i on the line has the tokens that it has from the given place on. The
 -- measure is the number of bytes left.
 -- Assumes nothing.
-use mathlib.Core.Path.{◌≡◌, refl, ◌∙◌}
-use Prim.Native.Nat.{◌≤◌, ◌-◌}
+use mathlib.Core.Path.{refl, ◌∙◌}
 use native.Mathlib.Omega.{arith}
-use lib.ListN.{length}
-use Rattle.lines.specs.Internal.{rest_of}
 use Rattle.lines.proofs.Scan.{rest-space}
 use Rattle.lines.proofs.skip_spaces.Goals as goal
 

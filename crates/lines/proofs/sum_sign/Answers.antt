@@ -1,5 +1,5 @@
 -- `lines::sum_sign` meets its contract. Assumes nothing.
-use mathlib.Core.Path.{◌≡◌, refl, subst}
+use mathlib.Core.Path.{refl, subst}
 use mathlib.Core.List.{List}
 use Prim.Native.Nat.{ℕ}
 use mathlib.Core.Logic.{inl, inr}

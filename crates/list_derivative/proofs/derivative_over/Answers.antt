@@ -1,0 +1,17 @@
+-- `list_derivative::derivative_over` meets its contract: the slice is written where nothing is refused.
+-- Assumes nothing.
+use mathlib.Core.Path.{sym, ◌∙◌}
+use Rattle.field.proofs.Fields.{modulus-some}
+use Rattle.refusal.proofs.Answers.{done, refused}
+use Rattle.list_derivative.proofs.Judged.{derivative-fits}
+use Rattle.refusal.proofs.Clauses.{answer_and_writes}
+use Rattle.list_derivative.proofs.derivative_over.Goals as goal
+
+pub derivative_into-requires : goal.derivative_into-requires
+derivative_into-requires c = derivative-fits _ _ _ _ (modulus-some _) (sym c.in-Done.is ∙ c.judge_derivative-answer.ensures)
+
+pub returns-in-Done : goal.returns-in-Done
+returns-in-Done c = answer_and_writes (done c.judge_derivative-answer.ensures c.in-Done.is _ _ c.derivative_into.ensures)
+
+pub returns-in_default : goal.returns-in_default
+returns-in_default c = answer_and_writes (refused c.judge_derivative-answer.ensures c.in_default.is _ _)

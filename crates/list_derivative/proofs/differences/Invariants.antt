@@ -1,0 +1,18 @@
+-- `list_derivative::differences` meets its contract. The loop's invariant: the words below k are written. The measure is the number of words left.
+-- Assumes nothing.
+use mathlib.Core.Path.{◌≡◌}
+use Prim.Native.Nat.{◌≤◌, ◌-◌}
+use native.Mathlib.Omega.{arith}
+use lib.ListN.{length, length-set}
+use Rattle.field.specs.Fields.{field_at}
+use Rattle.field.proofs.Fields.{p-at, longest-room}
+use Rattle.lists.specs.Operations.{derivative}
+use Rattle.lists.proofs.Filled.{Filled, fill_start, fill_step, fill_end}
+use Rattle.list_derivative.proofs.Derived.{length-is, word-is}
+use Rattle.list_derivative.proofs.differences.Given as goal
+
+abbrev pub invariant-loop-k : goal.invariant-loop-k
+invariant-loop-k l = (l.k ≤ l.n) × (length l.out ≡ l.n) × Filled l.out l.k (derivative (field_at l.field) l.f)
+
+abbrev pub decreases-loop-k : goal.decreases-loop-k
+decreases-loop-k l = l.n - l.k

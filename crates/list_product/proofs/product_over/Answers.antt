@@ -1,0 +1,17 @@
+-- `list_product::product_over` meets its contract: the slice is written where nothing is refused.
+-- Assumes nothing.
+use mathlib.Core.Path.{sym, ◌∙◌}
+use Rattle.field.proofs.Fields.{modulus-some}
+use Rattle.refusal.proofs.Answers.{done, refused}
+use Rattle.list_product.proofs.Judged.{product-fits}
+use Rattle.refusal.proofs.Clauses.{answer_and_writes}
+use Rattle.list_product.proofs.product_over.Goals as goal
+
+pub product_into-requires : goal.product_into-requires
+product_into-requires c = product-fits _ _ (modulus-some _) _ _ _ (sym c.in-Done.is ∙ c.judge_product-answer.ensures)
+
+pub returns-in-Done : goal.returns-in-Done
+returns-in-Done c = answer_and_writes (done c.judge_product-answer.ensures c.in-Done.is _ _ c.product_into.ensures)
+
+pub returns-in-Refused : goal.returns-in-Refused
+returns-in-Refused c = answer_and_writes (refused c.judge_product-answer.ensures c.in-Refused.is _ _)

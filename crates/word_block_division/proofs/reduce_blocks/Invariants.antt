@@ -1,0 +1,21 @@
+-- `word_block_division::reduce_blocks` meets its contract. The loop's invariant: the quotient's words from k on are there, and x is what is left. The
+-- measure is k.
+-- Assumes nothing.
+use mathlib.Core.Path.{◌≡◌, refl, sym, ◌∙◌, subst}
+use Prim.Native.Nat.{◌+◌, ◌-◌, ◌≤◌}
+use native.Mathlib.Omega.{arith}
+use lib.ListN.{length}
+use Rattle.field.specs.Fields.{field_at}
+use Rattle.field.proofs.Fields.{p-at}
+use Rattle.lists.proofs.Tight.{tight-at}
+use Rattle.word_block_division.specs.Blocks.{Begun}
+use Rattle.word_block_division.proofs.Blocks.{begun-start, begun-end}
+use Rattle.word_block_division.proofs.reduce_blocks.Given as goal
+
+abbrev pub invariant-loop-k : goal.invariant-loop-k
+invariant-loop-k l =
+    (l.k ≤ length l.initial.q) × (length l.x ≡ length l.initial.x) × (length l.q ≡ length l.initial.q) × (length l.t ≡ length l.initial.t) × (length l.v ≡ length l.initial.v)
+    × Begun (field_at l.field) l.y l.initial.x l.k l.x l.q
+
+abbrev pub decreases-loop-k : goal.decreases-loop-k
+decreases-loop-k l = l.k

@@ -3,57 +3,47 @@
 #![tactic(auto)]
 
 use album_writer::Written;
-use libc::{STDERR_FILENO, STDIN_FILENO, STDOUT_FILENO};
 use refusal::Refusal;
 
 // One byte more than the longest text: a longer input is read as longer, and so refused.
 const ROOM: usize = bind_text::MAX_INPUT + 1;
 
-fn main() {
-    if os::arg_count() > 1 {
-        help();
+fn main(rt: HostRuntime) {
+    if streams::has_arguments(&rt) {
+        help(&rt);
         return;
     }
     let mut text = [0u8; ROOM];
     let mut album = [0u8; refusal::MAX_BYTES];
-    let n = io::read_full(STDIN_FILENO, &mut text);
+    let n = streams::read_full(&mut rt.stdin(), &mut text);
     match bind_text::bind_over(0, &text[..n], &mut album) {
-        Written::Done(k) => deliver(&album[..k]),
-        Written::Refused(why) => refuse(why),
+        Written::Done(k) => deliver(&rt, &album[..k]),
+        Written::Refused(why) => refuse(&rt, why),
     }
 }
 
 // Writes the album, or says that it cannot be written.
-fn deliver(album: &[u8]) {
-    if !io::write_all(STDOUT_FILENO, album) {
-        io::write_all(STDERR_FILENO, b"bind: standard output cannot be written\n");
+fn deliver(rt: &(impl Print + Eprint), album: &[u8]) {
+    if rt.write_all(album).is_err() {
+        let _ = eprintln!(rt; "bind: standard output cannot be written");
     }
 }
 
 // Says what the text is refused with: `refused` and the number.
-fn refuse(why: Refusal) {
+fn refuse(rt: &impl Eprint, why: Refusal) {
     let n = refusal::number_of(why);
-    let digits = [b'0' + n / 10, b'0' + n % 10, b'\n'];
-    io::write_all(STDERR_FILENO, b"refused ");
-    if n < 10 {
-        io::write_all(STDERR_FILENO, &digits[1..]);
-    } else {
-        io::write_all(STDERR_FILENO, &digits);
-    }
+    let _ = eprintln!(rt; "refused {n}");
 }
 
 // Says how the program is run.
-fn help() {
-    io::write_all(
-        STDERR_FILENO,
-        b"bind <TEXT >FILE writes the album of the lists in TEXT: a list on each line, its words in decimal, spaces between them.\n",
+fn help(rt: &impl Eprint) {
+    let _ = eprintln!(rt;
+        "bind <TEXT >FILE writes the album of the lists in TEXT: a list on each line, its words in decimal, spaces between them."
     );
-    io::write_all(
-        STDERR_FILENO,
-        b"A text that is no album writes nothing but one line here, `refused` and a number: docs/FORMAT.md says what each means.\n",
+    let _ = eprintln!(rt;
+        "A text that is no album writes nothing but one line here, `refused` and a number: docs/FORMAT.md says what each means."
     );
-    io::write_all(
-        STDERR_FILENO,
-        b"bind takes no arguments and reads at most 262,145 bytes of standard input.\n",
+    let _ = eprintln!(rt;
+        "bind takes no arguments and reads at most 262,145 bytes of standard input."
     );
 }

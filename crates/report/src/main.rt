@@ -2,47 +2,40 @@
 // run. Messages go to standard error, so that nothing but a report is on standard output.
 #![tactic(auto)]
 
-use libc::{STDERR_FILENO, STDIN_FILENO, STDOUT_FILENO};
 use report_text::Text;
 
 // One byte more than the largest album has: a longer input is read as longer, and so refused.
 const ROOM: usize = refusal::MAX_BYTES + 1;
 
-fn main() {
-    if os::arg_count() > 1 {
-        help();
+fn main(rt: HostRuntime) {
+    if streams::has_arguments(&rt) {
+        help(&rt);
         return;
     }
     let mut album = [0u8; ROOM];
     let mut text = [0u8; report_text::MAX_TEXT];
-    let n = io::read_full(STDIN_FILENO, &mut album);
+    let n = streams::read_full(&mut rt.stdin(), &mut album);
     if let Text::Done(k) = report_text::report_over(0, &album[..n], &mut text) {
-        deliver(&text[..k]);
+        deliver(&rt, &text[..k]);
     }
 }
 
 // Writes the report, or says that it cannot be written.
-fn deliver(report: &[u8]) {
-    if !io::write_all(STDOUT_FILENO, report) {
-        io::write_all(
-            STDERR_FILENO,
-            b"report: standard output cannot be written\n",
-        );
+fn deliver(rt: &(impl Print + Eprint), report: &[u8]) {
+    if rt.write_all(report).is_err() {
+        let _ = eprintln!(rt; "report: standard output cannot be written");
     }
 }
 
 // Says how the program is run.
-fn help() {
-    io::write_all(
-        STDERR_FILENO,
-        b"report <FILE prints the report on the album FILE: its lists, and their greatest common divisor.\n",
+fn help(rt: &impl Eprint) {
+    let _ = eprintln!(rt;
+        "report <FILE prints the report on the album FILE: its lists, and their greatest common divisor."
     );
-    io::write_all(
-        STDERR_FILENO,
-        b"A broken album prints one line, `refused` and a number: docs/FORMAT.md says what each means.\n",
+    let _ = eprintln!(rt;
+        "A broken album prints one line, `refused` and a number: docs/FORMAT.md says what each means."
     );
-    io::write_all(
-        STDERR_FILENO,
-        b"report takes no arguments and reads at most 32,834 bytes of standard input.\n",
+    let _ = eprintln!(rt;
+        "report takes no arguments and reads at most 32,834 bytes of standard input."
     );
 }

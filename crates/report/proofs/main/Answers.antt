@@ -1,0 +1,11 @@
+-- `report::main` is safe: the text lies in its array.
+-- Assumes nothing.
+use Rattle.std.proofs.Common.{sym, length-take-le}
+use Rattle.report_text.proofs.Whole.{text-inside}
+use Rattle.report.proofs.main.Goals as goal
+
+pub slice_bounds-text-end : goal.slice_bounds-text-end
+slice_bounds-text-end c = text-inside _ _ c.in-Done.is c.report_over.ensures.answer c.report_over.ensures.writes
+
+pub slice_bounds-deliver-end : goal.slice_bounds-deliver-end
+slice_bounds-deliver-end c = sym (length-take-le _ _ (text-inside _ _ c.in-Done.is c.report_over.ensures.answer c.report_over.ensures.writes))

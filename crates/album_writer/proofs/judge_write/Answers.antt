@@ -4,6 +4,7 @@ use mathlib.Core.Path.{◌≡◌, sym, ◌∙◌}
 use mathlib.Core.Bool.{not, false}
 use mathlib.Core.List.{List}
 use Prim.Native.Nat.{ℕ}
+use native.Mathlib.Omega.{arith}
 use lib.Dec.{eqb, ltb}
 use lib.ListN.{length}
 use borrow.Author.Tests.{eq-eqb, ne_eqb, lt-ltb, le-ltb}
@@ -75,7 +76,7 @@ returns-then-out-lt-MAX_BYTES c =
     let low = sym c.has_high.ensures ∙ c.if-has_high.false in
     let size = c.if-words-words_for.false ∙ c.words_for.ensures in
     let tight = sym c.has_loose.ensures ∙ c.if-has_loose.false in
-    sym (summed c.args.field _ _ _ count low size ∙ simp (tight, lt-ltb _ _ c.if-out-lt-MAX_BYTES.true))
+    sym (summed c.args.field _ _ _ count low size ∙ simp (tight, lt-ltb (length c.args.out.now) maxBytes (omega arith)))
 
 pub returns : goal.returns
 returns c =
@@ -83,4 +84,4 @@ returns c =
     let low = sym c.has_high.ensures ∙ c.if-has_high.false in
     let size = c.if-words-words_for.false ∙ c.words_for.ensures in
     let tight = sym c.has_loose.ensures ∙ c.if-has_loose.false in
-    sym (summed c.args.field _ _ _ count low size ∙ simp (tight, le-ltb _ _ c.if-out-lt-MAX_BYTES.false))
+    sym (summed c.args.field _ _ _ count low size ∙ simp (tight, le-ltb (length c.args.out.now) maxBytes (omega arith)))

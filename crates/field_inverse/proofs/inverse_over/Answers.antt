@@ -21,7 +21,7 @@ pub returns-then-b-eq0 : goal.returns-then-b-eq0
 returns-then-b-eq0 c =
     let is_inverse : c.find-b.result ≡ inverse_of (field_at c.args.field) c.args.a = c.find-b.ensures in
     let a = c.args in
-    answer_and_inverts (absurd (not-zero (field_at _) (p-at _) a.a (omega arith) (omega arith) is_inverse c.if-b-eq0.true))
+    answer_and_inverts (absurd (not-zero (field_at _) (p-at _) a.a (omega arith) (omega arith) is_inverse (omega arith)))
 
 pub returns : goal.returns
 returns c =

@@ -1,4 +1,6 @@
 -- `line_values::judge` meets its contract: the tests stand in the stated order.
+--     laid, fine     the layout, and the line, are not refused
+--     has            what the search said, of the line's operands
 -- Assumes nothing.
 use mathlib.Core.Path.{◌≡◌, sym, ◌∙◌, ap}
 use native.Mathlib.Omega.{arith}
@@ -21,7 +23,8 @@ pub returns-in_default-read : goal.returns-in_default-read
 returns-in_default-read c =
     let laid : lowest (layout_refusals c.args.album.now) ≡ Done = sym c.judge_layout.ensures ∙ c.in_default.is in
     let e = c.in_default-read.is in
-    let found = read_found c.args.line.now c.args.code.now c.requires (rw e at c.read_line-read.ensures.refusal) in result_value_and_program_of (rw e (judged-line _ _ _ _ _ laid (sym found), tt))
+    let found = read_found c.args.line.now c.args.code.now c.requires (rw e at c.read_line-read.ensures.refusal) in
+    result_value_and_program_of (rw e (judged-line _ _ _ _ _ laid (sym found), tt))
 
 pub slice_bounds-lacks_list-end : goal.slice_bounds-lacks_list-end
 slice_bounds-lacks_list-end c =
@@ -37,33 +40,37 @@ pub returns-then-lacks_list : goal.returns-then-lacks_list
 returns-then-lacks_list c =
     let program = rw c.in-Program.is at c.read_line-read.ensures.program in
     let laid : lowest (layout_refusals c.args.album.now) ≡ Done = sym c.judge_layout.ensures ∙ c.in_default.is in
-    let fine : lowest (line_refusals c.args.line.now) ≡ Done = sym (read_found c.args.line.now c.args.code.now c.requires c.read_line-read.ensures.refusal)
-    ∙ ap judged_outcome c.in-Program.is in
-    record { result_value = judged-index _ _ _ _ _ laid fine (lacks-found c.args.album.now c.args.line.now _ program c.byte_at.ensures.0 c.lacks_list.ensures c.if-lacks_list.true); program_of = tt }
+    let fine : lowest (line_refusals c.args.line.now) ≡ Done =
+    sym (read_found c.args.line.now c.args.code.now c.requires c.read_line-read.ensures.refusal) ∙ ap judged_outcome c.in-Program.is in
+    let has = lacks-found c.args.album.now c.args.line.now _ program c.byte_at.ensures.0 c.lacks_list.ensures c.if-lacks_list.true in
+    record { result_value = judged-index _ _ _ _ _ laid fine has; program_of = tt }
 
 pub returns-in-Refused-judge_album : goal.returns-in-Refused-judge_album
 returns-in-Refused-judge_album c =
     let program = rw c.in-Program.is at c.read_line-read.ensures.program in
     let laid : lowest (layout_refusals c.args.album.now) ≡ Done = sym c.judge_layout.ensures ∙ c.in_default.is in
-    let fine : lowest (line_refusals c.args.line.now) ≡ Done = sym (read_found c.args.line.now c.args.code.now c.requires c.read_line-read.ensures.refusal)
-    ∙ ap judged_outcome c.in-Program.is in
-    let refused = sym c.judge_album.ensures ∙ c.in-Refused-judge_album.is in record { result_value = judged-album _ _ _ _ _ laid fine (lacks-found c.args.album.now c.args.line.now _ program c.byte_at.ensures.0 c.lacks_list.ensures c.if-lacks_list.false) refused; program_of = tt }
+    let fine : lowest (line_refusals c.args.line.now) ≡ Done =
+    sym (read_found c.args.line.now c.args.code.now c.requires c.read_line-read.ensures.refusal) ∙ ap judged_outcome c.in-Program.is in
+    let refused = sym c.judge_album.ensures ∙ c.in-Refused-judge_album.is in
+    let has = lacks-found c.args.album.now c.args.line.now _ program c.byte_at.ensures.0 c.lacks_list.ensures c.if-lacks_list.false in
+    record { result_value = judged-album _ _ _ _ _ laid fine has refused; program_of = tt }
 
 pub returns-then-out-longest_of : goal.returns-then-out-longest_of
 returns-then-out-longest_of c =
     let program = rw c.in-Program.is at c.read_line-read.ensures.program in
     let laid : lowest (layout_refusals c.args.album.now) ≡ Done = sym c.judge_layout.ensures ∙ c.in_default.is in
-    let fine : lowest (line_refusals c.args.line.now) ≡ Done = sym (read_found c.args.line.now c.args.code.now c.requires c.read_line-read.ensures.refusal)
-    ∙ ap judged_outcome c.in-Program.is in
+    let fine : lowest (line_refusals c.args.line.now) ≡ Done =
+    sym (read_found c.args.line.now c.args.code.now c.requires c.read_line-read.ensures.refusal) ∙ ap judged_outcome c.in-Program.is in
     let passed = sym c.judge_album.ensures ∙ c.in_default-judge_album.is in
-    let has = lacks-found c.args.album.now c.args.line.now _ program c.byte_at.ensures.0 c.lacks_list.ensures c.if-lacks_list.false in record { result_value = judged-misfit _ _ _ _ _ laid fine has passed (λ e. omega arith); program_of = tt }
+    let has = lacks-found c.args.album.now c.args.line.now _ program c.byte_at.ensures.0 c.lacks_list.ensures c.if-lacks_list.false in
+    record { result_value = judged-misfit _ _ _ _ _ laid fine has passed (λ e. omega arith); program_of = tt }
 
 pub returns : goal.returns
 returns c =
     let program = rw c.in-Program.is at c.read_line-read.ensures.program in
     let laid : lowest (layout_refusals c.args.album.now) ≡ Done = sym c.judge_layout.ensures ∙ c.in_default.is in
-    let fine : lowest (line_refusals c.args.line.now) ≡ Done = sym (read_found c.args.line.now c.args.code.now c.requires c.read_line-read.ensures.refusal)
-    ∙ ap judged_outcome c.in-Program.is in
+    let fine : lowest (line_refusals c.args.line.now) ≡ Done =
+    sym (read_found c.args.line.now c.args.code.now c.requires c.read_line-read.ensures.refusal) ∙ ap judged_outcome c.in-Program.is in
     let passed = sym c.judge_album.ensures ∙ c.in_default-judge_album.is in
     let has = lacks-found c.args.album.now c.args.line.now _ program c.byte_at.ensures.0 c.lacks_list.ensures c.if-lacks_list.false in
     record { result_value = judged-done _ _ _ _ _ laid fine has passed (omega arith); program_of = program }

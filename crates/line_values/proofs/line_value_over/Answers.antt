@@ -19,7 +19,9 @@ value_into-requires c =
     accepted-runs c.args.album.now c.args.line.now _ program c.args.field c.args.out.now (rw c.in-Program.is at c.judge.ensures.result_value)
 
 pub returns-in-Program : goal.returns-in-Program
-returns-in-Program c = let program = rw c.in-Program.is at c.judge.ensures.program_of in answer_and_writes (answered c.args.album.now c.args.line.now _ program c.args.field c.args.out.now (rw c.in-Program.is at c.judge.ensures.result_value) c.value_into.ensures)
+returns-in-Program c =
+    let program = rw c.in-Program.is at c.judge.ensures.program_of in
+    answer_and_writes (answered c.args.album.now c.args.line.now _ program c.args.field c.args.out.now (rw c.in-Program.is at c.judge.ensures.result_value) c.value_into.ensures)
 
 pub returns-in-Refused : goal.returns-in-Refused
 returns-in-Refused c = answer_and_writes (refused-early c.args.field c.args.album.now c.args.line.now c.args.out.now (rw c.in-Refused.is at c.judge.ensures.result_value))

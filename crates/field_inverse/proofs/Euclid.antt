@@ -13,7 +13,7 @@ use Prim.Native.Nat.{ℕ, ◌+◌, ◌*◌, ◌/◌, ◌%◌, ◌≤◌, ◌<◌
 use native.Mathlib.Nat.{mul-le-mul_right, mul-le-mul_left, div-add-mod', mod-lt}
 use native.Mathlib.Decide.{dec_lt}
 use native.Mathlib.Omega.{arith}
-use lib.IntN.{pos, neg_ℤ, ◌-ℤ◌, ◌*ℤ◌}
+use lib.IntN.{ℤ, pos, neg_ℤ, ◌-ℤ◌, ◌*ℤ◌}
 use mir.Syntax.{w32}
 use mir.Val.{to_z, of_z, SFits}
 use Rattle.field_inverse.proofs.Signed.{fits-pos, fits_neg, times-neg, neg-less, pos-less, Less, less}
@@ -43,40 +43,40 @@ module _ (p : ℕ) where
     pub whole : r0 * m1 + r1 * m0 ≡ p
     pub order : m0 ≤ m1
 
-  pub record Up (a r0 r1 t0 t1 : ℕ) : Type 0 where
+  pub record Up (a r0 r1 : ℕ) (t0 t1 : ℤ) : Type 0 where
     pub m0 : ℕ
     pub m1 : ℕ
     pub k0 : ℕ
     pub k1 : ℕ
-    pub sign0 : to_z w32 t0 ≡ neg_ℤ (pos m0)
-    pub sign1 : to_z w32 t1 ≡ pos m1
+    pub sign0 : t0 ≡ neg_ℤ (pos m0)
+    pub sign1 : t1 ≡ pos m1
     pub common : Common r0 r1 m0 m1
     pub left : r0 + m0 * a ≡ k0 * p
     pub right : r1 + k1 * p ≡ m1 * a
 
-  pub record Down (a r0 r1 t0 t1 : ℕ) : Type 0 where
+  pub record Down (a r0 r1 : ℕ) (t0 t1 : ℤ) : Type 0 where
     pub m0 : ℕ
     pub m1 : ℕ
     pub k0 : ℕ
     pub k1 : ℕ
-    pub sign0 : to_z w32 t0 ≡ pos m0
-    pub sign1 : to_z w32 t1 ≡ neg_ℤ (pos m1)
+    pub sign0 : t0 ≡ pos m0
+    pub sign1 : t1 ≡ neg_ℤ (pos m1)
     pub common : Common r0 r1 m0 m1
     pub left : r0 + k0 * p ≡ m0 * a
     pub right : r1 + m1 * a ≡ k1 * p
 
-  abbrev pub Steps : ℕ → ℕ → ℕ → ℕ → ℕ → Type 0
+  abbrev pub Steps : ℕ → ℕ → ℕ → ℤ → ℤ → Type 0
   Steps a r0 r1 t0 t1 = Up a r0 r1 t0 t1 ⊎ Down a r0 r1 t0 t1
 
-  pub falling : {a r0 r1 t0 t1 : ℕ} → Steps a r0 r1 t0 t1 → r1 < r0
+  pub falling : {a r0 r1 : ℕ} {t0 t1 : ℤ} → Steps a r0 r1 t0 t1 → r1 < r0
   falling (inl u) = u.common.falls
   falling (inr u) = u.common.falls
 
-  pub second-low : {a r0 r1 t0 t1 : ℕ} → Steps a r0 r1 t0 t1 → r1 < p
+  pub second-low : {a r0 r1 : ℕ} {t0 t1 : ℤ} → Steps a r0 r1 t0 t1 → r1 < p
   second-low (inl u) = omega (arith, u.common.falls, u.common.top)
   second-low (inr u) = omega (arith, u.common.falls, u.common.top)
 
-  pub started : (a : ℕ) → 0 < a → a < p → Steps a p a 0 1
+  pub started : (a : ℕ) → 0 < a → a < p → Steps a p a (pos 0) (pos 1)
   started a h l =
       inl (record {
         m0 = 0;
@@ -110,13 +110,13 @@ module _ (p : ℕ) where
     q-bound = omega (arith, mul-le-mul_left q one, d.sum, s.top)
 
   -- what a turn of the loop asks and keeps
-  pub record Stepped (a r1 q r2 t0 t1 : ℕ) : Type 0 where
+  pub record Stepped (a r1 q r2 : ℕ) (t0 t1 : ℤ) : Type 0 where
     pub cast : SFits w32 (pos q)
-    pub mul : SFits w32 (to_z w32 q *ℤ to_z w32 t1)
-    pub sub : SFits w32 (to_z w32 t0 -ℤ to_z w32 (of_z w32 (to_z w32 q *ℤ to_z w32 t1)))
-    pub again : Steps a r1 r2 t1 (of_z w32 (to_z w32 t0 -ℤ to_z w32 (of_z w32 (to_z w32 q *ℤ to_z w32 t1))))
+    pub mul : SFits w32 (to_z w32 q *ℤ t1)
+    pub sub : SFits w32 (t0 -ℤ to_z w32 (of_z w32 (to_z w32 q *ℤ t1)))
+    pub again : Steps a r1 r2 t1 (to_z w32 (of_z w32 (t0 -ℤ to_z w32 (of_z w32 (to_z w32 q *ℤ t1)))))
 
-  pub stepped : p ≤ 65536 → (a r0 r1 q r2 t0 t1 : ℕ) → Divided r0 r1 q r2 → Steps a r0 r1 t0 t1 → Stepped a r1 q r2 t0 t1
+  pub stepped : p ≤ 65536 → (a r0 r1 q r2 : ℕ) (t0 t1 : ℤ) → Divided r0 r1 q r2 → Steps a r0 r1 t0 t1 → Stepped a r1 q r2 t0 t1
   stepped fit a r0 r1 q r2 t0 t1 d (inl u) =
       let sizes : Common r0 r1 u.m0 u.m1 = u.common in
       let low-size : u.m0 + q * u.m1 ≤ p = bound q r2 d sizes in

@@ -10,8 +10,6 @@ use Prim.Native.Nat.{ℕ, zero, suc, ◌+◌, ◌*◌, ◌-◌, ◌/◌, ◌%◌
 use native.Mathlib.Nat.{zero-mod, mul-le-mul_right, mul-le-mul_left, div-add-mod', mod-lt, mod-eq_of_lt, dvd-mul_right, add-mul-mod_self_right}
 use native.Mathlib.Omega.{arith}
 use lib.IntN.{ℤ, pos, neg_ℤ, nat_abs}
-use mir.Syntax.{w32}
-use mir.Val.{to_z}
 use Rattle.algebra.specs.Prime.{Prime}
 use Rattle.field_inverse.specs.Internal.{residue_of, Leaves}
 use Rattle.field_inverse.proofs.Euclid.{Common, Steps}
@@ -52,12 +50,12 @@ some_size p prime (suc m1) s = omega arith
 
 module _ (p : ℕ) (prime : Prime p) where
   -- where the second remainder is 0, the first is 1
-  last-is-one : (a r0 t0 t1 : ℕ) → Steps p a r0 0 t0 t1 → r0 ≡ 1
+  last-is-one : (a r0 : ℕ) (t0 t1 : ℤ) → Steps p a r0 0 t0 t1 → r0 ≡ 1
   last-is-one a r0 t0 t1 (inl u) = divisor p prime r0 u.m1 (omega (arith, u.common.whole)) (omega (arith, u.common.more))
   last-is-one a r0 t0 t1 (inr u) = divisor p prime r0 u.m1 (omega (arith, u.common.whole)) (omega (arith, u.common.more))
 
   -- so a remainder after one above 1 is not 0
-  pub some_left : (a r0 r1 t0 t1 : ℕ) → 1 < r0 → Steps p a r0 r1 t0 t1 → 0 < r1
+  pub some_left : (a r0 r1 : ℕ) (t0 t1 : ℤ) → 1 < r0 → Steps p a r0 r1 t0 t1 → 0 < r1
   some_left a r0 zero t0 t1 h s = absurd (omega (arith, last-is-one a r0 t0 t1 s))
   some_left a r0 (suc r1) t0 t1 h s = omega arith
 
@@ -99,20 +97,20 @@ module _ (p : ℕ) (prime : Prime p) where
     of_negative zero h = absurd (omega arith)
     of_negative (suc m) h = refl
 
-    pub record Ended (t1 : ℕ) : Type 0 where
-      pub size : nat_abs (to_z w32 t1) ≤ p
-      pub leaves : Leaves p a r (residue_of p (to_z w32 t1))
+    pub record Ended (t1 : ℤ) : Type 0 where
+      pub size : nat_abs t1 ≤ p
+      pub leaves : Leaves p a r (residue_of p t1)
 
-    pub ended : (r0 t0 t1 : ℕ) → Steps p a r0 r t0 t1 → Ended t1
+    pub ended : (r0 : ℕ) (t0 t1 : ℤ) → Steps p a r0 r t0 t1 → Ended t1
     unfolding residue_of
     ended r0 t0 t1 (inl u) =
-        let sign : to_z w32 t1 ≡ pos u.m1 = u.sign1 in
+        let sign : t1 ≡ pos u.m1 = u.sign1 in
         record {
           size = subst (λ (z : ℤ). nat_abs z ≤ p) (sym sign) (small p u.common);
           leaves = subst (λ (z : ℤ). Leaves p a r (residue_of p z)) (sym sign) (above u.m1 u.k1 u.right);
         }
     ended r0 t0 t1 (inr u) =
-        let sign : to_z w32 t1 ≡ neg_ℤ (pos u.m1) = u.sign1 in
+        let sign : t1 ≡ neg_ℤ (pos u.m1) = u.sign1 in
         let more : 0 < u.m1 = some_size p prime u.m1 u.common in
         record {
           size = subst (λ (z : ℤ). nat_abs z ≤ p) (sym sign) (size-neg u.m1 (small p u.common));

@@ -40,16 +40,16 @@ pub pos-less : (m k : ℕ) → pos m -ℤ neg_ℤ (pos k) ≡ pos (m + k)
 pos-less m k = ap (λ (z : ℤ). pos m +ℤ z) (neg_ℤ-neg_ℤ (pos k))
 
 -- the machine's t0 - q * t1: each operation fits, and what comes out
-pub record Less (q t0 t1 : ℕ) (z : ℤ) : Type 0 where
-  pub mul : SFits w32 (to_z w32 q *ℤ to_z w32 t1)
-  pub sub : SFits w32 (to_z w32 t0 -ℤ to_z w32 (of_z w32 (to_z w32 q *ℤ to_z w32 t1)))
-  pub out : to_z w32 (of_z w32 (to_z w32 t0 -ℤ to_z w32 (of_z w32 (to_z w32 q *ℤ to_z w32 t1)))) ≡ z
+pub record Less (q : ℕ) (t0 t1 z : ℤ) : Type 0 where
+  pub mul : SFits w32 (to_z w32 q *ℤ t1)
+  pub sub : SFits w32 (t0 -ℤ to_z w32 (of_z w32 (to_z w32 q *ℤ t1)))
+  pub out : to_z w32 (of_z w32 (t0 -ℤ to_z w32 (of_z w32 (to_z w32 q *ℤ t1)))) ≡ z
 
 pub less :
-    (q t0 t1 : ℕ) {z0 z1 zp z : ℤ}
+    (q : ℕ) (t0 t1 : ℤ) {z0 z1 zp z : ℤ}
     → q ≤ 65536
-    → to_z w32 t0 ≡ z0
-    → to_z w32 t1 ≡ z1
+    → t0 ≡ z0
+    → t1 ≡ z1
     → pos q *ℤ z1 ≡ zp
     → SFits w32 zp
     → z0 -ℤ zp ≡ z
@@ -57,19 +57,19 @@ pub less :
     → Less q t0 t1 z
 less q t0 t1 {z0} {z1} {zp} {z} hq e0 e1 ep fp es fs = record { mul = mul; sub = sub; out = to_z-of_z w32 _ sub ∙ diff }
   where
-    prod : to_z w32 q *ℤ to_z w32 t1 ≡ zp
-    prod = ap (λ (x : ℤ). x *ℤ to_z w32 t1) (to_z_pos w32 q (omega arith)) ∙ ap (λ (x : ℤ). pos q *ℤ x) e1 ∙ ep
+    prod : to_z w32 q *ℤ t1 ≡ zp
+    prod = ap (λ (x : ℤ). x *ℤ t1) (to_z_pos w32 q (omega arith)) ∙ ap (λ (x : ℤ). pos q *ℤ x) e1 ∙ ep
 
-    mul : SFits w32 (to_z w32 q *ℤ to_z w32 t1)
+    mul : SFits w32 (to_z w32 q *ℤ t1)
     mul = subst (λ (x : ℤ). SFits w32 x) (sym prod) fp
 
-    diff : to_z w32 t0 -ℤ to_z w32 (of_z w32 (to_z w32 q *ℤ to_z w32 t1)) ≡ z
+    diff : t0 -ℤ to_z w32 (of_z w32 (to_z w32 q *ℤ t1)) ≡ z
     diff =
-        ap (λ (x : ℤ). x -ℤ to_z w32 (of_z w32 (to_z w32 q *ℤ to_z w32 t1))) e0
-        ∙ ap (λ (x : ℤ). z0 -ℤ x) (to_z-of_z w32 (to_z w32 q *ℤ to_z w32 t1) mul ∙ prod)
+        ap (λ (x : ℤ). x -ℤ to_z w32 (of_z w32 (to_z w32 q *ℤ t1))) e0
+        ∙ ap (λ (x : ℤ). z0 -ℤ x) (to_z-of_z w32 (to_z w32 q *ℤ t1) mul ∙ prod)
         ∙ es
 
-    sub : SFits w32 (to_z w32 t0 -ℤ to_z w32 (of_z w32 (to_z w32 q *ℤ to_z w32 t1)))
+    sub : SFits w32 (t0 -ℤ to_z w32 (of_z w32 (to_z w32 q *ℤ t1)))
     sub = subst (λ (x : ℤ). SFits w32 x) (sym diff) fs
 
 -- A negative integer, negated.

@@ -13,8 +13,6 @@ use native.Mathlib.Numerals.{add-one}
 use native.Mathlib.Omega.{arith}
 use lib.ListN.{length, take, set}
 use lib.Seq.{take-suc-set}
-use types.Run.{OneOf, miss}
-use denote.Enum.Declared.{tag_of}
 use Rattle.lines.specs.declared.Token.{Token}
 use Rattle.lines.specs.declared.Token.TheVariants.{Number, Plus, Minus, Times, Derive, Open, Close, Wrong}
 use Rattle.lines.specs.declared.Sign.TheVariants.{Operator}
@@ -27,7 +25,6 @@ use Rattle.lines.proofs.Readings.{step-number, step-derive, step-open, step-clos
 use Rattle.lines.specs.Program.{add_byte, subtract_byte, multiply_byte, derive_byte, postfix}
 use Rattle.lines.specs.Internal.{ends_term, ends_sum, rest_of, Follows, SumSign, Past, Room, Got, PastFactor, PastProducts, PastTerm}
 use Rattle.lines.specs.Internal.{PastSums, PastExpression}
-use Rattle.lines.specs.contracts.Token as token
 
 -- where a factor, a term and an expression are wanted
 abbrev at_term : TermPlace → FactorPlace
@@ -99,31 +96,24 @@ module _ (line : List ℕ) (at after : ℕ) (old : List ℕ) (n : ℕ) (new : Li
         program = g.program;
       }
 
--- the tags of the tokens with which no factor begins
-abbrev begins_none : List ℕ
-begins_none = 1 ∷ 2 ∷ 3 ∷ 6 ∷ 7 ∷ []
-
-pub none-begins : (t : Token) → OneOf begins_none (tag_of token.the_type t) → (ts : List Token) (k : FactorPlace)
+-- a token with which no factor begins
+pub none-begins : (t : Token) → ((n : ℕ) → t ≡ Number n → ⊥) → (t ≡ Derive → ⊥) → (t ≡ Open → ⊥) → (ts : List Token) (k : FactorPlace)
     → want (t ∷ ts) k ≡ outside
 unfolding want
-none-begins (Number n) o ts k = absurd (miss begins_none 0 tt o)
-none-begins Plus o ts k = refl
-none-begins Minus o ts k = refl
-none-begins Times o ts k = refl
-none-begins Derive o ts k = absurd (miss begins_none 4 tt o)
-none-begins Open o ts k = absurd (miss begins_none 5 tt o)
-none-begins Close o ts k = refl
-none-begins Wrong o ts k = refl
+none-begins (Number n) a b o ts k = absurd (a n refl)
+none-begins Plus a b o ts k = refl
+none-begins Minus a b o ts k = refl
+none-begins Times a b o ts k = refl
+none-begins Derive a b o ts k = absurd (b refl)
+none-begins Open a b o ts k = absurd (o refl)
+none-begins Close a b o ts k = refl
+none-begins Wrong a b o ts k = refl
 
 pub none_left : (k : FactorPlace) → want [] k ≡ outside
 unfolding want
 none_left k = refl
 
--- the tags of all tokens but the closing parenthesis
-abbrev closes_none : List ℕ
-closes_none = 0 ∷ 1 ∷ 2 ∷ 3 ∷ 4 ∷ 5 ∷ 7 ∷ []
-
-none-closes : (t : Token) → OneOf closes_none (tag_of token.the_type t) → (ts : List Token)
+none-closes : (t : Token) → (t ≡ Close → ⊥) → (ts : List Token)
     → ends_sum (t ∷ ts) ≡ true → (e : Tree) (k : FactorPlace) → have (t ∷ ts) e k ≡ outside
 unfolding want
 none-closes (Number n) o ts h e k = refl
@@ -132,7 +122,7 @@ none-closes Minus o ts h e k = no-term h
 none-closes Times o ts h e k = no-term h
 none-closes Derive o ts h e k = refl
 none-closes Open o ts h e k = refl
-none-closes Close o ts h e k = absurd (miss closes_none 6 tt o)
+none-closes Close o ts h e k = absurd (o refl)
 none-closes Wrong o ts h e k = refl
 
 never-closed : (e : Tree) (k : FactorPlace) → have [] e (at_sum (inside k)) ≡ outside
@@ -156,7 +146,7 @@ module _ (line : List ℕ) (at after : ℕ) where
     pub group-ends : rest_of line end ≡ [] → (k : FactorPlace) → want (rest_of line at) k ≡ outside
     group-ends e k = grouped k ∙ ap (λ (l : List Token). have l g.tree (at_sum (inside k))) e ∙ never-closed g.tree k
 
-    pub group-open : (t : Token) (beyond : ℕ) → Follows line end t beyond → OneOf closes_none (tag_of token.the_type t)
+    pub group-open : (t : Token) (beyond : ℕ) → Follows line end t beyond → (t ≡ Close → ⊥)
         → (k : FactorPlace) → want (rest_of line at) k ≡ outside
     group-open t beyond l o k =
         grouped k

@@ -1,0 +1,81 @@
+-- `album_writer::write_album_over` meets its contract: where the judge refuses nothing, the parts are written to as many bytes as they take.
+-- Assumes nothing.
+use mathlib.Core.Path.{sym, ◌∙◌, ap, ap₂}
+use mathlib.Core.List.{List, [], ◌∷◌, ◌++◌}
+use Prim.Native.Nat.{ℕ, ◌*◌, ◌≤◌}
+use native.Mathlib.Omega.{arith}
+use lib.ListN.{length, drop, length-take}
+use Rattle.refusal.specs.Limits.{max_lists, max_words}
+use Rattle.refusal.specs.Refusal.{reply}
+use Rattle.refusal.specs.declared.Outcome.TheVariants.{Done}
+use Rattle.refusal.proofs.Answers.{result, kept}
+use Rattle.field.specs.Fields.{modulus}
+use Rattle.album_layout.specs.Written.{album_of}
+use Rattle.album_writer.specs.Cut.{cut_by}
+use Rattle.album_writer.specs.Calls.{over_front}
+use Rattle.album_writer.proofs.Cut.{few_words}
+use Rattle.album_writer.proofs.Album.{length-album_by, album-is}
+use Rattle.album_writer.proofs.Judged.{Taken, taken}
+use Rattle.album_writer.proofs.write_album_over.Goals as goal
+
+-- the words of all lists are no more than those of as many lists of the longest length as there may be
+few : {p : ℕ} {words degrees out : List ℕ} → Taken p words degrees out → length words ≤ max_lists * max_words
+few {p} {words} {degrees} {out} t = omega (arith, t.few, t.size, few_words degrees t.low)
+
+pub overflow_mul-size : goal.overflow_mul-size
+overflow_mul-size c =
+    let t = taken (modulus c.args.field) c.args.words.now c.args.degrees.now c.args.out.now (sym c.judge_write.ensures ∙ c.in-Done.is) in
+    omega (arith, t.few)
+
+pub overflow_add-size : goal.overflow_add-size
+overflow_add-size c =
+    let t = taken (modulus c.args.field) c.args.words.now c.args.degrees.now c.args.out.now (sym c.judge_write.ensures ∙ c.in-Done.is) in
+    omega (arith, t.few)
+
+pub overflow_mul-size-in-Done : goal.overflow_mul-size-in-Done
+overflow_mul-size-in-Done c =
+    let t = taken (modulus c.args.field) c.args.words.now c.args.degrees.now c.args.out.now (sym c.judge_write.ensures ∙ c.in-Done.is) in
+    omega (arith, few t)
+
+pub overflow_add-size-in-Done : goal.overflow_add-size-in-Done
+overflow_add-size-in-Done c =
+    let t = taken (modulus c.args.field) c.args.words.now c.args.degrees.now c.args.out.now (sym c.judge_write.ensures ∙ c.in-Done.is) in
+    omega (arith, few t, t.few)
+
+pub slice_bounds-write_parts-end : goal.slice_bounds-write_parts-end
+slice_bounds-write_parts-end c =
+    let t = taken (modulus c.args.field) c.args.words.now c.args.degrees.now c.args.out.now (sym c.judge_write.ensures ∙ c.in-Done.is) in
+    omega (arith, few t, t.few, t.room)
+
+pub slice_bounds-write_parts-end-in-Done : goal.slice_bounds-write_parts-end-in-Done
+slice_bounds-write_parts-end-in-Done c =
+    let t = taken (modulus c.args.field) c.args.words.now c.args.degrees.now c.args.out.now (sym c.judge_write.ensures ∙ c.in-Done.is) in
+    simp length-take (omega (arith, few t, t.few, t.room))
+
+pub write_parts-requires : goal.write_parts-requires
+write_parts-requires c =
+    let t = taken (modulus c.args.field) c.args.words.now c.args.degrees.now c.args.out.now (sym c.judge_write.ensures ∙ c.in-Done.is) in
+    record { few = t.few; low = t.low; short = few t; size = simp length-take (omega (arith, few t, t.few, t.room)) }
+
+pub returns-in-Done : goal.returns-in-Done
+returns-in-Done c =
+    let args = c.args in
+    let found = sym c.judge_write.ensures ∙ c.in-Done.is in
+    let t = taken (modulus args.field) args.words.now args.degrees.now args.out.now found in
+    let album = album_of (cut_by args.degrees.now args.words.now) in
+    let is = album-is args.degrees.now args.words.now t.size in
+    let size = sym (length-album_by args.words.now args.degrees.now) ∙ ap length is in
+    record {
+      answer = ap (λ n. reply Done (n ∷ [])) size ∙ sym (ap (λ o. reply o (length album ∷ [])) found);
+      writes = result (over_front album args.out.now) args.out.now found (ap₂ (λ l n. l ++ drop n args.out.now) (c.write_parts.ensures ∙ is) size);
+    }
+
+pub returns-in-Refused : goal.returns-in-Refused
+returns-in-Refused c =
+    let args = c.args in
+    let album = album_of (cut_by args.degrees.now args.words.now) in
+    let found = sym c.judge_write.ensures ∙ c.in-Refused.is in
+    record {
+      answer = sym (ap (λ o. reply o (length album ∷ [])) found);
+      writes = kept (over_front album args.out.now) args.out.now found;
+    }

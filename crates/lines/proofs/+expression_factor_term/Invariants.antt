@@ -1,0 +1,29 @@
+-- The measure of a call is 3 times the bytes left, and the rank of what is read: a factor 0, a term 1, an expression 2. It falls with every
+-- call: a call behind a token has fewer bytes left, and any other one reads what has a lower rank.
+-- The invariant of the loops: what has been read up to `here`.
+-- Assumes nothing.
+use Prim.Native.Nat.{◌+◌, ◌*◌, ◌-◌}
+use lib.ListN.{length}
+use Rattle.lines.specs.Internal.{Got, PastProducts, PastSums}
+use Rattle.lines.proofs.+expression_factor_term.Given as goal
+
+abbrev pub decreases-expression : goal.decreases-expression
+decreases-expression l = 3 * (length l.line.now - l.at) + 2
+
+abbrev pub decreases-factor : goal.decreases-factor
+decreases-factor l = 3 * (length l.line.now - l.at)
+
+abbrev pub decreases-term : goal.decreases-term
+decreases-term l = 3 * (length l.line.now - l.at) + 1
+
+abbrev pub invariant-expression-loop-operator : goal.invariant-expression-loop-operator
+invariant-expression-loop-operator l = Got PastSums l.line l.at l.fn.code l.n l.code l.here l.filled
+
+abbrev pub decreases-expression-loop-operator : goal.decreases-expression-loop-operator
+decreases-expression-loop-operator l = length l.line - l.here
+
+abbrev pub invariant-term-loop-operator : goal.invariant-term-loop-operator
+invariant-term-loop-operator l = Got PastProducts l.line l.at l.fn.code l.n l.code l.here l.filled
+
+abbrev pub decreases-term-loop-operator : goal.decreases-term-loop-operator
+decreases-term-loop-operator l = length l.line - l.here

@@ -1,0 +1,36 @@
+-- `list_gcd::gcd_over` meets its contract: what the judge finds decides, and the property follows from the definition.
+-- Assumes nothing.
+use mathlib.Core.Path.{◌≡◌, sym, ◌∙◌}
+use mathlib.Core.List.{List}
+use Prim.Native.Nat.{ℕ}
+use lib.ListN.{length}
+use Rattle.field.specs.Fields.{modulus, field_at, longest}
+use Rattle.field.proofs.Fields.{longest-in}
+use Rattle.refusal.specs.Lowest.{lowest}
+use Rattle.refusal.specs.declared.Outcome.TheVariants.{Done}
+use Rattle.list_gcd.specs.Calls.{gcd_rows}
+use Rattle.list_gcd.specs.Internal.{Ready}
+use Rattle.list_gcd.proofs.Ready.{gcd-ready}
+use Rattle.list_gcd.proofs.Finish.{refused, answered}
+use Rattle.list_gcd.proofs.gcd_over.Goals as goal
+
+ready_and_h_len : {A B : Type 0} → A × B → record { ready : A; h_len : B }
+ready_and_h_len (a, b) = record { ready = a; h_len = b }
+
+found-ready : (k : ℕ) (f g h : List ℕ) → lowest (gcd_rows (modulus k) (longest k) f g h) ≡ Done → Ready (field_at k) (longest k) f g × (length h ≡ longest k)
+unfolding field_at
+found-ready k f g h e = gcd-ready (field_at k) (longest k) (longest-in k) f g h e
+
+pub gcd_into-requires : goal.gcd_into-requires
+gcd_into-requires c = ready_and_h_len (found-ready _ _ _ _ (sym c.judge_gcd-answer.ensures ∙ c.in-Done.is))
+
+pub returns-in-Refused : goal.returns-in-Refused
+returns-in-Refused c =
+    let found = sym c.judge_gcd-answer.ensures ∙ c.in-Refused.is in
+    let all = refused (field_at _) _ c.args.f.now c.args.g.now c.args.h.now found in record { answer = all.0; writes = all.1; greatest = tt }
+
+pub returns-in-Done : goal.returns-in-Done
+returns-in-Done c =
+    let found = sym c.judge_gcd-answer.ensures ∙ c.in-Done.is in
+    let gcd = c.gcd_into.ensures in
+    let all = answered (field_at _) _ c.args.f.now c.args.g.now c.args.h.now found (found-ready _ _ _ _ found).0 gcd.value gcd.h_after in record { answer = all.0; writes = all.1; greatest = all.2 }

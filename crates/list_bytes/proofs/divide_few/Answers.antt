@@ -1,0 +1,40 @@
+-- `list_bytes::divide_few` meets its contract: it only lends the arrays.
+-- Assumes nothing.
+use mathlib.Core.Path.{refl, sym, ◌∙◌}
+use native.Mathlib.Omega.{arith}
+use Rattle.field_tables.specs.Factorials.{few_words}
+use Rattle.lists.specs.Bytes.{word_count}
+use Rattle.lists.proofs.Parts.{prefix-length}
+use Rattle.list_bytes.proofs.divide_few.Goals as goal
+
+pub slice_bounds-a-end : goal.slice_bounds-a-end
+unfolding word_count
+slice_bounds-a-end c = omega arith
+
+pub slice_bounds-divide_in-end : goal.slice_bounds-divide_in-end
+unfolding word_count
+slice_bounds-divide_in-end c = sym (prefix-length _ few_words _ refl (omega arith))
+
+pub slice_bounds-b-end : goal.slice_bounds-b-end
+unfolding word_count
+slice_bounds-b-end c = omega arith
+
+pub slice_bounds-divide_in-end-2 : goal.slice_bounds-divide_in-end-2
+unfolding word_count
+slice_bounds-divide_in-end-2 c = sym (prefix-length _ few_words _ refl (omega arith))
+
+pub slice_bounds-divide_in-end-3 : goal.slice_bounds-divide_in-end-3
+slice_bounds-divide_in-end-3 c = sym (prefix-length _ few_words _ refl (omega arith))
+
+pub slice_bounds-divide_in-end-4 : goal.slice_bounds-divide_in-end-4
+slice_bounds-divide_in-end-4 c = sym (prefix-length _ few_words _ refl (omega arith))
+
+pub divide_in-requires : goal.divide_in-requires
+unfolding word_count
+divide_in-requires c =
+    record { g_value = c.requires.g_value; a_len = (
+        prefix-length _ few_words _ refl (omega arith),
+        prefix-length _ few_words _ refl (omega arith),
+        prefix-length _ few_words _ refl (omega arith) ∙ c.requires.k_value.0,
+        prefix-length _ few_words _ refl (omega arith) ∙ c.requires.k_value.1,
+      ) }

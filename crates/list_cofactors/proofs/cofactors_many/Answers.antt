@@ -1,0 +1,51 @@
+-- `list_cofactors::cofactors_many` meets its contract: it lends tables and buffers of zeros for any lists.
+-- Assumes nothing.
+use mathlib.Core.Path.{refl, sym}
+use Prim.Native.Nat.{◌*◌}
+use native.Mathlib.Omega.{arith}
+use Rattle.refusal.specs.Limits.{max_words}
+use Rattle.field.specs.Fields.{field_at, longest}
+use Rattle.field.proofs.Fields.{longest-room}
+use Rattle.field_tables.specs.Factorials.{Tables}
+use Rattle.lists.proofs.Parts.{prefix-length}
+use Rattle.list_cofactors.proofs.Written.{buffers-lent}
+use Rattle.list_cofactors.proofs.cofactors_many.Goals as goal
+
+in_bounds_and_tables_and_ready_and_slices_and_zeros : {A B C D E : Type 0} → A × (B × (C × (D × E))) → record { in_bounds : A; tables : B; ready : C; slices : D; zeros : E }
+in_bounds_and_tables_and_ready_and_slices_and_zeros (a, (b, (c, (d, e)))) = record { in_bounds = a; tables = b; ready = c; slices = d; zeros = e }
+
+pub slice_bounds-x-end : goal.slice_bounds-x-end
+slice_bounds-x-end c = omega (arith, longest-room c.args.field)
+
+pub slice_bounds-cofactors_in-end-4 : goal.slice_bounds-cofactors_in-end-4
+slice_bounds-cofactors_in-end-4 c = sym (prefix-length _ max_words _ refl (omega (arith, longest-room c.args.field)))
+
+pub slice_bounds-y-end : goal.slice_bounds-y-end
+slice_bounds-y-end c = omega (arith, longest-room c.args.field)
+
+pub slice_bounds-cofactors_in-end-5 : goal.slice_bounds-cofactors_in-end-5
+slice_bounds-cofactors_in-end-5 c = sym (prefix-length _ max_words _ refl (omega (arith, longest-room c.args.field)))
+
+pub slice_bounds-kept-end : goal.slice_bounds-kept-end
+slice_bounds-kept-end c = omega (arith, longest-room c.args.field)
+
+pub slice_bounds-cofactors_in-end-6 : goal.slice_bounds-cofactors_in-end-6
+slice_bounds-cofactors_in-end-6 c = sym (prefix-length _ (3 * max_words) _ refl (omega (arith, longest-room c.args.field)))
+
+pub slice_bounds-s-end : goal.slice_bounds-s-end
+slice_bounds-s-end c = omega (arith, longest-room c.args.field)
+
+pub slice_bounds-cofactors_in-end-7 : goal.slice_bounds-cofactors_in-end-7
+slice_bounds-cofactors_in-end-7 c = sym (prefix-length _ max_words _ refl (omega (arith, longest-room c.args.field)))
+
+pub slice_bounds-t-end : goal.slice_bounds-t-end
+slice_bounds-t-end c = omega (arith, longest-room c.args.field)
+
+pub slice_bounds-cofactors_in-end-8 : goal.slice_bounds-cofactors_in-end-8
+slice_bounds-cofactors_in-end-8 c = sym (prefix-length _ max_words _ refl (omega (arith, longest-room c.args.field)))
+
+pub cofactors_in-requires : goal.cofactors_in-requires
+cofactors_in-requires c =
+    let a = c.args in
+    let pre = c.requires in
+    let tables : Tables (field_at a.field) (longest a.field) c.factorials-whole.result c.inverse_factorials-part.result = record { factorials = c.factorials-whole.ensures; inverses = c.inverse_factorials-part.ensures } in in_bounds_and_tables_and_ready_and_slices_and_zeros (buffers-lent (field_at _) max_words (longest a.field) _ _ (omega (arith, pre.ready.2, longest-room a.field)) pre.ready.2 pre.ready.2 pre.ready.1 pre.ready.0 pre.slices tables)

@@ -1,0 +1,24 @@
+-- `report_text::put_lists` meets its contract. The loop's invariant: the lines of the lists below i are put, and the room for a list keeps
+-- its length. The measure is the number of lists left.
+-- Assumes nothing.
+use Rattle.field.proofs.Fields.{longest-full}
+use mathlib.Core.Path.{◌≡◌, refl, sym, ◌∙◌, ap}
+use mathlib.Core.List.{[]}
+use Prim.Native.Nat.{◌-◌, ◌≤◌}
+use native.Mathlib.Omega.{arith}
+use lib.ListN.{length, drop}
+use Rattle.field.specs.Fields.{modulus, longest}
+use Rattle.album_layout.specs.Layout.{nth_list, lists_of}
+use Rattle.album_layout.proofs.Places.{length-lists, list_at}
+use Rattle.album_reader.specs.Internal.{Held}
+use Rattle.album_reader.proofs.Held.{held-take, held-length, held-inside, held-count, read_held}
+use Rattle.report_text.specs.Report.{list_line, list_lines}
+use Rattle.report_text.proofs.Puts.{Left, put-none, put_is, room-is, left-start, left-next, left-room, left_end}
+use Rattle.report_text.proofs.Lines.{lines_next, lines_end}
+use Rattle.report_text.proofs.put_lists.Given as goal
+
+abbrev pub invariant-loop-i : goal.invariant-loop-i
+invariant-loop-i l = (l.i ≤ l.n) × (length l.list ≡ longest l.field) × Left (list_lines 0 (lists_of l.album)) (list_lines l.i (drop l.i (lists_of l.album))) l.at l.initial.out l.out l.place
+
+abbrev pub decreases-loop-i : goal.decreases-loop-i
+decreases-loop-i l = l.n - l.i

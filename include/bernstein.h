@@ -13,8 +13,8 @@
    The calls allocate nothing, keep no state between them and may run in several threads at once, each with results of its own. On the
    stack they take up to 58 KB: a thread of 64 KB is enough.
 
-   To link:  rt staticlib bernstein
-             cc -Iinclude program.c target/staticlib/libbernstein.a */
+   To link:  (cd crates/bernstein && rt lib)
+             cc -Iinclude program.c crates/bernstein/out/libbernstein.a */
 #ifndef BERNSTEIN_H
 #define BERNSTEIN_H
 

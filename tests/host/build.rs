@@ -1,10 +1,9 @@
-//! Says where the static libraries are: `rt staticlib bernstein` and `rt staticlib test_calls` write them to target/staticlib of the
-//! repository.
+//! Says where the static libraries are: `rt lib` in the crates bernstein and test_calls writes each to the folder out of its crate.
 
 fn main() {
-    let folder = concat!(env!("CARGO_MANIFEST_DIR"), "/../../target/staticlib");
-    println!("cargo:rustc-link-search=native={folder}");
     for library in ["bernstein", "test_calls"] {
+        let folder = format!("{}/../../crates/{library}/out", env!("CARGO_MANIFEST_DIR"));
+        println!("cargo:rustc-link-search=native={folder}");
         println!("cargo:rerun-if-changed={folder}/lib{library}.a");
     }
 }

@@ -76,7 +76,7 @@ fn compare_sample(tally: &mut Tally, path: &Path) {
 /// bin/bind passes on what the program writes, and ends with status 0 or 1; what it writes can be piped to `report`.
 fn compare_script(tally: &mut Tally) {
     if engine::stand_in("bind").is_some() {
-        println!("bin/bind: not compared, as it runs target/bin/bind and BIND names another program");
+        println!("bin/bind: not compared, as it runs crates/bind/out/bind and BIND names another program");
         return;
     }
     for (sample, status) in [("samples/example.txt", 0), ("samples/empty_line.txt", 1)] {

@@ -94,7 +94,7 @@ pub fn stand_in(name: &str) -> Option<String> {
 }
 
 fn program(name: &str) -> String {
-    stand_in(name).unwrap_or(format!("target/bin/{name}"))
+    stand_in(name).unwrap_or(format!("crates/{name}/out/{name}"))
 }
 
 /// What a program writes to standard output and to standard error when it is started with these arguments on no input.

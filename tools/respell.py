@@ -22,7 +22,13 @@ LIBRARY = set(
     " subst ap refl sym cons nil front lookup fst snd".split()
 )
 # Names whose plain respelling would mean something else, or is a word that is taken.
-CHOSEN = {"listAt": "nth_list"}
+CHOSEN = {
+    "listAt": "nth_list",
+    "maxDegree": "max_degree",
+    "maxBytes": "max_bytes",
+    "valueAt1-⟨1-t⟩": "value_at1-⟨1-t⟩",
+    "valueAt-⟨1-t⟩": "value_at-⟨1-t⟩",
+}
 # Rust's own or the format's words, written as they are.
 STAY = set()
 

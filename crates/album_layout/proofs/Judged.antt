@@ -8,7 +8,7 @@ use native.Mathlib.Omega.{arith}
 use lib.Dec.{leb}
 use lib.ListN.{length}
 use borrow.Author.Tests.{eq-eqb, ne_eqb, lt-ltb, leb-false, le-leb, lt-leb}
-use Rattle.refusal.specs.Limits.{maxDegree, max_lists}
+use Rattle.refusal.specs.Limits.{max_degree, max_lists}
 use Rattle.refusal.specs.Lowest.{◌given-when◌, lowest}
 use Rattle.refusal.specs.declared.Refusal.{Refusal}
 use Rattle.refusal.specs.declared.Refusal.TheVariants.{Count, Contents, Index, LooseWord}
@@ -49,7 +49,7 @@ module _ (s : List ℕ) where
   unfolding broken_layout
   broken-place e = simp (e, and-false)
 
-  broken-degree : degrees_fit maxDegree s (count s) ≡ false → broken_layout s ≡ true
+  broken-degree : degrees_fit max_degree s (count s) ≡ false → broken_layout s ≡ true
   unfolding broken_layout
   broken-degree e = simp (e, and-false)
 
@@ -70,11 +70,11 @@ module _ (s : List ℕ) where
     layout-place k l f =
         sym (layout-judged ∙ simp (right-count s some low few, broken-place (not-true-false _ (λ t. f (agree_at s k (count s) l t)))))
 
-    pub layout-degree : (k : ℕ) → k < count s → maxDegree < degree_at s k → Refused Contents ≡ lowest (layout_refusals s)
+    pub layout-degree : (k : ℕ) → k < count s → max_degree < degree_at s k → Refused Contents ≡ lowest (layout_refusals s)
     layout-degree k l m =
-        sym (layout-judged ∙ simp (right-count s some low few, broken-degree (not-true-false _ (λ t. let d = fit_at s maxDegree k (count s) l t in omega arith))))
+        sym (layout-judged ∙ simp (right-count s some low few, broken-degree (not-true-false _ (λ t. let d = fit_at s max_degree k (count s) l t in omega arith))))
 
-    pub layout-done : length s ≡ start_at s (count s) → offsets_agree s (count s) ≡ true → degrees_fit maxDegree s (count s) ≡ true → Done ≡ lowest (layout_refusals s)
+    pub layout-done : length s ≡ start_at s (count s) → offsets_agree s (count s) ≡ true → degrees_fit max_degree s (count s) ≡ true → Done ≡ lowest (layout_refusals s)
     layout-done e t d = sym (layout-judged ∙ simp (right-count s some low few, right-layout s e t d))
 
   pub layout-obeys : lowest (layout_refusals s) ≡ Done → Obeys s

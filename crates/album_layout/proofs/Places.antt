@@ -18,7 +18,7 @@ use native.Mathlib.Omega.{arith}
 use lib.Dec.{eqb, leb, ltb}
 use lib.ListN.{length, get_or}
 use borrow.Author.Tests.{eqb-true, eqb-false, leb-true, ltb-false, not-false, eq-eqb, ne_eqb, le-leb, le-ltb}
-use Rattle.refusal.specs.Limits.{maxDegree, max_lists, max_words}
+use Rattle.refusal.specs.Limits.{max_degree, max_lists, max_words}
 use Rattle.refusal.proofs.First.{or-false}
 use Rattle.lists.specs.Tabulate.{tabulate}
 use Rattle.lists.proofs.Tabulate.{length-tabulate, tabulate-ext}
@@ -50,7 +50,7 @@ module _ (s : List ℕ) where
       go (no f) up = omega (arith, start-next k, up (omega arith))
 
   -- the entries before name degrees of at most the limit
-  pub start-high : (k : ℕ) → ((i : ℕ) → i < k → degree_at s i ≤ maxDegree) → start_at s k ≤ entry_at (count s) + 2 * max_words * k
+  pub start-high : (k : ℕ) → ((i : ℕ) → i < k → degree_at s i ≤ max_degree) → start_at s k ≤ entry_at (count s) + 2 * max_words * k
   unfolding start_at
   start-high zero short = omega arith
   start-high (suc k) short = omega (arith, start-high k (λ i l. short i (omega arith)), short k (omega arith))
@@ -127,8 +127,8 @@ module _ (s : List ℕ) where
   obeys w b =
       let h = or-false (eqb (length s) 0) (eqb (count s) 0 || ltb max_lists (count s)) w in
       let g = or-false (eqb (count s) 0) (ltb max_lists (count s)) h.1 in
-      let d = and-true (eqb (length s) (start_at s (count s))) (offsets_agree s (count s) && degrees_fit maxDegree s (count s)) (not-false _ b) in
-      let a = and-true (offsets_agree s (count s)) (degrees_fit maxDegree s (count s)) d.1 in
+      let d = and-true (eqb (length s) (start_at s (count s))) (offsets_agree s (count s) && degrees_fit max_degree s (count s)) (not-false _ b) in
+      let a = and-true (offsets_agree s (count s)) (degrees_fit max_degree s (count s)) d.1 in
       let y = eqb-false (length s) 0 h.0 in
       let z = eqb-false (count s) 0 g.0 in
       record {
@@ -137,7 +137,7 @@ module _ (s : List ℕ) where
         few = ltb-false max_lists (count s) g.1;
         whole = eqb-true (length s) (start_at s (count s)) d.0;
         placed = λ i l. agree_at i (count s) l a.0;
-        short = λ i l. fit_at maxDegree i (count s) l a.1;
+        short = λ i l. fit_at max_degree i (count s) l a.1;
       }
 
   module _ (some : 0 < length s) (low : 0 < count s) (few : count s ≤ max_lists) where
@@ -146,7 +146,7 @@ module _ (s : List ℕ) where
     right-count =
         simp (ne_eqb (length s) 0 (λ e. omega arith), ne_eqb (count s) 0 (λ e. omega arith), le-ltb max_lists (count s) few)
 
-  pub right-layout : length s ≡ start_at s (count s) → offsets_agree s (count s) ≡ true → degrees_fit maxDegree s (count s) ≡ true → broken_layout s ≡ false
+  pub right-layout : length s ≡ start_at s (count s) → offsets_agree s (count s) ≡ true → degrees_fit max_degree s (count s) ≡ true → broken_layout s ≡ false
   unfolding broken_layout
   right-layout e t d = simp (eq-eqb (length s) (start_at s (count s)) e, t, d)
 

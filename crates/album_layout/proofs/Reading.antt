@@ -1,6 +1,6 @@
 -- What the tests of an album's layout give its reader: theorems that the code does not need.
 --     album-is-read     an album that obeys its layout and has no loose word is read: a call on any of its lists is done
---     album-bytes       an album that obeys its layout has at most maxBytes bytes
+--     album-bytes       an album that obeys its layout has at most max_bytes bytes
 -- Assumes nothing.
 use mathlib.Core.Path.{◌≡◌}
 use mathlib.Core.Bool.{false}
@@ -9,7 +9,7 @@ use Prim.Native.Nat.{ℕ, ◌≤◌, ◌<◌}
 use native.Mathlib.Omega.{arith}
 use lib.ListN.{length}
 use borrow.Author.Tests.{lt-leb}
-use Rattle.refusal.specs.Limits.{max_lists, maxBytes}
+use Rattle.refusal.specs.Limits.{max_lists, max_bytes}
 use Rattle.refusal.specs.Lowest.{lowest}
 use Rattle.refusal.specs.declared.Outcome.TheVariants.{Done}
 use Rattle.lists.specs.Refused.{has_loose, any_of}
@@ -22,5 +22,5 @@ module _ (s : List ℕ) (counted : wrong_count max_lists s ≡ false) (laid : br
   unfolding lowest check_refusals
   album-is-read p tight i l = simp (counted, laid, tight, lt-leb (count s) i l)
 
-  pub album-bytes : length s ≤ maxBytes
+  pub album-bytes : length s ≤ max_bytes
   album-bytes = let o = obeys s counted laid in omega (arith, o.few, o.whole, start-high s (count s) o.short)

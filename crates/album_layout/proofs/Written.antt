@@ -12,7 +12,7 @@ use mathlib.Core.List.{List, [], ◌∷◌, ◌++◌, append_assoc}
 use Prim.Native.Nat.{ℕ, zero, suc, ◌+◌, ◌*◌, ◌/◌, ◌%◌, ◌≤◌, ◌<◌}
 use native.Mathlib.Omega.{arith}
 use lib.ListN.{length, get_or, length-append}
-use Rattle.refusal.specs.Limits.{maxDegree, max_lists, max_words, entry_bytes}
+use Rattle.refusal.specs.Limits.{max_degree, max_lists, max_words, entry_bytes}
 use Rattle.lists.specs.Degrees.{naive_degree}
 use Rattle.lists.proofs.Tabulate.{tabulated}
 use Rattle.lists.specs.Bytes.{Bytes, word_at, words_at, bytes_of}
@@ -41,7 +41,7 @@ abbrev Says : List ℕ → (k at : ℕ) → List (List ℕ) → Type 0
 Says s k at [] = length s ≡ at
 Says s k at (c ∷ lists) =
     (degree_at s k + 1 ≡ length c) × (offset_at s k ≡ at) × ((j : ℕ) → j < length c → word_at s (at + 2 * j) ≡ get_or c j 0)
-    × (degree_at s k ≤ maxDegree) × Says s (suc k) (at + 2 * length c) lists
+    × (degree_at s k ≤ max_degree) × Says s (suc k) (at + 2 * length c) lists
 
 naive-degree : (c : List ℕ) → Fits c → naive_degree c + 1 ≡ length c
 unfolding naive_degree
@@ -102,7 +102,7 @@ record Laid (s : List ℕ) (k : ℕ) (lists : List (List ℕ)) : Type 0 where
   pub read : lists_from s k (length lists) ≡ lists
   pub ends : length s ≡ start_at s (k + length lists)
   pub agree : offsets_agree s (k + length lists) ≡ true
-  pub fit : degrees_fit maxDegree s (k + length lists) ≡ true
+  pub fit : degrees_fit max_degree s (k + length lists) ≡ true
 
 list-is : (s c : List ℕ) (k : ℕ) → degree_at s k + 1 ≡ length c
     → ((j : ℕ) → j < length c → word_at s (start_at s k + 2 * j) ≡ get_or c j 0) → nth_list s k ≡ c
@@ -110,7 +110,7 @@ unfolding nth_list words_at
 list-is s c k d w =
     sym (tabulated c (degree_at s k + 1) (λ j. word_at s (start_at s k + 2 * j)) (sym d) (λ j l. sym (w j (omega arith))))
 
-said : (s : List ℕ) (lists : List (List ℕ)) (k at : ℕ) → at ≡ start_at s k → offsets_agree s k ≡ true → degrees_fit maxDegree s k ≡ true
+said : (s : List ℕ) (lists : List (List ℕ)) (k at : ℕ) → at ≡ start_at s k → offsets_agree s k ≡ true → degrees_fit max_degree s k ≡ true
     → Says s k at lists → Laid s k lists
 unfolding lists_from
 said s [] k at e t d h = record { read = refl; ends = h ∙ e ∙ ap (start_at s) none; agree = rw none at t; fit = rw none at d }
@@ -118,12 +118,12 @@ said s [] k at e t d h = record { read = refl; ends = h ∙ e ∙ ap (start_at s
     none : k ≡ k + 0
     none = omega arith
 said s (c ∷ lists) k at e t d h =
-    let l = said s lists (suc k) (at + 2 * length c) (omega (arith, h.0, start-next s k)) (agree-next s k t (h.1 ∙ e)) (fit_next s maxDegree k d h.3) h.4 in
+    let l = said s lists (suc k) (at + 2 * length c) (omega (arith, h.0, start-next s k)) (agree-next s k t (h.1 ∙ e)) (fit_next s max_degree k d h.3) h.4 in
     record {
       read = ap₂ (λ a b. a ∷ b) (list-is s c k h.0 (λ j l. ap (λ i. word_at s (i + 2 * j)) (sym e) ∙ h.2 j l)) l.read;
       ends = l.ends ∙ ap (start_at s) next;
       agree = ap (offsets_agree s) (sym next) ∙ l.agree;
-      fit = ap (degrees_fit maxDegree s) (sym next) ∙ l.fit;
+      fit = ap (degrees_fit max_degree s) (sym next) ∙ l.fit;
     }
   where
     next : suc k + length lists ≡ k + suc (length lists)
@@ -179,7 +179,7 @@ module _ (lists : List (List ℕ)) (w : Writable lists) where
       let n : 0 + length lists ≡ count (album_of lists) = omega (arith, album-count) in (
         right-count (album_of lists) album-some (omega (arith, album-count, w.some)) (omega (arith, album-count, w.few)),
         right-layout (album_of lists) (album-laid.ends ∙ ap (start_at (album_of lists)) n) (ap (offsets_agree (album_of lists)) (sym n) ∙ album-laid.agree)
-            (ap (degrees_fit maxDegree (album_of lists)) (sym n) ∙ album-laid.fit),
+            (ap (degrees_fit max_degree (album_of lists)) (sym n) ∙ album-laid.fit),
       )
 
   pub album-is-bytes : Bytes (album_of lists)

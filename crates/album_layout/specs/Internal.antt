@@ -10,7 +10,7 @@
 --     body-bytes         they are the bytes of list i
 -- Assumes nothing.
 use Rattle.std.specs.Prelude.{◌≡◌, Bool, cond, ◌&&◌, List, [], ◌∷◌, ℕ, ◌+◌, ◌*◌, ◌≤◌, ◌<◌, leb, ltb, length, take, drop}
-use Rattle.refusal.specs.Limits.{maxDegree, max_lists}
+use Rattle.refusal.specs.Limits.{max_degree, max_lists}
 use Rattle.refusal.specs.Lowest.{Condition, ◌given-when◌, lowest}
 use Rattle.refusal.specs.declared.Refusal.TheVariants.{Count, Contents}
 use Rattle.refusal.specs.declared.Outcome.TheVariants.{Done}
@@ -29,7 +29,7 @@ pub record Obeys (s : List ℕ) : Type 0 where
   pub few : count s ≤ max_lists
   pub whole : length s ≡ start_at s (count s)
   pub placed : (i : ℕ) → i < count s → offset_at s i ≡ start_at s i
-  pub short : (i : ℕ) → i < count s → degree_at s i ≤ maxDegree
+  pub short : (i : ℕ) → i < count s → degree_at s i ≤ max_degree
 
 abbrev pub Passed : ℕ → List ℕ → Type 0
 Passed p s = lowest (album_refusals p s) ≡ Done

@@ -14,7 +14,7 @@
 --     lists_of           the lists of the album, in order
 -- Assumes nothing.
 use Rattle.std.specs.Prelude.{Bool, true, ◌&&◌, ◌||◌, not, List, [], ◌∷◌, ℕ, zero, suc, ◌+◌, ◌*◌, eqb, leb, ltb, length, get_or}
-use Rattle.refusal.specs.Limits.{maxDegree, entry_bytes}
+use Rattle.refusal.specs.Limits.{max_degree, entry_bytes}
 use Rattle.lists.specs.Bytes.{word_at, words_at}
 
 abbrev pub count : List ℕ → ℕ
@@ -45,7 +45,7 @@ unfoldable pub wrong_count : ℕ → List ℕ → Bool
 wrong_count most s = eqb (length s) 0 || (eqb (count s) 0 || ltb most (count s))
 
 unfoldable pub broken_layout : List ℕ → Bool
-broken_layout s = not (eqb (length s) (start_at s (count s)) && (offsets_agree s (count s) && degrees_fit maxDegree s (count s)))
+broken_layout s = not (eqb (length s) (start_at s (count s)) && (offsets_agree s (count s) && degrees_fit max_degree s (count s)))
 
 unfoldable pub nth_list : List ℕ → ℕ → List ℕ
 nth_list s k = words_at s (start_at s k) (degree_at s k + 1)

@@ -8,7 +8,7 @@ use native.Mathlib.Omega.{arith}
 use lib.Dec.{eqb, ltb}
 use lib.ListN.{length, get_or}
 use borrow.Author.Tests.{eqb-true, eqb-false, ltb-false, not-false, eq-eqb, ne_eqb, le-ltb}
-use Rattle.refusal.specs.Limits.{maxDegree, max_lists, max_words, maxBytes}
+use Rattle.refusal.specs.Limits.{max_degree, max_lists, max_words, max_bytes}
 use Rattle.refusal.specs.Lowest.{lowest}
 use Rattle.refusal.specs.declared.Refusal.TheVariants.{Count, Contents, Length, LooseWord, Misfit}
 use Rattle.refusal.specs.declared.Outcome.TheVariants.{Done}
@@ -55,9 +55,9 @@ short-degrees (c ∷ lists) h (suc k) = short-degrees lists (λ i l. h (suc i) (
 pub write-judged : (p : ℕ) (words degrees out : List ℕ)
     → lowest (write_rows p words degrees out)
     ≡ refuse (wrong_lists (length degrees)) Count
-    (refuse (has_high maxDegree degrees) Contents
+    (refuse (has_high max_degree degrees) Contents
     (refuse (not (eqb (length words) (words_for degrees))) Length
-    (refuse (has_loose p words) LooseWord (refuse (ltb (length out) maxBytes) Misfit Done))))
+    (refuse (has_loose p words) LooseWord (refuse (ltb (length out) max_bytes) Misfit Done))))
 unfolding write_rows
 write-judged p words degrees out = first-is (write_rows p words degrees out) tt
 
@@ -67,23 +67,23 @@ pub record Taken (p : ℕ) (words degrees out : List ℕ) : Type 0 where
   pub low : Low degrees
   pub size : length words ≡ words_for degrees
   pub tight : has_loose p words ≡ false
-  pub room : maxBytes ≤ length out
+  pub room : max_bytes ≤ length out
 
 pub taken : (p : ℕ) (words degrees out : List ℕ) → lowest (write_rows p words degrees out) ≡ Done → Taken p words degrees out
 taken p words degrees out e =
     let count = refuse-done (wrong_lists (length degrees)) _ _ (sym (write-judged p words degrees out) ∙ e) in
-    let high = refuse-done (has_high maxDegree degrees) _ _ count.1 in
+    let high = refuse-done (has_high max_degree degrees) _ _ count.1 in
     let sum = refuse-done (not (eqb (length words) (words_for degrees))) _ _ high.1 in
     let loose = refuse-done (has_loose p words) _ _ sum.1 in
-    let short = refuse-done (ltb (length out) maxBytes) _ _ loose.1 in
+    let short = refuse-done (ltb (length out) max_bytes) _ _ loose.1 in
     let lists = some-lists (length degrees) count.0 in
     record {
       some = lists.0;
       few = lists.1;
-      low = none-high maxDegree degrees high.0;
+      low = none-high max_degree degrees high.0;
       size = eqb-true (length words) _ (not-false _ sum.0);
       tight = loose.0;
-      room = ltb-false (length out) maxBytes short.0;
+      room = ltb-false (length out) max_bytes short.0;
     }
 
 pub taken-done : (p : ℕ) (words degrees out : List ℕ) → Taken p words degrees out → lowest (write_rows p words degrees out) ≡ Done
@@ -91,8 +91,8 @@ taken-done p words degrees out t =
     write-judged p words degrees out
     ∙ simp (
       right-lists (length degrees) t.some t.few,
-      all-low maxDegree degrees t.low,
+      all-low max_degree degrees t.low,
       eq-eqb (length words) (words_for degrees) t.size,
       t.tight,
-      le-ltb (length out) maxBytes t.room,
+      le-ltb (length out) max_bytes t.room,
     )

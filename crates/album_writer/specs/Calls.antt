@@ -9,7 +9,7 @@
 --     written_reply        what the answer says: the number of bytes
 -- Assumes nothing.
 use Rattle.std.specs.Prelude.{Bool, false, not, ◌||◌, List, [], ◌∷◌, ◌++◌, ℕ, eqb, ltb, length, drop}
-use Rattle.refusal.specs.Limits.{maxDegree, max_lists, maxBytes}
+use Rattle.refusal.specs.Limits.{max_degree, max_lists, max_bytes}
 use Rattle.refusal.specs.Refusal.{Reply, number, reply, written}
 use Rattle.refusal.specs.Lowest.{Condition, ◌given-when◌, lowest}
 use Rattle.refusal.specs.declared.Refusal.TheVariants.{Count, Contents, Length, LooseWord, Misfit}
@@ -30,10 +30,10 @@ has_high most (d ∷ degrees) = ltb most d || has_high most degrees
 unfoldable pub write_rows : ℕ → (words degrees out : List ℕ) → List Condition
 write_rows p words degrees out =
     Count given-when wrong_lists (length degrees) ∷
-    Contents given-when has_high maxDegree degrees ∷
+    Contents given-when has_high max_degree degrees ∷
     Length given-when not (eqb (length words) (words_for degrees)) ∷
     LooseWord given-when has_loose p words ∷
-    Misfit given-when ltb (length out) maxBytes ∷
+    Misfit given-when ltb (length out) max_bytes ∷
     []
 
 abbrev pub over_front : (new old : List ℕ) → List ℕ

@@ -7,7 +7,7 @@
 --     album-is        it is the album of the lists that the degrees cut from the words
 -- Assumes nothing.
 use Rattle.std.specs.Prelude.{◌≡◌, List, [], ◌∷◌, ◌++◌, ℕ, ◌+◌, ◌*◌, ◌≤◌, length, get_or}
-use Rattle.refusal.specs.Limits.{maxDegree, max_lists, max_words}
+use Rattle.refusal.specs.Limits.{max_degree, max_lists, max_words}
 use Rattle.lists.specs.Bytes.{bytes_of}
 use Rattle.album_layout.specs.Layout.{entry_at}
 
@@ -16,7 +16,7 @@ entries_by at [] = []
 entries_by at (d ∷ degrees) = d ∷ at ∷ entries_by (at + 2 * (d + 1)) degrees
 
 abbrev pub Low : List ℕ → Type 0
-Low degrees = (k : ℕ) → get_or degrees k 0 ≤ maxDegree
+Low degrees = (k : ℕ) → get_or degrees k 0 ≤ max_degree
 
 unfoldable pub album_by : (words degrees : List ℕ) → List ℕ
 album_by words degrees = length degrees ∷ bytes_of (entries_by (entry_at (length degrees)) degrees) ++ bytes_of words

@@ -2,7 +2,7 @@
 #![tactic(auto)]
 
 ghost use Rattle.std.specs.Prelude.{◌≡◌, ◌+◌, ◌*◌, ◌≤◌, ◌<◌, length};
-ghost use Rattle.refusal.specs.Limits.{maxDegree, max_lists, max_words, entry_bytes};
+ghost use Rattle.refusal.specs.Limits.{max_degree, max_lists, max_words, entry_bytes};
 ghost use Rattle.refusal.specs.Lowest.{lowest};
 ghost use Rattle.field.specs.Fields.{modulus};
 ghost use Rattle.lists.specs.Bytes.{bytes_of};
@@ -68,7 +68,7 @@ fn wrong_lists(degrees: &[u16]) -> bool
 
 // Whether a degree is above the limit.
 fn has_high(degrees: &[u16]) -> bool
-    ensures { result ≡ has_high maxDegree degrees.now }
+    ensures { result ≡ has_high max_degree degrees.now }
 {
     let mut k = 0;
     while k < degrees.len() {

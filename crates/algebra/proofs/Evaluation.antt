@@ -132,8 +132,8 @@ module _ {Rg : CommRing} (X : SeriesRing Rg) (x : Rg.Carrier) where
       record { bound = h.bound; below = below-neg X h.below; is = eval-neg X x h.bound a ∙ ap (λ v. ⊖ v) h.is }
 
   -- the value of 1 - t
-  pub valueAt-⟨1-t⟩ : ValueAt X x (1ˢ +ˢ -ˢ t X) (𝟙 ⊕ ⊖ x)
-  valueAt-⟨1-t⟩ = value_at-add value_at-1 (value_at-neg value_at-t)
+  pub value_at-⟨1-t⟩ : ValueAt X x (1ˢ +ˢ -ˢ t X) (𝟙 ⊕ ⊖ x)
+  value_at-⟨1-t⟩ = value_at-add value_at-1 (value_at-neg value_at-t)
 
   pub value_at-pow : (n : ℕ) {a : S} {u : Carrier} → ValueAt X x a u → ValueAt X x (pow X.ring a n) (pow Rg u n)
   value_at-pow zero {a} {u} h = rw (pow-zero X.ring a, pow-zero Rg u) value_at-1

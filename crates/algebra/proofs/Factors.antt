@@ -24,7 +24,7 @@ use Rattle.algebra.proofs.Polynomial.{zero-of-below, polynomial, polynomial-0, p
 use Rattle.algebra.specs.Evaluation.{eval, ValueAt1}
 use Rattle.algebra.proofs.Evaluation.{value_at-mul, value_at-0, value_at-polynomial, value-at-1, value_at1-unique}
 use Rattle.algebra.specs.OneMinusT.{⟨1-t⟩, ⟨1-t⟩^}
-use Rattle.algebra.proofs.OneMinusT.{over⟨1-t⟩, ⟨1-t⟩-over, below-over, ⟨1-t⟩-cancel, ⟨1-t⟩^-zero, ⟨1-t⟩^-suc, ⟨1-t⟩^-add, valueAt1-⟨1-t⟩, polynomial-⟨1-t⟩^, ⟨1-t⟩^-cancel}
+use Rattle.algebra.proofs.OneMinusT.{over⟨1-t⟩, ⟨1-t⟩-over, below-over, ⟨1-t⟩-cancel, ⟨1-t⟩^-zero, ⟨1-t⟩^-suc, ⟨1-t⟩^-add, value_at1-⟨1-t⟩, polynomial-⟨1-t⟩^, ⟨1-t⟩^-cancel}
 
 module _ {Rg : CommRing} (X : SeriesRing Rg) where
   open Rg use {Carrier, zero as 𝟘, one as 𝟙, neg as ⊖◌, add as ◌⊕◌, mul as ◌⊗◌}
@@ -84,7 +84,7 @@ module _ {Rg : CommRing} (X : SeriesRing Rg) where
           zero-at-1 : ValueAt1 X (⟨1-t⟩ X *ˢ rest) 𝟘
           zero-at-1 =
               subst (λ v. ValueAt1 X (⟨1-t⟩ X *ˢ rest) v) (R.zero-mul Rg _)
-              (value_at-mul X 𝟙 (valueAt1-⟨1-t⟩ X) (value-at-1 X (polynomial-mul X (polynomial-⟨1-t⟩^ X d) hp)))
+              (value_at-mul X 𝟙 (value_at1-⟨1-t⟩ X) (value-at-1 X (polynomial-mul X (polynomial-⟨1-t⟩^ X d) hp)))
 
   -- where K divides L, L has at least as many factors 1-t as K
   pub split-le : {K L : S} (q : Split K) (r : Split L) → Divides X K L → q.k ≤ r.k
@@ -160,7 +160,7 @@ module _ {Rg : CommRing} (X : SeriesRing Rg) (F : IsField Rg) where
       zero-at-1 : ValueAt1 X (⟨1-t⟩ X *ˢ (⟨1-t⟩^ X N *ˢ h)) 𝟘
       zero-at-1 =
           subst (λ v. ValueAt1 X (⟨1-t⟩ X *ˢ (⟨1-t⟩^ X N *ˢ h)) v) (R.zero-mul Rg _)
-          (value_at-mul X 𝟙 (valueAt1-⟨1-t⟩ X) (value-at-1 X (polynomial-mul X (polynomial-⟨1-t⟩^ X N) ph)))
+          (value_at-mul X 𝟙 (value_at1-⟨1-t⟩ X) (value-at-1 X (polynomial-mul X (polynomial-⟨1-t⟩^ X N) ph)))
 
       Q-0 : eval X 𝟙 pQ.bound Q ≡ 𝟘
       Q-0 = zero-of-mul Rg F u _ nz (value_at1-unique X (value_at-mul X 𝟙 hK at-Q) (subst (λ x. ValueAt1 X x 𝟘) product zero-at-1))

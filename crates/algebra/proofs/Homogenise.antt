@@ -24,7 +24,7 @@ use Rattle.algebra.proofs.Polynomial.{below-add, below-neg, below-tail, zero-of-
 use Rattle.algebra.specs.Evaluation.{ValueAt1}
 use Rattle.algebra.proofs.Evaluation.{value_at-mul, value_at-add, value_at-C, value_at-t, value_at-polynomial, value-at-1}
 use Rattle.algebra.specs.OneMinusT.{⟨1-t⟩, ⟨1-t⟩^}
-use Rattle.algebra.proofs.OneMinusT.{⟨1-t⟩^-zero, ⟨1-t⟩^-suc, ⟨1-t⟩^-add, coeff-⟨1-t⟩, valueAt1-⟨1-t⟩, polynomial-⟨1-t⟩^}
+use Rattle.algebra.proofs.OneMinusT.{⟨1-t⟩^-zero, ⟨1-t⟩^-suc, ⟨1-t⟩^-add, coeff-⟨1-t⟩, value_at1-⟨1-t⟩, polynomial-⟨1-t⟩^}
 use Rattle.algebra.specs.Homogenise.{hom}
 
 module _ {Rg : CommRing} (X : SeriesRing Rg) where
@@ -167,7 +167,7 @@ module _ {Rg : CommRing} (X : SeriesRing Rg) where
       power-0 =
           subst (λ x. ValueAt1 X x 𝟘) (sym (⟨1-t⟩^-suc X n))
           (subst (λ v. ValueAt1 X (⟨1-t⟩ X *ˢ ⟨1-t⟩^ X n) v) (R.zero-mul Rg _)
-          (value_at-mul X 𝟙 (valueAt1-⟨1-t⟩ X) (value-at-1 X (polynomial-⟨1-t⟩^ X n))))
+          (value_at-mul X 𝟙 (value_at1-⟨1-t⟩ X) (value-at-1 X (polynomial-⟨1-t⟩^ X n))))
 
       sum : 𝟘 ⊗ X.coeff s 0 ⊕ 𝟙 ⊗ X.coeff (tail X s) n ≡ X.coeff s (suc n)
       sum = simp (coeff-tail) (simp RING)

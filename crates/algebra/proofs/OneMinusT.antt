@@ -2,7 +2,7 @@
 --     over⟨1-t⟩ s     the series s / (1-t); coefficient k is s_0 + … + s_k
 -- Theorems:
 --     ⟨1-t⟩-cancel, ⟨1-t⟩^-cancel     a factor 1 - t, or (1-t)^n, cancels
---     valueAt1-⟨1-t⟩                  at t = 1 its value is 0
+--     value_at1-⟨1-t⟩                  at t = 1 its value is 0
 --     divides-⟨1-t⟩^                  (1-t)^c divides (1-t)^k for c at most k
 --     ⟨1-t⟩-over                      (1-t) · s/(1-t) = s
 --     below-over                      s / (1-t) is a polynomial where s(1) = 0
@@ -19,7 +19,7 @@ use Rattle.algebra.proofs.Series.{coeff-mk, ext, coeff-add, coeff-neg, coeff-1_z
 use Rattle.algebra.specs.Polynomial.{Below, Polynomial, Divides}
 use Rattle.algebra.proofs.Polynomial.{polynomial-1, polynomial-mul}
 use Rattle.algebra.specs.Evaluation.{eval, ValueAt1}
-use Rattle.algebra.proofs.Evaluation.{eval-zero, eval-suc, eval-one, eval-more, valueAt-⟨1-t⟩, value_at-polynomial}
+use Rattle.algebra.proofs.Evaluation.{eval-zero, eval-suc, eval-one, eval-more, value_at-⟨1-t⟩, value_at-polynomial}
 use Rattle.algebra.specs.OneMinusT.{⟨1-t⟩, ⟨1-t⟩^}
 use Rattle.algebra.proofs.Ring.{pow-zero, pow-suc, pow-add}
 
@@ -76,15 +76,15 @@ module _ {Rg : CommRing} (X : SeriesRing Rg) where
   unfolding ⟨1-t⟩
   coeff-⟨1-t⟩ = simp (coeff-add, coeff-neg, coeff-1_zero, coeff-t-zero) (simp RING)
 
-  pub valueAt1-⟨1-t⟩ : ValueAt1 X (⟨1-t⟩ X) 𝟘
+  pub value_at1-⟨1-t⟩ : ValueAt1 X (⟨1-t⟩ X) 𝟘
   unfolding ⟨1-t⟩
-  valueAt1-⟨1-t⟩ = subst (λ v. ValueAt1 X (1ˢ +ˢ -ˢ t X) v) (R.add-neg Rg 𝟙) (valueAt-⟨1-t⟩ X 𝟙)
+  value_at1-⟨1-t⟩ = subst (λ v. ValueAt1 X (1ˢ +ˢ -ˢ t X) v) (R.add-neg Rg 𝟙) (value_at-⟨1-t⟩ X 𝟙)
 
   pub polynomial-⟨1-t⟩^ : (n : ℕ) → Polynomial X (⟨1-t⟩^ X n)
   polynomial-⟨1-t⟩^ zero = subst (λ x. Polynomial X x) (sym ⟨1-t⟩^-zero) (polynomial-1 X)
   polynomial-⟨1-t⟩^ (suc n) =
       subst (λ x. Polynomial X x) (sym (⟨1-t⟩^-suc n))
-      (polynomial-mul X (value_at-polynomial X 𝟙 valueAt1-⟨1-t⟩) (polynomial-⟨1-t⟩^ n))
+      (polynomial-mul X (value_at-polynomial X 𝟙 value_at1-⟨1-t⟩) (polynomial-⟨1-t⟩^ n))
 
   pub ⟨1-t⟩^-cancel : (n : ℕ) (a b : S) → ⟨1-t⟩^ X n *ˢ a ≡ ⟨1-t⟩^ X n *ˢ b → a ≡ b
   ⟨1-t⟩^-cancel zero a b h = sym (R.one-mul X.ring a) ∙ rw ⟨1-t⟩^-zero at h ∙ R.one-mul X.ring b

@@ -14,7 +14,7 @@ use native.Mathlib.Omega.{arith}
 use lib.Dec.{ltb}
 use lib.ListN.{length, get_or, take, drop, length-append, length-map}
 use borrow.Author.Tests.{eq-eqb, lt-ltb, le-ltb}
-use Rattle.refusal.specs.Limits.{maxDegree, max_lists, max_words, maxBytes}
+use Rattle.refusal.specs.Limits.{max_degree, max_lists, max_words, max_bytes}
 use Rattle.refusal.specs.Refusal.{reply, written}
 use Rattle.refusal.specs.Lowest.{◌given-when◌, lowest}
 use Rattle.refusal.specs.declared.Refusal.{Refusal}
@@ -92,11 +92,11 @@ module _ (text : List ℕ) where
 module _ (p : ℕ) (text out : List ℕ) where
   bind-judged : lowest (bind_rows p text out)
       ≡ or_else (lowest (text_refusals text))
-      (refuse (any_of (has_loose p) (lists_in text)) LooseWord (refuse (ltb (length out) maxBytes) Misfit Done))
+      (refuse (any_of (has_loose p) (lists_in text)) LooseWord (refuse (ltb (length out) max_bytes) Misfit Done))
   unfolding bind_rows text_refusals
   bind-judged =
       first_then (text_refusals text)
-      (LooseWord given-when any_of (has_loose p) (lists_in text) ∷ Misfit given-when ltb (length out) maxBytes ∷ []) tt
+      (LooseWord given-when any_of (has_loose p) (lists_in text) ∷ Misfit given-when ltb (length out) max_bytes ∷ []) tt
 
   pub bind-refused : {why : Refusal} → lowest (text_refusals text) ≡ Refused why
       → (reply (Refused why) [] ≡ reply (lowest (bind_rows p text out)) (length (album_of (lists_in text)) ∷ []))
@@ -106,7 +106,7 @@ module _ (p : ℕ) (text out : List ℕ) where
       (sym (ap (λ o. reply o (length (album_of (lists_in text)) ∷ [])) found), kept (over_front (album_of (lists_in text)) out) out found)
 
   bind-sound : lowest (text_refusals text) ≡ Done
-      → lowest (bind_rows p text out) ≡ refuse (any_of (has_loose p) (lists_in text)) LooseWord (refuse (ltb (length out) maxBytes) Misfit Done)
+      → lowest (bind_rows p text out) ≡ refuse (any_of (has_loose p) (lists_in text)) LooseWord (refuse (ltb (length out) max_bytes) Misfit Done)
   bind-sound e = bind-judged ∙ simp e
 
 pub record Given (text words degrees : List ℕ) : Type 0 where
@@ -145,10 +145,10 @@ module _ (p : ℕ) (small : p ≤ 65535) (text words degrees out : List ℕ) (g 
       ∙ ap wrong_lists (length-map (lists_in text) naive_degree ∙ length-lists text)
       ∙ (text-fine text g.fine).0
 
-  low-degrees : has_high maxDegree degrees ≡ false
+  low-degrees : has_high max_degree degrees ≡ false
   low-degrees =
-      ap (has_high maxDegree) g.told
-      ∙ all-low maxDegree (map naive_degree (lists_in text)) (short-degrees (lists_in text) (λ k l. (each_right (lists_in text) (text-fine text g.fine).1 k l).1))
+      ap (has_high max_degree) g.told
+      ∙ all-low max_degree (map naive_degree (lists_in text)) (short-degrees (lists_in text) (λ k l. (each_right (lists_in text) (text-fine text g.fine).1 k l).1))
 
   right-size : length words ≡ words_for degrees
   right-size =

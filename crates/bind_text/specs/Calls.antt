@@ -7,7 +7,7 @@
 --     bind_written k    the album of the text's lists, at the front of the target
 -- Assumes nothing.
 use Rattle.std.specs.Prelude.{◌||◌, List, [], ◌∷◌, ◌++◌, ℕ, ◌*◌, ltb, length}
-use Rattle.refusal.specs.Limits.{max_lists, max_words, maxBytes}
+use Rattle.refusal.specs.Limits.{max_lists, max_words, max_bytes}
 use Rattle.refusal.specs.Refusal.{Reply, reply, written}
 use Rattle.refusal.specs.Lowest.{Condition, ◌given-when◌, lowest}
 use Rattle.refusal.specs.declared.Refusal.TheVariants.{Count, Contents, Length, LooseWord, Misfit}
@@ -29,7 +29,7 @@ text_refusals text =
 
 unfoldable pub bind_rows : ℕ → (text out : List ℕ) → List Condition
 bind_rows p text out =
-    text_refusals text ++ (LooseWord given-when any_of (has_loose p) (lists_in text) ∷ Misfit given-when ltb (length out) maxBytes ∷ [])
+    text_refusals text ++ (LooseWord given-when any_of (has_loose p) (lists_in text) ∷ Misfit given-when ltb (length out) max_bytes ∷ [])
 
 abbrev pub bind_answer : (k : ℕ) → (text out : List ℕ) → Reply
 bind_answer k text out = reply (lowest (bind_rows (modulus k) text out)) (length (album_of (lists_in text)) ∷ [])

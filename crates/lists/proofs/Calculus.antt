@@ -16,7 +16,7 @@ use Rattle.algebra.specs.RingLaws.{RING}
 use Rattle.algebra.specs.Series.{C}
 use Rattle.algebra.proofs.Series.{ext, C-zero}
 use Rattle.algebra.specs.Evaluation.{ValueAt}
-use Rattle.algebra.proofs.Evaluation.{value_at-mul, value_at-C, value_at-t, valueAt-⟨1-t⟩, value_at-pow}
+use Rattle.algebra.proofs.Evaluation.{value_at-mul, value_at-C, value_at-t, value_at-⟨1-t⟩, value_at-pow}
 use Rattle.algebra.specs.OneMinusT.{⟨1-t⟩, ⟨1-t⟩^}
 use Rattle.algebra.specs.Homogenise.{hom}
 use Rattle.algebra.proofs.Homogenise.{hom-zero}
@@ -135,7 +135,7 @@ module _ (F : PrimeField) where
       value_at-sum F.series x (length c) _ _
       (λ k. value_at-mul F.series x
       (value_at-mul F.series x (value_at-C F.series x (scaled_coefficient F c k)) (value_at-pow F.series x k (value_at-t F.series x)))
-      (value_at-pow F.series x (naive_degree c - k) (valueAt-⟨1-t⟩ F.series x)))
+      (value_at-pow F.series x (naive_degree c - k) (value_at-⟨1-t⟩ F.series x)))
 
   pub evaluate-lt : (c : List ℕ) (x : ℕ) → evaluate F c x < F.p
   unfolding evaluate

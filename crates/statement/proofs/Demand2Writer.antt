@@ -9,7 +9,7 @@ use Prim.Native.Nat.{ℕ, zero, suc, ◌≤◌, ◌<◌}
 use native.Mathlib.Omega.{arith}
 use lib.ListN.{length, get_or, take, drop, length-map}
 use lib.Seq.{take_at, drop_at}
-use Rattle.refusal.specs.Limits.{maxBytes}
+use Rattle.refusal.specs.Limits.{max_bytes}
 use Rattle.refusal.specs.Refusal.{Reply, reply, written}
 use Rattle.refusal.specs.Lowest.{lowest}
 use Rattle.refusal.specs.declared.Outcome.TheVariants.{Done}
@@ -57,7 +57,7 @@ module _ (words degrees old : List ℕ) where
 
   -- ---- an album of which these are the words and degrees
   module _ (s : List ℕ) (lists : List (List ℕ)) (h : Holds F65521 s lists) (ew : words ≡ joined lists) (ed : degrees ≡ map naive_degree lists)
-      (room : maxBytes ≤ length old) where
+      (room : max_bytes ≤ length old) where
     some : AllSome lists
     some k l = (h.writable.each k l).some
 
@@ -82,7 +82,7 @@ module _ (words degrees old : List ℕ) where
   -- ---- the call
   module _ {out : List ℕ} {r : Reply} (e : r ≡ write_answer 0 words degrees old) (w : out ≡ write_written 0 words degrees old) where
     pub written-again : (s : List ℕ) (lists : List (List ℕ)) → Holds F65521 s lists → words ≡ joined lists → degrees ≡ map naive_degree lists
-        → maxBytes ≤ length old → (r ≡ reply Done (length s ∷ [])) × (out ≡ over_front s old)
+        → max_bytes ≤ length old → (r ≡ reply Done (length s ∷ [])) × (out ≡ over_front s old)
     written-again s lists h ew ed room =
         let d = taken-done p words degrees old (accepted s lists h ew ed room) in
         let is = same s lists h ew ed room in (

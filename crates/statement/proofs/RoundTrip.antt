@@ -8,7 +8,7 @@ use mathlib.Core.List.{List, [], ◌∷◌, map}
 use Prim.Native.Nat.{ℕ, zero, suc, ◌≤◌, ◌<◌}
 use native.Mathlib.Omega.{arith}
 use lib.ListN.{length, get_or, take}
-use Rattle.refusal.specs.Limits.{max_words, maxBytes}
+use Rattle.refusal.specs.Limits.{max_words, max_bytes}
 use Rattle.refusal.specs.Refusal.{reply, written}
 use Rattle.refusal.specs.Lowest.{lowest}
 use Rattle.refusal.specs.declared.Outcome.TheVariants.{Done}
@@ -81,7 +81,7 @@ written-then-read words degrees out n e =
     read_back words degrees _ w.album w.all_degrees n (sym (ap length w.album.album) ∙ sym w.size)
 
 -- ---- read, then written
-pub read-then-written : (s out : List ℕ) (i : ℕ) → Bytes s → check_answer 0 s i ≡ reply Done [] → maxBytes ≤ length out → WrittenAgain s out
+pub read-then-written : (s out : List ℕ) (i : ℕ) → Bytes s → check_answer 0 s i ≡ reply Done [] → max_bytes ≤ length out → WrittenAgain s out
 read-then-written s out i bytes e room =
     let d = (done-reply (lowest (check_refusals p s i)) [] [] (sym e)).0 in
     let f = (checked-fine s i d).0 in

@@ -23,7 +23,7 @@
 use Rattle.std.specs.Prelude.{◌≡◌, false, List, [], ◌∷◌, map, ℕ, suc, ◌+◌, ◌-◌, ◌≤◌, ◌<◌, max, length, get_or, take, drop}
 use Rattle.algebra.specs.Derivative as D
 use Rattle.algebra.specs.PrimeField.{PrimeField, scalars, residue}
-use Rattle.refusal.specs.Limits.{max_lists, max_words, maxBytes}
+use Rattle.refusal.specs.Limits.{max_lists, max_words, max_bytes}
 use Rattle.refusal.specs.Refusal.{Reply, reply}
 use Rattle.refusal.specs.declared.Outcome.TheVariants.{Done}
 use Rattle.field.specs.Field.{IsInverse}
@@ -142,7 +142,7 @@ module _ (F : PrimeField) where
   pub record WriteSo (words degrees old out : List ℕ) (r : Reply) : Type 0 where
     pub writes : (n : ℕ) → Answers r (n ∷ []) → AlbumWritten words degrees old out n
     pub again : (s : List ℕ) (lists : List (List ℕ)) → Holds s lists → words ≡ joined lists → degrees ≡ map naive_degree lists
-        → maxBytes ≤ length old → Answers r (length s ∷ []) × (out ≡ over_front s old)
+        → max_bytes ≤ length old → Answers r (length s ∷ []) × (out ≡ over_front s old)
 
   unfoldable pub meant_by : List (List ℕ) → Tree → S
   meant_by lists (list n) = meaning F (get_or lists n [])

@@ -9,7 +9,7 @@ use mathlib.Core.List.{List}
 use Prim.Native.Nat.{ℕ}
 use native.Mathlib.Numerals.{add-one}
 use native.Mathlib.Omega.{arith}
-use Rattle.refusal.specs.Limits.{maxDegree}
+use Rattle.refusal.specs.Limits.{max_degree}
 use Rattle.album_layout.specs.Layout.{count, start_at, offsets_agree, degrees_fit}
 use Rattle.album_layout.proofs.Places.{start-next, start-low, agree-next, fit_next}
 use Rattle.album_layout.proofs.Judged.{layout-empty, layout-none, layout-many, layout-size, layout-place, layout-degree, layout-done}
@@ -57,15 +57,15 @@ loop-k-preserved c =
       rw (add-one k) (omega (arith, start-next s k)),
       omega arith,
       rw add-one (agree-next s k c.loop-k.invariant.6 (omega arith)),
-      rw add-one (fit_next s maxDegree k c.loop-k.invariant.7 (omega arith)),
+      rw add-one (fit_next s max_degree k c.loop-k.invariant.7 (omega arith)),
     )
 
 pub returns-then-album-at-2 : goal.returns-then-album-at-2
 returns-then-album-at-2 c =
     let album-of : List ℕ = c.args.album.now in
-    let closed : (offsets_agree album-of (count album-of) ≡ true) × (degrees_fit maxDegree album-of (count album-of) ≡ true) × (c.loop-k.at ≡ start_at album-of (count album-of)) = let e : c.loop-k.k ≡ count album-of = omega arith in (
+    let closed : (offsets_agree album-of (count album-of) ≡ true) × (degrees_fit max_degree album-of (count album-of) ≡ true) × (c.loop-k.at ≡ start_at album-of (count album-of)) = let e : c.loop-k.k ≡ count album-of = omega arith in (
       subst (λ (k : ℕ). offsets_agree album-of k ≡ true) e c.loop-k.invariant.6,
-      subst (λ (k : ℕ). degrees_fit maxDegree album-of k ≡ true) e c.loop-k.invariant.7,
+      subst (λ (k : ℕ). degrees_fit max_degree album-of k ≡ true) e c.loop-k.invariant.7,
       subst (λ (k : ℕ). c.loop-k.at ≡ start_at album-of k) e c.loop-k.invariant.4,
     ) in
     let s = c.args.album.now in
@@ -74,9 +74,9 @@ returns-then-album-at-2 c =
 pub returns : goal.returns
 returns c =
     let album-of : List ℕ = c.args.album.now in
-    let closed : (offsets_agree album-of (count album-of) ≡ true) × (degrees_fit maxDegree album-of (count album-of) ≡ true) × (c.loop-k.at ≡ start_at album-of (count album-of)) = let e : c.loop-k.k ≡ count album-of = omega arith in (
+    let closed : (offsets_agree album-of (count album-of) ≡ true) × (degrees_fit max_degree album-of (count album-of) ≡ true) × (c.loop-k.at ≡ start_at album-of (count album-of)) = let e : c.loop-k.k ≡ count album-of = omega arith in (
       subst (λ (k : ℕ). offsets_agree album-of k ≡ true) e c.loop-k.invariant.6,
-      subst (λ (k : ℕ). degrees_fit maxDegree album-of k ≡ true) e c.loop-k.invariant.7,
+      subst (λ (k : ℕ). degrees_fit max_degree album-of k ≡ true) e c.loop-k.invariant.7,
       subst (λ (k : ℕ). c.loop-k.at ≡ start_at album-of k) e c.loop-k.invariant.4,
     ) in
     let s = c.args.album.now in

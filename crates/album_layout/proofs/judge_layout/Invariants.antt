@@ -7,12 +7,12 @@ use mathlib.Core.Path.{◌≡◌}
 use mathlib.Core.Bool.{true}
 use Prim.Native.Nat.{◌+◌, ◌*◌, ◌-◌, ◌≤◌}
 use lib.ListN.{length}
-use Rattle.refusal.specs.Limits.{maxDegree, max_lists, max_words}
+use Rattle.refusal.specs.Limits.{max_degree, max_lists, max_words}
 use Rattle.album_layout.specs.Layout.{count, entry_at, start_at, offsets_agree, degrees_fit}
 use Rattle.album_layout.proofs.judge_layout.Given as goal
 
 abbrev pub invariant-loop-k : goal.invariant-loop-k
-invariant-loop-k l = (l.k ≤ l.n) × (l.n ≡ count l.album) × (l.n ≤ max_lists) × (entry_at l.n ≤ length l.album) × (l.at ≡ start_at l.album l.k) × (l.at ≤ entry_at max_lists + 2 * max_words * l.k) × (offsets_agree l.album l.k ≡ true) × (degrees_fit maxDegree l.album l.k ≡ true)
+invariant-loop-k l = (l.k ≤ l.n) × (l.n ≡ count l.album) × (l.n ≤ max_lists) × (entry_at l.n ≤ length l.album) × (l.at ≡ start_at l.album l.k) × (l.at ≤ entry_at max_lists + 2 * max_words * l.k) × (offsets_agree l.album l.k ≡ true) × (degrees_fit max_degree l.album l.k ≡ true)
 
 abbrev pub decreases-loop-k : goal.decreases-loop-k
 decreases-loop-k l = l.n - l.k

@@ -8,7 +8,7 @@ use native.Mathlib.Omega.{arith}
 use lib.Dec.{eqb, ltb}
 use lib.ListN.{length}
 use borrow.Author.Tests.{eq-eqb, ne_eqb, lt-ltb, le-ltb}
-use Rattle.refusal.specs.Limits.{maxDegree, maxBytes}
+use Rattle.refusal.specs.Limits.{max_degree, max_bytes}
 use Rattle.refusal.specs.Lowest.{lowest}
 use Rattle.refusal.specs.declared.Refusal.TheVariants.{Length, LooseWord, Misfit}
 use Rattle.refusal.specs.declared.Outcome.{Outcome}
@@ -23,13 +23,13 @@ use Rattle.album_writer.proofs.judge_write.Goals as goal
 
 -- what the last two tests refuse
 abbrev later : (field : ℕ) → (words out : List ℕ) → Outcome
-later field words out = refuse (has_loose (modulus field) words) LooseWord (refuse (ltb (length out) maxBytes) Misfit Done)
+later field words out = refuse (has_loose (modulus field) words) LooseWord (refuse (ltb (length out) max_bytes) Misfit Done)
 
 -- number and degrees are right
 degreed :
     (k : ℕ) (words degrees out : List ℕ)
     → wrong_lists (length degrees) ≡ false
-    → has_high maxDegree degrees ≡ false
+    → has_high max_degree degrees ≡ false
     → lowest (write_rows (modulus k) words degrees out) ≡ refuse (not (eqb (length words) (words_for degrees))) Length (later k words out)
 degreed k words degrees out count low = write-judged _ _ _ _ ∙ simp (count, low)
 
@@ -37,7 +37,7 @@ degreed k words degrees out count low = write-judged _ _ _ _ ∙ simp (count, lo
 summed :
     (k : ℕ) (words degrees out : List ℕ)
     → wrong_lists (length degrees) ≡ false
-    → has_high maxDegree degrees ≡ false
+    → has_high max_degree degrees ≡ false
     → length words ≡ words_for degrees
     → lowest (write_rows (modulus k) words degrees out) ≡ later k words out
 summed k words degrees out count low size = degreed k words degrees out count low ∙ simp (eq-eqb _ _ size)
@@ -76,7 +76,7 @@ returns-then-out-lt-MAX_BYTES c =
     let low = sym c.has_high.ensures ∙ c.if-has_high.false in
     let size = c.if-words-words_for.false ∙ c.words_for.ensures in
     let tight = sym c.has_loose.ensures ∙ c.if-has_loose.false in
-    sym (summed c.args.field _ _ _ count low size ∙ simp (tight, lt-ltb (length c.args.out.now) maxBytes (omega arith)))
+    sym (summed c.args.field _ _ _ count low size ∙ simp (tight, lt-ltb (length c.args.out.now) max_bytes (omega arith)))
 
 pub returns : goal.returns
 returns c =
@@ -84,4 +84,4 @@ returns c =
     let low = sym c.has_high.ensures ∙ c.if-has_high.false in
     let size = c.if-words-words_for.false ∙ c.words_for.ensures in
     let tight = sym c.has_loose.ensures ∙ c.if-has_loose.false in
-    sym (summed c.args.field _ _ _ count low size ∙ simp (tight, le-ltb (length c.args.out.now) maxBytes (omega arith)))
+    sym (summed c.args.field _ _ _ count low size ∙ simp (tight, le-ltb (length c.args.out.now) max_bytes (omega arith)))

@@ -1,0 +1,34 @@
+-- `bind_text::judge_text` meets its contract: the tests stand in the order of the numbers.
+-- Assumes nothing.
+use mathlib.Core.Path.{sym, ◌∙◌}
+use native.Mathlib.Omega.{arith}
+use Rattle.bind_text.proofs.Judged.{text-none, text-many, text-long, text-other, text-wrong, text-done}
+use Rattle.bind_text.proofs.judge_text.Goals as goal
+
+pub returns-then-lists-eq0 : goal.returns-then-lists-eq0
+returns-then-lists-eq0 c = text-none c.args.text.now (omega arith)
+
+pub returns-then-lists-gt-MAX_LISTS : goal.returns-then-lists-gt-MAX_LISTS
+returns-then-lists-gt-MAX_LISTS c = text-many c.args.text.now (omega arith)
+
+pub returns-then-text-gt-MAX_INPUT : goal.returns-then-text-gt-MAX_INPUT
+returns-then-text-gt-MAX_INPUT c = text-long c.args.text.now (omega arith) (omega arith) c.if-text-gt-MAX_INPUT.true
+
+pub returns-then-has_other : goal.returns-then-has_other
+returns-then-has_other c =
+    let text = c.args.text.now in
+    text-other text (omega arith) (omega arith) c.if-text-gt-MAX_INPUT.false (sym c.has_other.ensures ∙ c.if-has_other.true)
+
+pub returns-then-has_wrong_line : goal.returns-then-has_wrong_line
+returns-then-has_wrong_line c =
+    let text = c.args.text.now in
+    let plain = sym c.has_other.ensures ∙ c.if-has_other.false in
+    let wrong = sym c.has_wrong_line.ensures ∙ c.if-has_wrong_line.true in
+    text-wrong text (omega arith) (omega arith) c.if-text-gt-MAX_INPUT.false plain wrong
+
+pub returns : goal.returns
+returns c =
+    let text = c.args.text.now in
+    let plain = sym c.has_other.ensures ∙ c.if-has_other.false in
+    let right = sym c.has_wrong_line.ensures ∙ c.if-has_wrong_line.false in
+    text-done text (omega arith) (omega arith) c.if-text-gt-MAX_INPUT.false plain right

@@ -1,0 +1,10 @@
+-- `list_calls::sum` meets its contract: what its core ensures at field 0, which implies the demands.
+-- Assumes nothing.
+use Rattle.field.specs.Fields.{longest}
+use Rattle.statement.proofs.Demand1.{replies, no-slice, and-slice}
+use Rattle.statement.proofs.Demand2Calls.{sum-so}
+use Rattle.list_calls.proofs.sum.Goals as goal
+
+pub returns : goal.returns
+unfolding longest
+returns c = let core = c.sum_over.ensures in record { answer = core.answer; writes = core.writes; demand1 = replies _ core.answer (and-slice _ core.writes no-slice); demand2 = sum-so _ _ _ core.answer core.writes }

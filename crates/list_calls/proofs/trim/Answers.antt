@@ -1,0 +1,10 @@
+-- `list_calls::trim` meets its contract: what its core ensures at field 0, which implies the demands.
+-- Assumes nothing.
+use Rattle.field.specs.Fields.{longest}
+use Rattle.statement.proofs.Demand1.{replies, no-slice, and-slice}
+use Rattle.statement.proofs.Demand2Calls.{trim-so}
+use Rattle.list_calls.proofs.trim.Goals as goal
+
+pub returns : goal.returns
+unfolding longest
+returns c = let core = c.trim_over.ensures in record { answer = core.answer; writes = core.writes; demand1 = replies _ core.answer (and-slice _ core.writes no-slice); demand2 = trim-so _ _ core.answer core.writes }

@@ -1,0 +1,7 @@
+-- `test_calls::test_sum` meets its contract: what the call ensures, with the number in place of the answer.
+-- Assumes nothing.
+use Rattle.test_calls.proofs.Answers.{counted}
+use Rattle.test_calls.proofs.test_sum.Goals as goal
+
+pub returns : goal.returns
+returns c = let call = c.sum in record { number = counted call.result call.ensures.answer c.outcome_number.ensures; writes = call.ensures.writes }

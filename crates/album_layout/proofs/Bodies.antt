@@ -15,7 +15,7 @@ use Rattle.field.specs.Fields.{modulus}
 use Rattle.lists.specs.Bytes.{Bytes, bytes_of}
 use Rattle.lists.proofs.Bytes.{length-bytes_of}
 use Rattle.album_layout.specs.Layout.{count, degree_at, offset_at, start_at, nth_list}
-use Rattle.album_layout.specs.Calls.{check_refusals, placed, body_of, body_place}
+use Rattle.album_layout.specs.Calls.{check_refusals, body_of, body_place}
 use Rattle.album_layout.specs.Internal.{Obeys, named, body_at, place_at}
 use Rattle.album_layout.proofs.Places.{length-list, body-inside}
 use Rattle.album_layout.proofs.Judged.{call-fine}

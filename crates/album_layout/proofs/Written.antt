@@ -16,7 +16,7 @@ use Rattle.refusal.specs.Limits.{maxDegree, max_lists, max_words, entry_bytes}
 use Rattle.lists.specs.Degrees.{naive_degree}
 use Rattle.lists.proofs.Tabulate.{tabulated}
 use Rattle.lists.specs.Bytes.{Bytes, word_at, words_at, bytes_of}
-use Rattle.lists.proofs.Bytes.{length-bytes_of, low-high, after, word_after, bytes_word, bytes-cons, bytes-two, bytes-words}
+use Rattle.lists.proofs.Bytes.{length-bytes_of, low-high, word_after, bytes_word, bytes-cons, bytes-two, bytes-words}
 use Rattle.album_layout.specs.Layout.{count, entry_at, degree_at, offset_at, start_at, offsets_agree, degrees_fit, wrong_count, broken_layout, nth_list, lists_from, lists_of}
 use Rattle.album_layout.proofs.Places.{start-next, agree-next, fit_next, right-count, right-layout}
 use Rattle.album_layout.specs.Written.{entries_from, bodies_of, album_of, Fits, Writable}

@@ -1,3 +1,2 @@
 // Mathematics only: the definitions stand in specs/, the theorems in proofs/.
 #![tactic(auto)]
-

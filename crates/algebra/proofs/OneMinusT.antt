@@ -17,7 +17,7 @@ use Rattle.algebra.specs.RingLaws.{RING}
 use Rattle.algebra.specs.Series.{SeriesRing, t, tail}
 use Rattle.algebra.proofs.Series.{coeff-mk, ext, coeff-add, coeff-neg, coeff-1_zero, coeff-tail, coeff-C-suc, coeff-t-zero, C-one, coeff-t-mul-zero, coeff-t-mul-suc}
 use Rattle.algebra.specs.Polynomial.{Below, Polynomial, Divides}
-use Rattle.algebra.proofs.Polynomial.{polynomial, polynomial-1, polynomial-mul}
+use Rattle.algebra.proofs.Polynomial.{polynomial-1, polynomial-mul}
 use Rattle.algebra.specs.Evaluation.{eval, ValueAt1}
 use Rattle.algebra.proofs.Evaluation.{eval-zero, eval-suc, eval-one, eval-more, valueAt-⟨1-t⟩, value_at-polynomial}
 use Rattle.algebra.specs.OneMinusT.{⟨1-t⟩, ⟨1-t⟩^}

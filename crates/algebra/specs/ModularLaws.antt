@@ -17,8 +17,7 @@ use Rattle.algebra.specs.RingLaws as R
 use Rattle.algebra.specs.RingLaws.{RING}
 use Rattle.algebra.specs.Prime.{Prime}
 use Rattle.algebra.specs.Modular.{ring-mod, euclid_mod, inverse_mod, residue_mod, value_mod, inverse_in}
-use Rattle.algebra.specs.Residues.{add, mul, neg}
-use Rattle.algebra.specs.ResiduesLaws.{red_eq, red_of, add-red, mul-red, mul_comm, pos_of}
+use Rattle.algebra.specs.ResiduesLaws.{red_eq, red_of, add-red, mul-red, pos_of}
 
 module _ (p : ℕ) (pos : 0 < p) where
   open ring-mod p pos use {Carrier, one as 𝟙, zero as 𝟘, add as ◌⊕◌, mul as ◌⊗◌, neg as ⊖◌}

@@ -5,7 +5,7 @@
 --     rounds-unique     from a pair there is one number of rounds, and one last l
 --     euclid-rounds     they are those of the function euclid
 -- Assumes nothing.
-use Rattle.std.specs.Prelude.{◌≡◌, ℕ, zero, suc}
+use Rattle.std.specs.Prelude.{◌≡◌, ℕ, suc}
 use Rattle.algebra.specs.Ring.{CommRing}
 use Rattle.algebra.specs.Series.{SeriesRing}
 use Rattle.algebra.specs.Polynomial.{Below, Polynomial}

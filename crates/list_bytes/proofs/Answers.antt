@@ -14,7 +14,7 @@ use Rattle.refusal.specs.declared.Refusal.TheVariants.{Length}
 use Rattle.refusal.specs.declared.Outcome.{Outcome}
 use Rattle.refusal.specs.declared.Outcome.TheVariants.{Done, Refused}
 use Rattle.refusal.proofs.Answers.{kept}
-use Rattle.lists.specs.Degrees.{significant, power}
+use Rattle.lists.specs.Degrees.{significant}
 use Rattle.lists.proofs.Extents.{significant-le, power_le}
 use Rattle.euclid_theory.specs.Gcd.{common_power}
 use Rattle.euclid_theory.proofs.Powers.{common_power-le}

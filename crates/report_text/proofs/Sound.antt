@@ -11,14 +11,13 @@ use lib.ListN.{length, get_or, take, get_or-eq_default}
 use lib.Seq.{take_at}
 use Rattle.algebra.specs.PrimeField.{PrimeField}
 use Rattle.refusal.specs.Limits.{max_words}
-use Rattle.refusal.specs.Refusal.{number, reply, written}
+use Rattle.refusal.specs.Refusal.{reply, written}
 use Rattle.refusal.specs.Lowest.{lowest}
 use Rattle.refusal.specs.declared.Refusal.{Refusal}
 use Rattle.refusal.specs.declared.Refusal.TheVariants.{AllZero}
-use Rattle.refusal.specs.declared.Outcome.TheVariants.{Done, Refused}
 use Rattle.lists.specs.declared.NaiveDegree.{NaiveDegree}
 use Rattle.lists.specs.declared.Power.{Power}
-use Rattle.lists.specs.Degrees.{naive_degree, power}
+use Rattle.lists.specs.Degrees.{naive_degree}
 use Rattle.lists.proofs.Extents.{power_le}
 use Rattle.euclid_theory.specs.Gcd.{common_power}
 use Rattle.lists.specs.Padded.{padded}

@@ -13,8 +13,9 @@ use mathlib.Core.List.{List, [], ◌∷◌}
 use Prim.Native.Nat.{ℕ}
 use lib.ListN.{length}
 use Rattle.refusal.specs.Limits.{max_lists}
-use Rattle.refusal.specs.Refusal.{number, outcome_number, Reply, reply, outcome_reply, written}
-use Rattle.refusal.specs.Lowest.{Condition, IsLowest, lowest, lowest-is, or_else}
+use Rattle.refusal.specs.Refusal.{outcome_number, Reply, reply, outcome_reply, written}
+use Rattle.refusal.specs.Lowest.{Condition, IsLowest, lowest, or_else}
+use Rattle.refusal.proofs.Lowest.{lowest-is}
 use Rattle.refusal.specs.declared.Outcome.{Outcome}
 use Rattle.refusal.specs.declared.Outcome.TheVariants.{Done, Refused}
 use Rattle.refusal.proofs.Answers.{number_is}

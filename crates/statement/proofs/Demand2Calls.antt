@@ -20,7 +20,7 @@ use Rattle.refusal.proofs.First.{first-is, refuse-done, or-false}
 use Rattle.field.specs.Field as field
 use Rattle.field.specs.Field.{operand_refusals, inverse_refusals, inverse_of}
 use Rattle.lists.specs.Degrees.{significant, extent}
-use Rattle.lists.specs.Operations.{sum_of, difference_of, evaluate}
+use Rattle.lists.specs.Operations.{evaluate}
 use Rattle.list_product.specs.Calls.{product_answer, product_written, raise_answer, raise_written}
 use Rattle.list_sum.specs.Calls.{sum_answer, sum_written, difference_written}
 use Rattle.list_extent.specs.Calls.{extent_values, extent_rows, extent_answer, trim_answer, trim_written}

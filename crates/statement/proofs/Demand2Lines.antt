@@ -37,7 +37,6 @@ use Rattle.album_layout.specs.Layout.{count, lists_of}
 use Rattle.album_layout.proofs.Places.{length-lists}
 use Rattle.album_layout.proofs.Passed.{passed-each}
 use Rattle.lines.specs.Grammar.{Tree, list, sum, difference, product, derivative}
-use Rattle.lines.specs.Reader.{reads}
 use Rattle.lines.proofs.Lines.{inside_is}
 use Rattle.lines.proofs.Readings.{reading-complete}
 use Rattle.line_values.specs.Values.{Valued, value, refused, both, one, added, subtracted, multiplied, derived, value_of, lacks}

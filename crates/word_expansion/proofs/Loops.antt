@@ -19,7 +19,7 @@ use native.Mathlib.Nat.{mod-lt, le_refl}
 use native.Mathlib.Numerals.{add-one}
 use native.Mathlib.Decide.{dec_lt}
 use native.Mathlib.Omega.{arith}
-use lib.ListN.{length, get_or, take, drop, set, length-take, get_or-append, get_or-eq_default}
+use lib.ListN.{length, get_or, take, drop, set, get_or-append}
 use lib.Seq.{length-take-le, length_front, get_or-take, get_or-drop, get_or-append-add, get_or-set_other}
 use Rattle.lists.specs.Refused.{has_loose}
 use Rattle.lists.proofs.Filled.{Filled, fill_start, fill_step, fill_end}

@@ -12,7 +12,7 @@ use lib.ListN.{length, take, drop, length-drop}
 use lib.Seq.{length-take-le}
 use Rattle.algebra.specs.RingLaws as R
 use Rattle.algebra.specs.Ring.{pow}
-use Rattle.algebra.specs.Series.{C, t}
+use Rattle.algebra.specs.Series.{C}
 use Rattle.algebra.proofs.Series.{C-one}
 use Rattle.algebra.specs.Polynomial.{monomial}
 use Rattle.algebra.specs.PrimeField.{PrimeField, residue}

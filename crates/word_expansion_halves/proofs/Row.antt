@@ -8,7 +8,6 @@
 -- Assumes nothing.
 use mathlib.Core.Path.{◌≡◌, refl, sym, ◌∙◌, ap, ap₂, subst}
 use mathlib.Core.Bool.{Bool, true, false}
-use mathlib.Core.List.{List}
 use Prim.Native.Nat.{ℕ, zero, suc, ◌+◌, ◌-◌, ◌≤◌, ◌<◌}
 use native.Mathlib.Decide.{dec_lt}
 use native.Mathlib.Numerals.{add-one}
@@ -18,7 +17,6 @@ use Rattle.algebra.specs.RingLaws as R
 use Rattle.algebra.specs.Ring.{pow}
 use Rattle.algebra.specs.RingLaws.{RING}
 use Rattle.algebra.proofs.Ring.{pow-zero, pow-suc}
-use Rattle.algebra.specs.Series.{C, t}
 use Rattle.algebra.proofs.Series.{ext, coeff-1_zero, coeff-1_suc, coeff-t-mul-zero, coeff-t-mul-suc}
 use Rattle.algebra.proofs.Choose.{choose-zero, choose-0-suc, pascal}
 use Rattle.algebra.specs.PrimeField.{PrimeField, scalars, residue}

@@ -9,7 +9,6 @@ use native.Mathlib.Decide.{dec_lt}
 use lib.ListN.{get_or-append, get_or-eq_default}
 use Rattle.lists.proofs.Tabulate.{length-tabulate, get_or-tabulate, tabulate-ext}
 use Rattle.lists.specs.Words.{ZeroFrom, Tight}
-use Rattle.lists.proofs.Tight.{tight-at, tight-drop, tight-rest, tight-take}
 use Rattle.word_row.specs.Rows.{row_at, row, row_from}
 
 pub length-row : (p : ℕ) (x : List ℕ) (m : ℕ) (y : List ℕ) → length (row p x m y) ≡ length x

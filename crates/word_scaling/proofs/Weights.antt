@@ -5,7 +5,7 @@
 --     scale-is, unscale-is     what is written where the lengths fit
 --     partly-scaled            what `weigh_partly` writes, times (n-1)! and 2^32: the scaled form of a list of n words
 -- Assumes nothing.
-use Rattle.std.proofs.Common.{◌≡◌, ℕ, zero, ◌+◌, ◌-◌, ◌*◌, ◌%◌, ◌<◌, ◌≤◌, true, cond, List, length, get_or, sym, refl, ap, ◌∙◌, mod-lt, arith, le-leb}
+use Rattle.std.proofs.Common.{◌≡◌, ℕ, ◌+◌, ◌-◌, ◌*◌, ◌%◌, ◌<◌, ◌≤◌, true, cond, List, length, get_or, sym, refl, ap, ◌∙◌, mod-lt, arith, le-leb}
 use Rattle.algebra.specs.RingLaws as R
 use Rattle.algebra.specs.RingLaws.{Ac, RING}
 use Rattle.algebra.proofs.Ring.{mul_left_cancel}

@@ -10,7 +10,7 @@
 --                              of the list of a scaled form
 --     partly-scaled            with the table of inverse factorials, times (n-1)! and 2^32, partly_weighted has the scaled form of a list
 -- Assumes nothing.
-use Rattle.std.specs.Prelude.{ℕ, ◌-◌, ◌*◌, ◌%◌, ◌<◌, Bool, cond, ◌&&◌, List, length, nat_le, slice_index}
+use Rattle.std.specs.Prelude.{ℕ, ◌-◌, ◌*◌, ◌%◌, Bool, cond, ◌&&◌, List, length, nat_le, slice_index}
 use Rattle.lists.specs.Tabulate.{tabulate}
 use Rattle.word_montgomery.specs.Montgomery.{montgomery}
 

@@ -1,10 +1,8 @@
 -- `album_gcd::join_lists` meets its contract. The loop's invariant: `result` holds the result after the lists below k, and the two buffers keep
 -- their length. The measure is the number of lists left.
 -- Assumes nothing.
-use mathlib.Core.Path.{◌≡◌, sym, ◌∙◌}
-use Prim.Native.Nat.{◌≤◌, ◌-◌}
+use mathlib.Core.Path.{sym, ◌∙◌}
 use native.Mathlib.Omega.{arith}
-use lib.ListN.{length}
 use Rattle.field.specs.Fields.{modulus, field_at, longest}
 use Rattle.field.proofs.Fields.{longest-full, longest-room}
 use Rattle.album_layout.specs.Layout.{nth_list, lists_of}
@@ -12,19 +10,18 @@ use Rattle.album_layout.proofs.Places.{length-lists, list_at}
 use Rattle.album_layout.proofs.Passed.{passed-obeys, passed-each}
 use Rattle.album_reader.specs.Internal.{Held}
 use Rattle.album_reader.proofs.Held.{held-take, held-length, held-inside, held-count, held-again, read_held}
-use Rattle.album_gcd.proofs.Folding.{Folding, folding-start, folding-next, folding-end}
+use Rattle.album_gcd.proofs.Folding.{folding-start, folding-next, folding-end}
 use borrow.Author.Rules.{rules}
 use Rattle.album_gcd.proofs.join_lists.Goals as goal
 
 pub loop-k-init : goal.loop-k-init
 unfolding field_at
-loop-k-init c =
-    (
-      search rules,
-      search rules,
-      search rules,
-      rw c.longest_of-least.ensures (folding-start (field_at _) _ _ _ (omega (arith, longest-full c.args.field)) c.requires.list_len.2 c.requires.by_index),
-    )
+loop-k-init c = (
+  search rules,
+  search rules,
+  search rules,
+  rw c.longest_of-least.ensures (folding-start (field_at _) _ _ _ (omega (arith, longest-full c.args.field)) c.requires.list_len.2 c.requires.by_index),
+)
 
 pub slice_bounds-join_list-end : goal.slice_bounds-join_list-end
 slice_bounds-join_list-end c =

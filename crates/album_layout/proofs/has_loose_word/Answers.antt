@@ -1,12 +1,8 @@
 -- `album_layout::has_loose_word` meets its contract. The loop's invariant: p is the field's, and the words from `at` on answer for all lists.
 -- The measure is the number of bytes from `at` on.
 -- Assumes nothing.
-use mathlib.Core.Path.{◌≡◌}
-use Prim.Native.Nat.{◌-◌}
 use native.Mathlib.Omega.{arith}
-use lib.ListN.{length}
-use Rattle.field.specs.Fields.{modulus}
-use Rattle.album_layout.proofs.Loose.{Left, left-start, left_here, left-on, left_end}
+use Rattle.album_layout.proofs.Loose.{left-start, left_here, left-on, left_end}
 use borrow.Author.Rules.{rules}
 use Rattle.album_layout.proofs.has_loose_word.Goals as goal
 

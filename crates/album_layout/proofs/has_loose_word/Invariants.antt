@@ -3,10 +3,9 @@
 -- Assumes nothing.
 use mathlib.Core.Path.{◌≡◌}
 use Prim.Native.Nat.{◌-◌}
-use native.Mathlib.Omega.{arith}
 use lib.ListN.{length}
 use Rattle.field.specs.Fields.{modulus}
-use Rattle.album_layout.proofs.Loose.{Left, left-start, left_here, left-on, left_end}
+use Rattle.album_layout.proofs.Loose.{Left}
 use Rattle.album_layout.proofs.has_loose_word.Given as goal
 
 abbrev pub invariant-loop-at : goal.invariant-loop-at

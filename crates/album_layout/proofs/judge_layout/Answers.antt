@@ -6,12 +6,11 @@
 use mathlib.Core.Path.{◌≡◌, subst}
 use mathlib.Core.Bool.{true}
 use mathlib.Core.List.{List}
-use Prim.Native.Nat.{ℕ, ◌+◌, ◌*◌, ◌-◌, ◌≤◌}
+use Prim.Native.Nat.{ℕ}
 use native.Mathlib.Numerals.{add-one}
 use native.Mathlib.Omega.{arith}
-use lib.ListN.{length}
-use Rattle.refusal.specs.Limits.{maxDegree, max_lists, max_words}
-use Rattle.album_layout.specs.Layout.{count, entry_at, start_at, offsets_agree, degrees_fit}
+use Rattle.refusal.specs.Limits.{maxDegree}
+use Rattle.album_layout.specs.Layout.{count, start_at, offsets_agree, degrees_fit}
 use Rattle.album_layout.proofs.Places.{start-next, start-low, agree-next, fit_next}
 use Rattle.album_layout.proofs.Judged.{layout-empty, layout-none, layout-many, layout-size, layout-place, layout-degree, layout-done}
 use borrow.Author.Rules.{rules}

@@ -3,17 +3,12 @@
 -- at `at`. The measure is the
 -- number of entries left.
 -- Assumes nothing.
-use mathlib.Core.Path.{◌≡◌, subst}
+use mathlib.Core.Path.{◌≡◌}
 use mathlib.Core.Bool.{true}
-use mathlib.Core.List.{List}
-use Prim.Native.Nat.{ℕ, ◌+◌, ◌*◌, ◌-◌, ◌≤◌}
-use native.Mathlib.Numerals.{add-one}
-use native.Mathlib.Omega.{arith}
+use Prim.Native.Nat.{◌+◌, ◌*◌, ◌-◌, ◌≤◌}
 use lib.ListN.{length}
 use Rattle.refusal.specs.Limits.{maxDegree, max_lists, max_words}
 use Rattle.album_layout.specs.Layout.{count, entry_at, start_at, offsets_agree, degrees_fit}
-use Rattle.album_layout.proofs.Places.{start-next, start-low, agree-next, fit_next}
-use Rattle.album_layout.proofs.Judged.{layout-empty, layout-none, layout-many, layout-size, layout-place, layout-degree, layout-done}
 use Rattle.album_layout.proofs.judge_layout.Given as goal
 
 abbrev pub invariant-loop-k : goal.invariant-loop-k

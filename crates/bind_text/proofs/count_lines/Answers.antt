@@ -1,11 +1,9 @@
 -- `bind_text::count_lines` meets its contract. The loop's invariant: the lines so far and those from `at` on are all, and there are no more lines
 -- than bytes. The measure is the number of bytes left.
 -- Assumes nothing.
-use mathlib.Core.Path.{◌≡◌, ap}
-use Prim.Native.Nat.{◌+◌, ◌-◌, ◌≤◌}
+use mathlib.Core.Path.{ap}
 use native.Mathlib.Omega.{arith}
-use lib.ListN.{length, drop}
-use Rattle.bind_text.specs.Text.{lines_of}
+use lib.ListN.{length}
 use Rattle.bind_text.proofs.Lines.{lines_next, lines_none}
 use Rattle.bind_text.proofs.count_lines.Goals as goal
 

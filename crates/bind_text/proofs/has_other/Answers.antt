@@ -1,10 +1,7 @@
 -- `bind_text::has_other` meets its contract. The loop's invariant: the bytes from i on answer for all. The measure is the number of bytes left.
 -- Assumes nothing.
-use mathlib.Core.Path.{◌≡◌, refl, sym, ◌∙◌}
-use Prim.Native.Nat.{◌-◌, ◌≤◌}
+use mathlib.Core.Path.{refl, sym, ◌∙◌}
 use native.Mathlib.Omega.{arith}
-use lib.ListN.{length, drop}
-use Rattle.bind_text.specs.Text.{has_other}
 use Rattle.bind_text.proofs.Others.{others-here, others-on, others-none}
 use borrow.Author.Rules.{rules}
 use Rattle.bind_text.proofs.has_other.Goals as goal

@@ -1,11 +1,9 @@
 -- `bind_text::has_other` meets its contract. The loop's invariant: the bytes from i on answer for all. The measure is the number of bytes left.
 -- Assumes nothing.
-use mathlib.Core.Path.{◌≡◌, refl, sym, ◌∙◌}
+use mathlib.Core.Path.{◌≡◌}
 use Prim.Native.Nat.{◌-◌, ◌≤◌}
-use native.Mathlib.Omega.{arith}
 use lib.ListN.{length, drop}
 use Rattle.bind_text.specs.Text.{has_other}
-use Rattle.bind_text.proofs.Others.{others-here, others-on, others-none}
 use Rattle.bind_text.proofs.has_other.Given as goal
 
 abbrev pub invariant-loop-i : goal.invariant-loop-i

@@ -1,13 +1,8 @@
 -- `bind_text::has_wrong_line` meets its contract. The loop's invariant: the lines from `at` on answer for all. The measure is the number of bytes
 -- left.
 -- Assumes nothing.
-use mathlib.Core.Path.{◌≡◌, refl, sym, ◌∙◌}
-use Prim.Native.Nat.{◌+◌, ◌-◌, ◌≤◌}
+use mathlib.Core.Path.{refl, sym, ◌∙◌}
 use native.Mathlib.Omega.{arith}
-use lib.ListN.{length, drop}
-use Rattle.refusal.specs.Limits.{max_words}
-use Rattle.lists.specs.Refused.{wrong_length, any_of}
-use Rattle.bind_text.specs.Text.{lists_in}
 use Rattle.bind_text.proofs.Lines.{wrong-here, wrong-on, wrong-none}
 use borrow.Author.Rules.{rules}
 use Rattle.bind_text.proofs.has_wrong_line.Goals as goal

@@ -1,14 +1,12 @@
 -- `bind_text::has_wrong_line` meets its contract. The loop's invariant: the lines from `at` on answer for all. The measure is the number of bytes
 -- left.
 -- Assumes nothing.
-use mathlib.Core.Path.{◌≡◌, refl, sym, ◌∙◌}
+use mathlib.Core.Path.{◌≡◌}
 use Prim.Native.Nat.{◌+◌, ◌-◌, ◌≤◌}
-use native.Mathlib.Omega.{arith}
 use lib.ListN.{length, drop}
 use Rattle.refusal.specs.Limits.{max_words}
 use Rattle.lists.specs.Refused.{wrong_length, any_of}
 use Rattle.bind_text.specs.Text.{lists_in}
-use Rattle.bind_text.proofs.Lines.{wrong-here, wrong-on, wrong-none}
 use Rattle.bind_text.proofs.has_wrong_line.Given as goal
 
 abbrev pub invariant-loop-at : goal.invariant-loop-at

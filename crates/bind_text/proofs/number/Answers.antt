@@ -1,12 +1,9 @@
 -- `bind_text::number` meets its contract. The loop's invariant: the value so far, cut off at the largest word, and the digits left say the same as
 -- all digits. The measure is the number of digits left.
 -- Assumes nothing.
-use mathlib.Core.Path.{◌≡◌, refl, ◌∙◌}
-use Prim.Native.Nat.{◌-◌, ◌≤◌}
+use mathlib.Core.Path.{refl, ◌∙◌}
 use native.Mathlib.Omega.{arith}
-use lib.ListN.{length, drop}
-use Rattle.bind_text.specs.Text.{value_from, value_of}
-use Rattle.bind_text.specs.Internal.{capped}
+use Rattle.bind_text.specs.Text.{value_of}
 use Rattle.bind_text.proofs.Numbers.{number-next, number-end}
 use borrow.Author.Rules.{rules}
 use Rattle.bind_text.proofs.number.Goals as goal

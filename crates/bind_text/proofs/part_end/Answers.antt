@@ -1,11 +1,7 @@
 -- `bind_text::part_end` meets its contract. The loop's invariant: as many bytes before the next b as there are from `end` on. The measure is the
 -- number of bytes left.
 -- Assumes nothing.
-use mathlib.Core.Path.{◌≡◌}
-use Prim.Native.Nat.{◌+◌, ◌-◌, ◌≤◌}
 use native.Mathlib.Omega.{arith}
-use lib.ListN.{length, drop}
-use Rattle.bind_text.specs.Internal.{before}
 use Rattle.bind_text.proofs.Parts.{before_here, before_on, before-none}
 use Rattle.bind_text.proofs.part_end.Goals as goal
 

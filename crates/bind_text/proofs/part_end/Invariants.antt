@@ -3,10 +3,8 @@
 -- Assumes nothing.
 use mathlib.Core.Path.{◌≡◌}
 use Prim.Native.Nat.{◌+◌, ◌-◌, ◌≤◌}
-use native.Mathlib.Omega.{arith}
 use lib.ListN.{length, drop}
 use Rattle.bind_text.specs.Internal.{before}
-use Rattle.bind_text.proofs.Parts.{before_here, before_on, before-none}
 use Rattle.bind_text.proofs.part_end.Given as goal
 
 abbrev pub invariant-loop-end : goal.invariant-loop-end

@@ -1,12 +1,10 @@
 -- `bind_text::read_line` meets its contract. The loop's invariant: the words before `at` are read, and there is room for those left. The measure is
 -- the number of bytes left.
 -- Assumes nothing.
-use mathlib.Core.Path.{◌≡◌}
-use mathlib.Core.Logic.{⊎_elim}
-use Prim.Native.Nat.{◌+◌, ◌-◌, ◌≤◌, ◌<◌}
+use Prim.Native.Nat.{◌<◌}
 use native.Mathlib.Omega.{arith}
 use lib.ListN.{length, length-set}
-use Rattle.bind_text.proofs.Reading.{Read, read-start, read-room, read_word, read-gap, read-end}
+use Rattle.bind_text.proofs.Reading.{read-start, read-room, read_word, read-gap, read-end}
 use borrow.Author.Rules.{rules}
 use Rattle.bind_text.proofs.read_line.Goals as goal
 use Rattle.bind_text.proofs.read_line.Goals.{then-at-end, else-at-end}
@@ -30,8 +28,8 @@ loop-at-preserved c =
     let read = c.loop-at.invariant.2 in
     let ended = c.part_end-end.ensures in
     elim c.if-at-end.branch [
-      then-at-end w ↦
-        (omega arith, rw w.out-is (simp length-set (omega arith)), rw (w.out-is, w.n-is) (read_word read ended w.if-at-end.true w.number.ensures))
+      | then-at-end w ↦
+          (omega arith, rw w.out-is (simp length-set (omega arith)), rw (w.out-is, w.n-is) (read_word read ended w.if-at-end.true w.number.ensures))
       | else-at-end w ↦ (omega arith, rw w.out-is (omega arith), rw (w.out-is, w.n-is) (read-gap read ended c.loop-at-test.true w.if-at-end.false))
     ]
 

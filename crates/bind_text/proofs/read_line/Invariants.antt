@@ -2,11 +2,9 @@
 -- the number of bytes left.
 -- Assumes nothing.
 use mathlib.Core.Path.{◌≡◌}
-use mathlib.Core.Logic.{⊎_elim}
-use Prim.Native.Nat.{◌+◌, ◌-◌, ◌≤◌, ◌<◌}
-use native.Mathlib.Omega.{arith}
-use lib.ListN.{length, length-set}
-use Rattle.bind_text.proofs.Reading.{Read, read-start, read-room, read_word, read-gap, read-end}
+use Prim.Native.Nat.{◌+◌, ◌-◌, ◌≤◌}
+use lib.ListN.{length}
+use Rattle.bind_text.proofs.Reading.{Read}
 use Rattle.bind_text.proofs.read_line.Given as goal
 
 abbrev pub invariant-loop-at : goal.invariant-loop-at

@@ -1,12 +1,9 @@
 -- `bind_text::read_lines` meets its contract. The loop's invariant: the lines before `at` are read, `used` words and k degrees. The measure is the
 -- number of bytes left.
 -- Assumes nothing.
-use mathlib.Core.Path.{◌≡◌}
-use Prim.Native.Nat.{◌+◌, ◌-◌, ◌*◌, ◌≤◌}
 use native.Mathlib.Omega.{arith}
-use lib.ListN.{length, length-take, length-drop, length-set}
-use Rattle.refusal.specs.Limits.{max_lists, max_words}
-use Rattle.bind_text.proofs.Reading.{Partway, Turn, partway_start, turn, partway-next, partway_end}
+use lib.ListN.{length-take, length-drop, length-set}
+use Rattle.bind_text.proofs.Reading.{Turn, partway_start, turn, partway-next, partway_end}
 use borrow.Author.Rules.{rules}
 use Rattle.bind_text.proofs.read_lines.Goals as goal
 

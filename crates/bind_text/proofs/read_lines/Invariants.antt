@@ -3,10 +3,9 @@
 -- Assumes nothing.
 use mathlib.Core.Path.{◌≡◌}
 use Prim.Native.Nat.{◌+◌, ◌-◌, ◌*◌, ◌≤◌}
-use native.Mathlib.Omega.{arith}
-use lib.ListN.{length, length-take, length-drop, length-set}
+use lib.ListN.{length}
 use Rattle.refusal.specs.Limits.{max_lists, max_words}
-use Rattle.bind_text.proofs.Reading.{Partway, Turn, partway_start, turn, partway-next, partway_end}
+use Rattle.bind_text.proofs.Reading.{Partway}
 use Rattle.bind_text.proofs.read_lines.Given as goal
 
 abbrev pub invariant-loop-at : goal.invariant-loop-at

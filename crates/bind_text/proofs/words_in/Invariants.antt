@@ -1,13 +1,10 @@
 -- `bind_text::words_in` meets its contract. The loop's invariant: the words so far and those from `at` on are all, and there are no more words
 -- than bytes. The measure is the number of bytes left.
 -- Assumes nothing.
-use mathlib.Core.Path.{◌≡◌, ap}
-use mathlib.Core.Logic.{⊎_elim}
+use mathlib.Core.Path.{◌≡◌}
 use Prim.Native.Nat.{◌+◌, ◌-◌, ◌≤◌}
-use native.Mathlib.Omega.{arith}
 use lib.ListN.{length, drop}
 use Rattle.bind_text.specs.Text.{list_of}
-use Rattle.bind_text.proofs.Lines.{list-word, list-gap, list-none}
 use Rattle.bind_text.proofs.words_in.Given as goal
 
 abbrev pub invariant-loop-at : goal.invariant-loop-at

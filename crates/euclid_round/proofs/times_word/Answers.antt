@@ -2,13 +2,13 @@
 -- how many are left.
 -- Assumes nothing.
 use mathlib.Core.Path.{◌∙◌, ap}
-use Prim.Native.Nat.{◌-◌, ◌*◌, ◌%◌}
+use Prim.Native.Nat.{◌*◌, ◌%◌}
 use native.Mathlib.Nat.{not-suc-le-zero}
 use native.Mathlib.Omega.{arith}
-use lib.ListN.{length, get_or, length-set}
+use lib.ListN.{length-set}
 use Rattle.field.specs.Fields.{modulus}
 use Rattle.euclid_round.specs.Round.{multiplied}
-use Rattle.euclid_round.proofs.Partway.{Partway, start, next, finish}
+use Rattle.euclid_round.proofs.Partway.{start, next, finish}
 use borrow.Author.Rules.{rules}
 use Rattle.euclid_round.proofs.times_word.Goals as goal
 

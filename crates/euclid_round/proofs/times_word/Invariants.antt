@@ -1,14 +1,10 @@
 -- `euclid_round::times_word` meets its contract. The loop's invariant: the words below i are multiplied, and the rest is as it was. The measure is
 -- how many are left.
 -- Assumes nothing.
-use mathlib.Core.Path.{◌∙◌, ap}
 use Prim.Native.Nat.{◌-◌, ◌*◌, ◌%◌}
-use native.Mathlib.Nat.{not-suc-le-zero}
-use native.Mathlib.Omega.{arith}
-use lib.ListN.{length, get_or, length-set}
+use lib.ListN.{length, get_or}
 use Rattle.field.specs.Fields.{modulus}
-use Rattle.euclid_round.specs.Round.{multiplied}
-use Rattle.euclid_round.proofs.Partway.{Partway, start, next, finish}
+use Rattle.euclid_round.proofs.Partway.{Partway}
 use Rattle.euclid_round.proofs.times_word.Given as goal
 
 abbrev pub invariant-loop-i : goal.invariant-loop-i

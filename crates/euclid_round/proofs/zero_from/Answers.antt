@@ -1,12 +1,11 @@
 -- `euclid_round::zero_from` meets its contract. The loop's invariant: the words from `from` to i are 0, and the rest is as it was. The measure is
 -- how many words are left.
 -- Assumes nothing.
-use Prim.Native.Nat.{◌-◌, ◌≤◌}
 use native.Mathlib.Omega.{arith}
-use lib.ListN.{length, length-set}
+use lib.ListN.{length-set}
 use Rattle.euclid_round.specs.Round.{zeroed_from}
-use Rattle.euclid_round.proofs.Partway.{Partway, start, next, finish}
-use Rattle.euclid_round.proofs.Written.{kept, kept_low, kept_high}
+use Rattle.euclid_round.proofs.Partway.{start, next, finish}
+use Rattle.euclid_round.proofs.Written.{kept_low, kept_high}
 use borrow.Author.Rules.{rules}
 use Rattle.euclid_round.proofs.zero_from.Goals as goal
 

@@ -2,11 +2,9 @@
 -- how many words are left.
 -- Assumes nothing.
 use Prim.Native.Nat.{◌-◌, ◌≤◌}
-use native.Mathlib.Omega.{arith}
-use lib.ListN.{length, length-set}
-use Rattle.euclid_round.specs.Round.{zeroed_from}
-use Rattle.euclid_round.proofs.Partway.{Partway, start, next, finish}
-use Rattle.euclid_round.proofs.Written.{kept, kept_low, kept_high}
+use lib.ListN.{length}
+use Rattle.euclid_round.proofs.Partway.{Partway}
+use Rattle.euclid_round.proofs.Written.{kept}
 use Rattle.euclid_round.proofs.zero_from.Given as goal
 
 abbrev pub invariant-loop-i : goal.invariant-loop-i

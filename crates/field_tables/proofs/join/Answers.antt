@@ -2,9 +2,9 @@
 -- Assumes nothing.
 use mathlib.Core.Path.{◌≡◌, ap, ◌∙◌}
 use native.Mathlib.Omega.{arith}
-use lib.ListN.{length, take, drop, length-take, length-drop}
+use lib.ListN.{length, take, length-take, length-drop}
 use Rattle.words.proofs.Transfer.{copied-fit}
-use Rattle.field_tables.proofs.Fronts.{fronted, length-fronted, join-parts}
+use Rattle.field_tables.proofs.Fronts.{length-fronted, join-parts}
 use Rattle.field_tables.proofs.join.Goals as goal
 
 pub slice_bounds-copy-end-2 : goal.slice_bounds-copy-end-2

@@ -1,11 +1,7 @@
 -- `line_text::line_end` meets its contract. The loop's invariant: the line from i on ends where the line ends. The measure is the number of bytes
 -- left.
 -- Assumes nothing.
-use mathlib.Core.Path.{◌≡◌}
-use Prim.Native.Nat.{◌+◌, ◌-◌, ◌≤◌}
 use native.Mathlib.Omega.{arith}
-use lib.ListN.{length, drop}
-use Rattle.line_text.specs.Calls.{line_of}
 use Rattle.line_text.proofs.Parts.{ends-here, ends_on, ends-none}
 use borrow.Author.Rules.{rules}
 use Rattle.line_text.proofs.line_end.Goals as goal

@@ -26,8 +26,8 @@ returns-in-Done c =
       says = c.divide_over-answer.ensures.answer;
     } in
     let fits = division-fits called c.in-Done.is in value_and_q_after_and_r_after (
-      division-done called c.in-Done.is (field_at _) c.divide_over-answer.ensures.quotient c.divide_over-answer.ensures.remainder
-      (c.write_words.ensures ∙ bytes_fit _ _ (omega (arith, fits.0))) (c.write_words-in-Done.ensures ∙ bytes_fit _ _ (omega (arith, fits.1)))
+    division-done called c.in-Done.is (field_at _) c.divide_over-answer.ensures.quotient c.divide_over-answer.ensures.remainder
+    (c.write_words.ensures ∙ bytes_fit _ _ (omega (arith, fits.0))) (c.write_words-in-Done.ensures ∙ bytes_fit _ _ (omega (arith, fits.1)))
     )
 
 pub returns-in-Refused : goal.returns-in-Refused

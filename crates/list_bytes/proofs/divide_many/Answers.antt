@@ -32,9 +32,12 @@ slice_bounds-divide_in-end-4 c = sym (prefix-length _ max_words _ refl (omega ar
 pub divide_in-requires : goal.divide_in-requires
 unfolding word_count
 divide_in-requires c =
-    record { g_value = c.requires.g_value; a_len = (
+    record {
+      g_value = c.requires.g_value;
+      a_len = (
         prefix-length _ max_words _ refl (omega arith),
         prefix-length _ max_words _ refl (omega arith),
         prefix-length _ max_words _ refl (omega arith) ∙ c.requires.k_value.0,
         prefix-length _ max_words _ refl (omega arith) ∙ c.requires.k_value.1,
-      ) }
+      );
+    }

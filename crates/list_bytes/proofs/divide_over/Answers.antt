@@ -9,16 +9,16 @@ use Rattle.list_bytes.proofs.divide_over.Goals as goal
 pub returns-then-bad_list : goal.returns-then-bad_list
 returns-then-bad_list c =
     answer_and_quotient_and_remainder (
-      bad-answers (division-bad _ _ _ _ _ _ (first-bad _ c.bad_list.ensures c.if-bad_list.true))
-      c.number_of.ensures _ _ _ _
+    bad-answers (division-bad _ _ _ _ _ _ (first-bad _ c.bad_list.ensures c.if-bad_list.true))
+    c.number_of.ensures _ _ _ _
     )
 
 pub returns-then-bad_list-2 : goal.returns-then-bad_list-2
 returns-then-bad_list-2 c =
     answer_and_quotient_and_remainder (
-      bad-answers
-      (division-bad _ _ _ _ _ _ (second-bad (bad_list _ c.args.g.now) c.bad_list-2.ensures c.if-bad_list-2.true))
-      c.number_of-then-bad_list-2.ensures _ _ _ _
+    bad-answers
+    (division-bad _ _ _ _ _ _ (second-bad (bad_list _ c.args.g.now) c.bad_list-2.ensures c.if-bad_list-2.true))
+    c.number_of-then-bad_list-2.ensures _ _ _ _
     )
 
 pub divide_lists-requires : goal.divide_lists-requires

@@ -29,8 +29,11 @@ slice_bounds-gcd_in-end-3 c = sym (gcd-room-part (longest c.args.field) _ _ _ c.
 pub gcd_in-requires : goal.gcd_in-requires
 unfolding word_count
 gcd_in-requires c =
-    record { f_value = c.requires; a_len = (
-    list-part (longest c.args.field) _ _ c.requires.0 refl (longest-room c.args.field),
-    list-part (longest c.args.field) _ _ c.requires.1 refl (longest-room c.args.field),
-    gcd-room-part (longest c.args.field) _ _ _ c.gcd_room-k.ensures refl (longest-room c.args.field) ∙ c.gcd_room-k.ensures,
-  ) }
+    record {
+      f_value = c.requires;
+      a_len = (
+        list-part (longest c.args.field) _ _ c.requires.0 refl (longest-room c.args.field),
+        list-part (longest c.args.field) _ _ c.requires.1 refl (longest-room c.args.field),
+        gcd-room-part (longest c.args.field) _ _ _ c.gcd_room-k.ensures refl (longest-room c.args.field) ∙ c.gcd_room-k.ensures,
+      );
+    }

@@ -11,16 +11,16 @@ answer_and_writes_and_values (a, (b, c)) = record { answer = a; writes = b; valu
 pub returns-then-bad_list : goal.returns-then-bad_list
 returns-then-bad_list c =
     answer_and_writes_and_values (
-      bad-answers (gcd-bad _ _ _ _ _ _ (first-bad _ c.bad_list.ensures c.if-bad_list.true))
-      c.number_of.ensures _ _ _ _
+    bad-answers (gcd-bad _ _ _ _ _ _ (first-bad _ c.bad_list.ensures c.if-bad_list.true))
+    c.number_of.ensures _ _ _ _
     )
 
 pub returns-then-bad_list-2 : goal.returns-then-bad_list-2
 returns-then-bad_list-2 c =
     answer_and_writes_and_values (
-      bad-answers
-      (gcd-bad _ _ _ _ _ _ (second-bad (bad_list _ c.args.f.now) c.bad_list-2.ensures c.if-bad_list-2.true))
-      c.number_of-then-bad_list-2.ensures _ _ _ _
+    bad-answers
+    (gcd-bad _ _ _ _ _ _ (second-bad (bad_list _ c.args.f.now) c.bad_list-2.ensures c.if-bad_list-2.true))
+    c.number_of-then-bad_list-2.ensures _ _ _ _
     )
 
 pub gcd_lists-requires : goal.gcd_lists-requires

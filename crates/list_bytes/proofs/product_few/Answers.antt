@@ -29,8 +29,11 @@ slice_bounds-product_in-end-3 c = sym (prefix-length _ few_words _ refl (omega a
 pub product_in-requires : goal.product_in-requires
 unfolding word_count
 product_in-requires c =
-    record { f_value = c.requires.f_value; a_len = (
+    record {
+      f_value = c.requires.f_value;
+      a_len = (
         prefix-length _ few_words _ refl (omega arith),
         prefix-length _ few_words _ refl (omega arith),
         prefix-length _ few_words _ refl (omega arith) ∙ c.requires.f_bound.3,
-      ) }
+      );
+    }

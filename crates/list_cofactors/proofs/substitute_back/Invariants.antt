@@ -1,13 +1,10 @@
 -- `list_cofactors::substitute_back` meets its contract. The loop's invariant: s and t are the cofactors of the pair to which the quotients that
 -- are left have led. The measure is the number of words that are left.
 -- Assumes nothing.
-use mathlib.Core.Path.{sym, ◌∙◌}
-use Prim.Native.Nat.{◌+◌, ◌-◌, ◌≤◌, ◌<◌}
-use native.Mathlib.Omega.{arith}
+use Prim.Native.Nat.{◌≤◌}
 use lib.ListN.{length, take}
 use Rattle.field.specs.Fields.{field_at}
-use Rattle.list_cofactors.specs.Internal.{last_count}
-use Rattle.list_cofactors.proofs.Back.{Back, back_start, step_fits, back-tight, back-round, back_end}
+use Rattle.list_cofactors.proofs.Back.{Back}
 use Rattle.list_cofactors.proofs.substitute_back.Given as goal
 
 abbrev pub invariant-loop-at : goal.invariant-loop-at

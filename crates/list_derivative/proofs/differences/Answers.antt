@@ -1,13 +1,10 @@
 -- `list_derivative::differences` meets its contract. The loop's invariant: the words below k are written. The measure is the number of words left.
 -- Assumes nothing.
-use mathlib.Core.Path.{◌≡◌}
-use Prim.Native.Nat.{◌≤◌, ◌-◌}
 use native.Mathlib.Omega.{arith}
 use lib.ListN.{length, length-set}
 use Rattle.field.specs.Fields.{field_at}
 use Rattle.field.proofs.Fields.{p-at, longest-room}
-use Rattle.lists.specs.Operations.{derivative}
-use Rattle.lists.proofs.Filled.{Filled, fill_start, fill_step, fill_end}
+use Rattle.lists.proofs.Filled.{fill_start, fill_step, fill_end}
 use Rattle.list_derivative.proofs.Derived.{length-is, word-is}
 use borrow.Author.Rules.{rules}
 use Rattle.list_derivative.proofs.differences.Goals as goal

@@ -2,13 +2,10 @@
 -- Assumes nothing.
 use mathlib.Core.Path.{◌≡◌}
 use Prim.Native.Nat.{◌≤◌, ◌-◌}
-use native.Mathlib.Omega.{arith}
-use lib.ListN.{length, length-set}
+use lib.ListN.{length}
 use Rattle.field.specs.Fields.{field_at}
-use Rattle.field.proofs.Fields.{p-at, longest-room}
 use Rattle.lists.specs.Operations.{derivative}
-use Rattle.lists.proofs.Filled.{Filled, fill_start, fill_step, fill_end}
-use Rattle.list_derivative.proofs.Derived.{length-is, word-is}
+use Rattle.lists.proofs.Filled.{Filled}
 use Rattle.list_derivative.proofs.differences.Given as goal
 
 abbrev pub invariant-loop-k : goal.invariant-loop-k

@@ -1,16 +1,12 @@
 -- `list_gcd::all_rounds` meets its contract. The loop's invariant: the rounds have led from the first buffers to these, whose numbers of
 -- significant words are nx and ny, and the words for quotients are enough for the rounds that are left. The measure is ny.
 -- Assumes nothing.
-use mathlib.Core.Path.{◌≡◌, refl, sym, ◌∙◌}
+use mathlib.Core.Path.{◌≡◌}
 use Prim.Native.Nat.{max, ◌+◌, ◌*◌, ◌≤◌}
-use native.Mathlib.Omega.{arith}
 use lib.ListN.{length, take}
 use Rattle.field.specs.Fields.{field_at}
 use Rattle.lists.specs.Degrees.{significant}
-use Rattle.lists.proofs.Extents.{significant-le}
 use Rattle.list_gcd.specs.Internal.{Led}
-use Rattle.list_gcd.proofs.Alternating.{LedOn, led-start, led_on, led-end}
-use Rattle.list_gcd.proofs.Finish.{buffer-as}
 use Rattle.list_gcd.proofs.all_rounds.Given as goal
 
 abbrev pub invariant-loop-ny : goal.invariant-loop-ny

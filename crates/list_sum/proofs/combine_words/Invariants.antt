@@ -2,13 +2,10 @@
 -- Assumes nothing.
 use mathlib.Core.Path.{◌≡◌}
 use Prim.Native.Nat.{◌≤◌, ◌-◌}
-use native.Mathlib.Omega.{arith}
-use lib.ListN.{length, length-set}
+use lib.ListN.{length}
 use Rattle.field.specs.Fields.{field_at}
-use Rattle.field.proofs.Fields.{p-at}
-use Rattle.lists.proofs.Filled.{Filled, fill_start, fill_step, fill_end}
+use Rattle.lists.proofs.Filled.{Filled}
 use Rattle.list_sum.specs.Internal.{combined_words}
-use Rattle.list_sum.proofs.Sums.{combined-word, length-combined_words}
 use Rattle.list_sum.proofs.combine_words.Given as goal
 
 abbrev pub invariant-loop-k : goal.invariant-loop-k

@@ -1,14 +1,13 @@
 -- `list_value::fill_powers` meets its contract. The loop's invariant: the words below j are written, and `power` is x^j. The measure is how
 -- many words are not written.
 -- Assumes nothing.
-use mathlib.Core.Path.{◌≡◌, sym, ap, ◌∙◌}
-use Prim.Native.Nat.{◌≤◌, ◌-◌}
+use mathlib.Core.Path.{sym, ap, ◌∙◌}
 use native.Mathlib.Omega.{arith}
 use lib.ListN.{length, length-set}
 use Rattle.field.specs.Fields.{field_at}
 use Rattle.field.proofs.Fields.{p-at, modulus-half}
-use Rattle.lists.proofs.Filled.{Filled, fill_start, fill_step, fill_end}
-use Rattle.list_value.specs.Internal.{power_of, powers_of}
+use Rattle.lists.proofs.Filled.{fill_start, fill_step, fill_end}
+use Rattle.list_value.specs.Internal.{power_of}
 use Rattle.list_value.proofs.Weights.{length-powers, word-powers, power-start, power-next}
 use borrow.Author.Rules.{rules}
 use Rattle.list_value.proofs.fill_powers.Goals as goal

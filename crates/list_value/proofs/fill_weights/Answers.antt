@@ -1,12 +1,10 @@
 -- `list_value::fill_weights` meets its contract. The loop's invariant: the words below j are written. The measure is n - j.
 -- Assumes nothing.
-use mathlib.Core.Path.{◌≡◌, sym, ◌∙◌}
-use Prim.Native.Nat.{◌≤◌, ◌-◌}
+use mathlib.Core.Path.{sym, ◌∙◌}
 use native.Mathlib.Omega.{arith}
 use lib.ListN.{length, length-set}
 use Rattle.field.specs.Fields.{modulus}
-use Rattle.lists.proofs.Filled.{Filled, fill_start, fill_step, fill_end}
-use Rattle.list_value.specs.Internal.{weights_of}
+use Rattle.lists.proofs.Filled.{fill_start, fill_step, fill_end}
 use Rattle.list_value.proofs.Weights.{length-weights, word-weights}
 use borrow.Author.Rules.{rules}
 use Rattle.list_value.proofs.fill_weights.Goals as goal

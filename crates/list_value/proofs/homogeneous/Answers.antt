@@ -1,13 +1,9 @@
 -- `list_value::homogeneous` meets its contract. The loop's invariant: `sum` stands for the sum of the first k terms, as if the list had k
 -- words, and `power` for x^k, both times c. The measure is how many words are left.
 -- Assumes nothing.
-use Prim.Native.Nat.{◌≤◌, ◌-◌}
 use native.Mathlib.Omega.{arith}
-use lib.ListN.{length}
 use Rattle.field.specs.Fields.{field_at}
 use Rattle.field.proofs.Fields.{p-at}
-use Rattle.lists.specs.Lists.{word}
-use Rattle.list_value.specs.Internal.{Terms}
 use Rattle.list_value.proofs.Values.{word_next, terms-end}
 use borrow.Author.Rules.{rules}
 use Rattle.list_value.proofs.homogeneous.Goals as goal

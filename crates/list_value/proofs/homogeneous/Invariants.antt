@@ -2,13 +2,10 @@
 -- words, and `power` for x^k, both times c. The measure is how many words are left.
 -- Assumes nothing.
 use Prim.Native.Nat.{◌≤◌, ◌-◌}
-use native.Mathlib.Omega.{arith}
 use lib.ListN.{length}
 use Rattle.field.specs.Fields.{field_at}
-use Rattle.field.proofs.Fields.{p-at}
 use Rattle.lists.specs.Lists.{word}
 use Rattle.list_value.specs.Internal.{Terms}
-use Rattle.list_value.proofs.Values.{word_next, terms-end}
 use Rattle.list_value.proofs.homogeneous.Given as goal
 
 abbrev pub invariant-loop-k : goal.invariant-loop-k

@@ -1,15 +1,11 @@
 -- `list_value::sum_groups` meets its contract. The loop's invariant: `sum` stands for the sum over the first i groups, as if there were i,
 -- and `power` for x^i, both times c. The measure is n - i.
 -- Assumes nothing.
-use mathlib.Core.Path.{◌≡◌, subst}
+use mathlib.Core.Path.{◌≡◌}
 use Prim.Native.Nat.{◌≤◌, ◌-◌, ◌/◌}
-use native.Mathlib.Omega.{arith}
 use lib.ListN.{length}
 use Rattle.field.specs.Fields.{field_at}
-use Rattle.field.proofs.Fields.{p-at}
 use Rattle.list_value.specs.Internal.{groups, Terms}
-use Rattle.list_value.proofs.Values.{terms-start, terms-next}
-use Rattle.list_value.proofs.Groups.{group-sum}
 use Rattle.list_value.proofs.sum_groups.Given as goal
 
 abbrev pub invariant-loop-i : goal.invariant-loop-i

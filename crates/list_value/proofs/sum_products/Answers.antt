@@ -1,11 +1,9 @@
 -- `list_value::sum_products` meets its contract. The loop's invariant: `sum` has the first j products, and is at most j times the largest.
 -- The measure is how many products are left.
 -- Assumes nothing.
-use mathlib.Core.Path.{◌≡◌, sym, ap, ◌∙◌}
-use Prim.Native.Nat.{◌*◌, ◌≤◌, ◌-◌}
+use mathlib.Core.Path.{sym, ap, ◌∙◌}
 use native.Mathlib.Omega.{arith}
-use lib.ListN.{length}
-use Rattle.list_value.specs.Internal.{most_of_product, products_of}
+use Rattle.list_value.specs.Internal.{products_of}
 use Rattle.list_value.proofs.Products.{products-none, products-next}
 use borrow.Author.Rules.{rules}
 use Rattle.list_value.proofs.sum_products.Goals as goal

@@ -1,14 +1,10 @@
 -- `lists::has_loose` meets its contract. The loop's invariant: the largest word so far and what is left of the list answer for the whole.
 -- The measure is how many words are left.
 -- Assumes nothing.
-use mathlib.Core.Path.{◌≡◌, sym, ◌∙◌}
-use Prim.Native.Nat.{◌-◌, ◌≤◌}
+use mathlib.Core.Path.{sym, ◌∙◌}
 use native.Mathlib.Omega.{arith}
-use lib.ListN.{length}
-use Rattle.field.specs.Fields.{modulus}
 use Rattle.field.proofs.Fields.{modulus-some}
-use Rattle.lists.specs.Refused.{has_loose}
-use Rattle.lists.proofs.Largest.{loose_from, loose-start, loose-larger, loose-smaller, loose-end}
+use Rattle.lists.proofs.Largest.{loose-start, loose-larger, loose-smaller, loose-end}
 use borrow.Author.Rules.{rules}
 use Rattle.lists.proofs.has_loose.Goals as goal
 use Rattle.lists.proofs.has_loose.Goals.{then-largest-word, else-largest-word}
@@ -21,7 +17,7 @@ loop-i-preserved c =
     let list = c.args.list.now in
     let loop = c.loop-i in
     elim c.if-largest-word.branch [
-      then-largest-word g ↦ (search rules, loop.invariant.1 ∙ loose-larger _ list loop.largest loop.i (omega arith) (omega arith) g.largest-is)
+      | then-largest-word g ↦ (search rules, loop.invariant.1 ∙ loose-larger _ list loop.largest loop.i (omega arith) (omega arith) g.largest-is)
       | else-largest-word g ↦ (search rules, loop.invariant.1 ∙ loose-smaller _ list loop.largest loop.i (omega arith) (omega arith) g.largest-is)
     ]
 

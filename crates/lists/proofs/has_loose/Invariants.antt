@@ -1,15 +1,12 @@
 -- `lists::has_loose` meets its contract. The loop's invariant: the largest word so far and what is left of the list answer for the whole.
 -- The measure is how many words are left.
 -- Assumes nothing.
-use mathlib.Core.Path.{◌≡◌, sym, ◌∙◌}
-use mathlib.Core.Logic.{⊎_elim}
+use mathlib.Core.Path.{◌≡◌}
 use Prim.Native.Nat.{◌-◌, ◌≤◌}
-use native.Mathlib.Omega.{arith}
 use lib.ListN.{length}
 use Rattle.field.specs.Fields.{modulus}
-use Rattle.field.proofs.Fields.{modulus-some}
 use Rattle.lists.specs.Refused.{has_loose}
-use Rattle.lists.proofs.Largest.{loose_from, loose-start, loose-larger, loose-smaller, loose-end}
+use Rattle.lists.proofs.Largest.{loose_from}
 use Rattle.lists.proofs.has_loose.Given as goal
 
 abbrev pub invariant-loop-i : goal.invariant-loop-i

@@ -1,10 +1,8 @@
 -- `lists::search_from_top` meets its contract. The loop's invariant: the first n words answer for the whole, and the others have been
 -- read. The measure is n.
 -- Assumes nothing.
-use mathlib.Core.Path.{◌≡◌, refl, sym, ◌∙◌}
-use Prim.Native.Nat.{◌+◌}
-use lib.ListN.{length}
-use Rattle.lists.specs.Degrees.{significant_in, significant}
+use mathlib.Core.Path.{refl, sym, ◌∙◌}
+use Rattle.lists.specs.Degrees.{significant}
 use Rattle.lists.proofs.Extents.{searched-zero}
 use Rattle.lists.proofs.Search.{significant-here, significant-on, significant-none, searched-here}
 use native.Mathlib.Omega.{arith}

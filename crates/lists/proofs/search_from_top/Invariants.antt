@@ -1,13 +1,10 @@
 -- `lists::search_from_top` meets its contract. The loop's invariant: the first n words answer for the whole, and the others have been
 -- read. The measure is n.
 -- Assumes nothing.
-use mathlib.Core.Path.{◌≡◌, refl, sym, ◌∙◌}
+use mathlib.Core.Path.{◌≡◌}
 use Prim.Native.Nat.{◌+◌}
 use lib.ListN.{length}
 use Rattle.lists.specs.Degrees.{significant_in, significant}
-use Rattle.lists.proofs.Extents.{searched-zero}
-use Rattle.lists.proofs.Search.{significant-here, significant-on, significant-none, searched-here}
-use native.Mathlib.Omega.{arith}
 use Rattle.lists.proofs.search_from_top.Given as goal
 
 abbrev pub invariant-loop-n : goal.invariant-loop-n

@@ -1,10 +1,8 @@
 -- `report_text::clear` meets its contract. The loop's invariant: the bytes from `from` up to i are zeros, and those before are as they
 -- were. The measure is the number of bytes from i on.
 -- Assumes nothing.
-use Prim.Native.Nat.{◌-◌, ◌≤◌}
 use native.Mathlib.Omega.{arith}
-use lib.ListN.{length, replicate, length-set}
-use Rattle.report_text.specs.Internal.{Put}
+use lib.ListN.{length-set}
 use Rattle.report_text.proofs.Puts.{zeros-start, zeros-next, zeros-end}
 use borrow.Author.Rules.{rules}
 use Rattle.report_text.proofs.clear.Goals as goal

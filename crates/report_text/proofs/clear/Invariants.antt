@@ -2,10 +2,8 @@
 -- were. The measure is the number of bytes from i on.
 -- Assumes nothing.
 use Prim.Native.Nat.{◌-◌, ◌≤◌}
-use native.Mathlib.Omega.{arith}
-use lib.ListN.{length, replicate, length-set}
+use lib.ListN.{length, replicate}
 use Rattle.report_text.specs.Internal.{Put}
-use Rattle.report_text.proofs.Puts.{zeros-start, zeros-next, zeros-end}
 use Rattle.report_text.proofs.clear.Given as goal
 
 abbrev pub invariant-loop-i : goal.invariant-loop-i

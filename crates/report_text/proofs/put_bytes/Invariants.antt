@@ -1,12 +1,8 @@
 -- `report_text::put_bytes` meets its contract. The loop's invariant: the first i bytes are put. The measure is the number of those left.
 -- Assumes nothing.
-use mathlib.Core.Path.{refl}
 use Prim.Native.Nat.{◌+◌, ◌-◌, ◌≤◌}
-use native.Mathlib.Omega.{arith}
 use lib.ListN.{length, take}
-use lib.Seq.{take_all}
 use Rattle.report_text.specs.Internal.{Put}
-use Rattle.report_text.proofs.Puts.{put-none, put_is, put_next}
 use Rattle.report_text.proofs.put_bytes.Given as goal
 
 abbrev pub invariant-loop-i : goal.invariant-loop-i

@@ -2,18 +2,17 @@
 -- its length. The measure is the number of lists left.
 -- Assumes nothing.
 use Rattle.field.proofs.Fields.{longest-full}
-use mathlib.Core.Path.{◌≡◌, refl, sym, ◌∙◌, ap}
+use mathlib.Core.Path.{refl, sym, ◌∙◌, ap}
 use mathlib.Core.List.{[]}
-use Prim.Native.Nat.{◌-◌, ◌≤◌}
 use native.Mathlib.Omega.{arith}
-use lib.ListN.{length, drop}
+use lib.ListN.{length}
 use Rattle.field.specs.Fields.{modulus, longest}
 use Rattle.album_layout.specs.Layout.{nth_list, lists_of}
 use Rattle.album_layout.proofs.Places.{length-lists, list_at}
 use Rattle.album_reader.specs.Internal.{Held}
 use Rattle.album_reader.proofs.Held.{held-take, held-length, held-inside, held-count, read_held}
-use Rattle.report_text.specs.Report.{list_line, list_lines}
-use Rattle.report_text.proofs.Puts.{Left, put-none, put_is, room-is, left-start, left-next, left-room, left_end}
+use Rattle.report_text.specs.Report.{list_line}
+use Rattle.report_text.proofs.Puts.{put-none, put_is, room-is, left-start, left-next, left-room, left_end}
 use Rattle.report_text.proofs.Lines.{lines_next, lines_end}
 use borrow.Author.Rules.{rules}
 use Rattle.report_text.proofs.put_lists.Goals as goal

@@ -1,20 +1,13 @@
 -- `report_text::put_lists` meets its contract. The loop's invariant: the lines of the lists below i are put, and the room for a list keeps
 -- its length. The measure is the number of lists left.
 -- Assumes nothing.
-use Rattle.field.proofs.Fields.{longest-full}
-use mathlib.Core.Path.{◌≡◌, refl, sym, ◌∙◌, ap}
-use mathlib.Core.List.{[]}
+use mathlib.Core.Path.{◌≡◌}
 use Prim.Native.Nat.{◌-◌, ◌≤◌}
-use native.Mathlib.Omega.{arith}
 use lib.ListN.{length, drop}
-use Rattle.field.specs.Fields.{modulus, longest}
-use Rattle.album_layout.specs.Layout.{nth_list, lists_of}
-use Rattle.album_layout.proofs.Places.{length-lists, list_at}
-use Rattle.album_reader.specs.Internal.{Held}
-use Rattle.album_reader.proofs.Held.{held-take, held-length, held-inside, held-count, read_held}
-use Rattle.report_text.specs.Report.{list_line, list_lines}
-use Rattle.report_text.proofs.Puts.{Left, put-none, put_is, room-is, left-start, left-next, left-room, left_end}
-use Rattle.report_text.proofs.Lines.{lines_next, lines_end}
+use Rattle.field.specs.Fields.{longest}
+use Rattle.album_layout.specs.Layout.{lists_of}
+use Rattle.report_text.specs.Report.{list_lines}
+use Rattle.report_text.proofs.Puts.{Left}
 use Rattle.report_text.proofs.put_lists.Given as goal
 
 abbrev pub invariant-loop-i : goal.invariant-loop-i

@@ -3,11 +3,10 @@
 -- Assumes nothing.
 use mathlib.Core.Path.{refl, sym}
 use mathlib.Core.List.{[], ◌∷◌, ◌++◌}
-use Prim.Native.Nat.{◌-◌, ◌≤◌}
 use native.Mathlib.Omega.{arith}
-use lib.ListN.{length, drop}
+use lib.ListN.{drop}
 use Rattle.report_text.specs.Internal.{Room}
-use Rattle.report_text.proofs.Puts.{Left, put_is, put_then, room-is, room-first, room-then, left-start, left-next, left-room, left_end}
+use Rattle.report_text.proofs.Puts.{put_is, put_then, room-is, room-first, room-then, left-start, left-next, left-room, left_end}
 use Rattle.report_text.proofs.Lines.{fields, words-line, fields-next, fields-end}
 use borrow.Author.Rules.{rules}
 use Rattle.report_text.proofs.put_words.Goals as goal

@@ -1,14 +1,11 @@
 -- `report_text::put_words` meets its contract. The loop's invariant: word 0 is put, and after it the words below k. The measure is the
 -- number of those left.
 -- Assumes nothing.
-use mathlib.Core.Path.{refl, sym}
 use mathlib.Core.List.{[], ◌∷◌, ◌++◌}
 use Prim.Native.Nat.{◌-◌, ◌≤◌}
-use native.Mathlib.Omega.{arith}
 use lib.ListN.{length, drop}
-use Rattle.report_text.specs.Internal.{Room}
-use Rattle.report_text.proofs.Puts.{Left, put_is, put_then, room-is, room-first, room-then, left-start, left-next, left-room, left_end}
-use Rattle.report_text.proofs.Lines.{fields, words-line, fields-next, fields-end}
+use Rattle.report_text.proofs.Puts.{Left}
+use Rattle.report_text.proofs.Lines.{fields}
 use Rattle.report_text.proofs.put_words.Given as goal
 
 abbrev pub invariant-loop-k : goal.invariant-loop-k

@@ -2,9 +2,8 @@
 -- measure is k.
 -- Assumes nothing.
 use mathlib.Core.Path.{◌≡◌, refl, sym, ◌∙◌, subst}
-use Prim.Native.Nat.{◌+◌, ◌-◌, ◌≤◌}
+use Prim.Native.Nat.{◌+◌, ◌-◌}
 use native.Mathlib.Omega.{arith}
-use lib.ListN.{length}
 use Rattle.field.specs.Fields.{field_at}
 use Rattle.field.proofs.Fields.{p-at}
 use Rattle.lists.proofs.Tight.{tight-at}

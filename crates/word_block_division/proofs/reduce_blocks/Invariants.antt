@@ -1,15 +1,11 @@
 -- `word_block_division::reduce_blocks` meets its contract. The loop's invariant: the quotient's words from k on are there, and x is what is left. The
 -- measure is k.
 -- Assumes nothing.
-use mathlib.Core.Path.{◌≡◌, refl, sym, ◌∙◌, subst}
-use Prim.Native.Nat.{◌+◌, ◌-◌, ◌≤◌}
-use native.Mathlib.Omega.{arith}
+use mathlib.Core.Path.{◌≡◌}
+use Prim.Native.Nat.{◌≤◌}
 use lib.ListN.{length}
 use Rattle.field.specs.Fields.{field_at}
-use Rattle.field.proofs.Fields.{p-at}
-use Rattle.lists.proofs.Tight.{tight-at}
 use Rattle.word_block_division.specs.Blocks.{Begun}
-use Rattle.word_block_division.proofs.Blocks.{begun-start, begun-end}
 use Rattle.word_block_division.proofs.reduce_blocks.Given as goal
 
 abbrev pub invariant-loop-k : goal.invariant-loop-k

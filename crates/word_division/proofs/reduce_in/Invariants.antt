@@ -1,15 +1,12 @@
 -- `word_division::reduce_in` meets its contract. The loop's invariant: k more steps leave what the whole division leaves, and their digits,
 -- before those in q from k on, are all its digits. The measure is k.
 -- Assumes nothing.
-use mathlib.Core.Path.{◌≡◌, sym, ◌∙◌}
+use mathlib.Core.Path.{◌≡◌}
 use mathlib.Core.List.{◌++◌}
 use Prim.Native.Nat.{◌≤◌}
-use native.Mathlib.Omega.{arith}
 use lib.ListN.{length, drop}
 use Rattle.field.specs.Fields.{modulus}
 use Rattle.word_division.specs.Reduction.{reduced, digits}
-use Rattle.word_row.proofs.Loops.{part-row}
-use Rattle.word_division.proofs.Loops.{reduced-turn, digits-turn, reduced-end, digits-end, digits-start}
 use Rattle.word_division.proofs.reduce_in.Given as goal
 
 abbrev pub invariant-loop-k : goal.invariant-loop-k

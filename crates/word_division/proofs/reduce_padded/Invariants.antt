@@ -1,20 +1,13 @@
 -- `word_division::reduce_padded` meets its contract. The loop's invariant: the words of x are below p, k more steps leave what the whole division
 -- leaves, and their digits, before those in q from k on, are all its digits. The measure is k.
 -- Assumes nothing.
-use mathlib.Core.Path.{◌≡◌, sym, ◌∙◌}
+use mathlib.Core.Path.{◌≡◌}
 use mathlib.Core.List.{◌++◌}
-use Prim.Native.Nat.{◌<◌, ◌≤◌}
-use native.Mathlib.Omega.{arith}
+use Prim.Native.Nat.{◌≤◌}
 use lib.ListN.{length, take, drop}
 use Rattle.field.specs.Fields.{modulus}
-use Rattle.field.proofs.Fields.{modulus-half}
 use Rattle.lists.specs.Words.{Tight}
-use Rattle.lists.proofs.Tight.{tight-rest}
 use Rattle.word_division.specs.Reduction.{reduced, digits}
-use Rattle.word_row.proofs.RowWords.{tight-row_from}
-use Rattle.word_row.proofs.Loops.{part-row}
-use Rattle.word_division.proofs.Loops.{reduced-end, digits-end, digits-start}
-use Rattle.word_division.proofs.Padded.{padded-reduced, padded-digits}
 use Rattle.word_division.proofs.reduce_padded.Given as goal
 
 abbrev pub invariant-loop-k : goal.invariant-loop-k

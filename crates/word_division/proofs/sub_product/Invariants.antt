@@ -1,19 +1,12 @@
 -- `word_division::sub_product` meets its contract. The loop's invariant: the product with the first k words of q is taken off, and the words of s
 -- are below p. The measure is how many words of q are left.
 -- Assumes nothing.
-use mathlib.Core.Path.{◌≡◌, refl}
-use Prim.Native.Nat.{◌<◌, ◌≤◌, ◌-◌}
-use native.Mathlib.Omega.{arith}
+use mathlib.Core.Path.{◌≡◌}
+use Prim.Native.Nat.{◌≤◌, ◌-◌}
 use lib.ListN.{length}
 use Rattle.field.specs.Fields.{modulus}
-use Rattle.field.proofs.Fields.{modulus-half}
 use Rattle.lists.specs.Words.{Tight}
-use Rattle.lists.proofs.Tight.{tight-rest}
 use Rattle.word_division.specs.Reduction.{less_product_to}
-use Rattle.word_row.proofs.RowWords.{tight-row_from}
-use Rattle.word_row.proofs.Loops.{part-row}
-use Rattle.word_division.proofs.Loops.{less-turn, less-end}
-use Rattle.word_division.proofs.Padded.{minus_one}
 use Rattle.word_division.proofs.sub_product.Given as goal
 
 abbrev pub invariant-loop-k : goal.invariant-loop-k

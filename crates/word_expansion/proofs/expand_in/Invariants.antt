@@ -1,12 +1,10 @@
 -- `word_expansion::expand_in` meets its contract. The loop's invariant: the words before word k are expanded. The measure is the number of
 -- words left.
 -- Assumes nothing.
-use mathlib.Core.Path.{◌≡◌, refl, sym}
+use mathlib.Core.Path.{◌≡◌}
 use Prim.Native.Nat.{◌+◌, ◌-◌, ◌≤◌}
 use lib.ListN.{length}
-use lib.Seq.{length-take-le}
 use Rattle.word_expansion.specs.Expansion.{expanded_to}
-use Rattle.word_expansion.proofs.Loops.{expand-start, expand-tight, expand-turn, expand-end}
 use Rattle.word_expansion.proofs.expand_in.Given as goal
 
 abbrev pub invariant-loop-k : goal.invariant-loop-k

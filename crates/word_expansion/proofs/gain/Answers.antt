@@ -1,11 +1,9 @@
 -- `word_expansion::gain` meets its contract. The loop's invariant: the words below i are written, and the old word before word i is at hand.
 -- The measure is the number of words left.
 -- Assumes nothing.
-use mathlib.Core.Path.{◌≡◌}
-use Prim.Native.Nat.{◌-◌, ◌≤◌}
 use native.Mathlib.Omega.{arith}
-use lib.ListN.{length, length-set}
-use Rattle.word_expansion.proofs.Loops.{taken-le, word_below, last-below, Gaining, gain-start, gain-next, gain-end}
+use lib.ListN.{length-set}
+use Rattle.word_expansion.proofs.Loops.{taken-le, word_below, last-below, gain-start, gain-next, gain-end}
 use borrow.Author.Rules.{rules}
 use Rattle.word_expansion.proofs.gain.Goals as goal
 

@@ -3,9 +3,8 @@
 -- Assumes nothing.
 use mathlib.Core.Path.{◌≡◌}
 use Prim.Native.Nat.{◌-◌, ◌≤◌}
-use native.Mathlib.Omega.{arith}
-use lib.ListN.{length, length-set}
-use Rattle.word_expansion.proofs.Loops.{taken-le, word_below, last-below, Gaining, gain-start, gain-next, gain-end}
+use lib.ListN.{length}
+use Rattle.word_expansion.proofs.Loops.{Gaining}
 use Rattle.word_expansion.proofs.gain.Given as goal
 
 abbrev pub invariant-loop-i : goal.invariant-loop-i

@@ -1,6 +1,6 @@
 -- `word_expansion_halves::expand_tight`, which calls itself, meets its contract.
 -- Assumes nothing.
-use mathlib.Core.Path.{◌≡◌, sym, ◌∙◌, ap}
+use mathlib.Core.Path.{sym, ◌∙◌, ap}
 use mathlib.Core.List.{[]}
 use native.Mathlib.Omega.{arith}
 use lib.ListN.{length, length-drop}
@@ -58,7 +58,7 @@ join-requires t c =
     let size = parts-length h x z w first.auto.x (omega (arith, fits.1)) second.auto.x in
     record {
       tables_for = pre.tables_for;
-      x_in_bounds = (rw both (omega (arith, size, pre.x_in_bounds.0)), rw both (parts-tight (field_at a.field) (p-at a.field) a.plus x pre.x_in_bounds.1 h first.ensures last)); 
+      x_in_bounds = (rw both (omega (arith, size, pre.x_in_bounds.0)), rw both (parts-tight (field_at a.field) (p-at a.field) a.plus x pre.x_in_bounds.1 h first.ensures last));
       h_in_bounds = (rw both (omega (arith, size, fits.1)), rw both (omega (arith, size, fits.2)));
     }
 
@@ -78,4 +78,3 @@ returns t c =
     let last = second.ensures ∙ ap (expanded (modulus a.field) a.plus) rest in
     parts-expanded (field_at a.field) (p-at a.field) a.plus x pre.x_in_bounds.1 h first.ensures last fits.0 fits.1
     (c.join.ensures ∙ ap (joined (field_at a.field) a.plus h) both)
-

@@ -1,12 +1,10 @@
 -- `word_expansion_halves::fill_signs` meets its contract. The loop's invariant: the words below k are written, and the next sign is at hand.
 -- The measure is the number of words left.
 -- Assumes nothing.
-use mathlib.Core.Path.{◌≡◌, sym, ◌∙◌}
-use Prim.Native.Nat.{◌-◌, ◌≤◌}
+use mathlib.Core.Path.{sym, ◌∙◌}
 use native.Mathlib.Omega.{arith}
 use lib.ListN.{length, length-set}
-use Rattle.lists.proofs.Filled.{Filled, fill_start, fill_step, fill_end}
-use Rattle.word_expansion_halves.specs.Halves.{sign_at, signs}
+use Rattle.lists.proofs.Filled.{fill_start, fill_step, fill_end}
 use Rattle.word_expansion_halves.proofs.Row.{signs-length, signs-at, sign_zero, sign-next, sign_fits}
 use borrow.Author.Rules.{rules}
 use Rattle.word_expansion_halves.proofs.fill_signs.Goals as goal

@@ -1,13 +1,11 @@
 -- `word_expansion_halves::fill_signs` meets its contract. The loop's invariant: the words below k are written, and the next sign is at hand.
 -- The measure is the number of words left.
 -- Assumes nothing.
-use mathlib.Core.Path.{◌≡◌, sym, ◌∙◌}
+use mathlib.Core.Path.{◌≡◌}
 use Prim.Native.Nat.{◌-◌, ◌≤◌}
-use native.Mathlib.Omega.{arith}
-use lib.ListN.{length, length-set}
-use Rattle.lists.proofs.Filled.{Filled, fill_start, fill_step, fill_end}
+use lib.ListN.{length}
+use Rattle.lists.proofs.Filled.{Filled}
 use Rattle.word_expansion_halves.specs.Halves.{sign_at, signs}
-use Rattle.word_expansion_halves.proofs.Row.{signs-length, signs-at, sign_zero, sign-next, sign_fits}
 use Rattle.word_expansion_halves.proofs.fill_signs.Given as goal
 
 abbrev pub invariant-loop-k : goal.invariant-loop-k

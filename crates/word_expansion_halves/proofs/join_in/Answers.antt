@@ -1,7 +1,6 @@
 -- `word_expansion_halves::join_in` meets its contract: the product with a power of 1 ± t, and the second part added to it.
 -- Assumes nothing.
-use mathlib.Core.Path.{◌≡◌, sym, ◌∙◌}
-use native.Mathlib.Omega.{arith}
+use mathlib.Core.Path.{sym, ◌∙◌}
 use lib.ListN.{length}
 use lib.Seq.{length-take-le, length_front}
 use Rattle.word_expansion_halves.proofs.Parts.{join_is}

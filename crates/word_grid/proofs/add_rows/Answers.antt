@@ -1,6 +1,6 @@
 -- `word_grid::add_rows` meets its contract: after the whole groups, half a group more where rows are left, at most eight.
 -- Assumes nothing.
-use Rattle.std.proofs.Common.{◌≡◌, ℕ, suc, ◌+◌, ◌*◌, ◌/◌, ◌<◌, ◌≤◌, List, arith, leb→le, rules}
+use Rattle.std.proofs.Common.{◌≡◌, ℕ, suc, ◌+◌, ◌*◌, ◌/◌, ◌<◌, ◌≤◌, List, arith, leb→le}
 use Rattle.lists.specs.Words.{ZeroFrom}
 use Rattle.word_grid.proofs.Steps.{size_lo, size_hi, grid-next}
 use Rattle.word_grid.proofs.add_rows.Goals as goal
@@ -31,14 +31,17 @@ spread-requires c =
 
 pub half_group-requires : goal.half_group-requires
 half_group-requires c =
-    let h = c.requires.n_in_bounds in record { n_in_bounds = (
+    let h = c.requires.n_in_bounds in record {
+      n_in_bounds = (
         omega (arith, h, size_lo c.groups.ensures, c.if-g-m.true),
         omega (arith, h, size_hi c.groups.ensures, c.if-g-m.true),
         h.2,
         omega (arith, h, c.groups.auto, c.spread.auto),
         omega (arith, h),
         h.6,
-      ); odd = (c.requires.odd.0, c.spread.ensures, rest-zero c.args.m _ (omega arith) c.requires.odd.1) }
+      );
+      odd = (c.requires.odd.0, c.spread.ensures, rest-zero c.args.m _ (omega arith) c.requires.odd.1);
+    }
 
 pub returns-then-g-m : goal.returns-then-g-m
 returns-then-g-m c = rw (one_more c.args.m _ c.if-g-m.true (omega arith)) (grid-next c.groups.ensures c.half_group.ensures)

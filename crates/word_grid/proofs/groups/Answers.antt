@@ -1,7 +1,6 @@
 -- `word_grid::groups` meets its contract: each turn is one group more.
 -- Assumes nothing.
-use Rattle.std.proofs.Common.{◌≡◌, ◌-◌, ◌≤◌, length, refl, add-one, arith, leb→le, rules}
-use Rattle.word_grid.specs.Grid.{Grid}
+use Rattle.std.proofs.Common.{refl, add-one, arith, leb→le, rules}
 use Rattle.word_layout.proofs.Loops.{at-end}
 use Rattle.word_grid.proofs.Steps.{size_lo, size_hi, grid-start, grid-next}
 use borrow.Author.Rules.{rules}
@@ -21,14 +20,17 @@ spread-requires c =
 pub group-requires : goal.group-requires
 group-requires c =
     let h = c.requires.n_in_bounds in
-    let t = c.loop-g.invariant.2 in record { n_in_bounds = (
+    let t = c.loop-g.invariant.2 in record {
+      n_in_bounds = (
         omega (arith, size_lo t, h, c.loop-g-test.true),
         omega (arith, size_hi t, h, c.loop-g-test.true),
         h.2,
         omega (arith, h, c.loop-g.invariant.1, c.spread.auto),
         omega (arith, h, c.loop-g-test.true),
         h.6,
-      ); odd = (c.requires.odd, c.spread.ensures) }
+      );
+      odd = (c.requires.odd, c.spread.ensures);
+    }
 
 pub overflow_add-g : goal.overflow_add-g
 overflow_add-g c = record { fits = omega (arith, c.requires.n_in_bounds, c.loop-g-test.true) }
@@ -37,12 +39,11 @@ pub loop-g-smaller : goal.loop-g-smaller
 loop-g-smaller c = omega (arith, c.loop-g-test.true)
 
 pub loop-g-preserved : goal.loop-g-preserved
-loop-g-preserved c =
-    (
-      omega (arith, c.loop-g-test.true),
-      omega (arith, c.loop-g.invariant.1, c.spread.auto),
-      rw (add-one _) (grid-next c.loop-g.invariant.2 c.group.ensures),
-    )
+loop-g-preserved c = (
+  omega (arith, c.loop-g-test.true),
+  omega (arith, c.loop-g.invariant.1, c.spread.auto),
+  rw (add-one _) (grid-next c.loop-g.invariant.2 c.group.ensures),
+)
 
 pub shape_of-lo : goal.shape_of-lo
 shape_of-lo c = size_lo c.loop-g.invariant.2

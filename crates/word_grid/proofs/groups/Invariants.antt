@@ -1,9 +1,7 @@
 -- `word_grid::groups` meets its contract: each turn is one group more.
 -- Assumes nothing.
-use Rattle.std.proofs.Common.{◌≡◌, ◌-◌, ◌≤◌, length, refl, add-one, arith, leb→le, rules}
+use Rattle.std.proofs.Common.{◌≡◌, ◌-◌, ◌≤◌, length}
 use Rattle.word_grid.specs.Grid.{Grid}
-use Rattle.word_layout.proofs.Loops.{at-end}
-use Rattle.word_grid.proofs.Steps.{size_lo, size_hi, grid-start, grid-next}
 use Rattle.word_grid.proofs.groups.Given as goal
 
 abbrev pub invariant-loop-g : goal.invariant-loop-g

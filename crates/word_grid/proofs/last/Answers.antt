@@ -1,6 +1,6 @@
 -- `word_grid::last` meets its contract: see `last-is`.
 -- Assumes nothing.
-use Rattle.std.proofs.Common.{◌+◌, ◌-◌, ◌/◌, ◌%◌, arith, rules}
+use Rattle.std.proofs.Common.{◌+◌, ◌/◌, ◌%◌, arith}
 use Rattle.word_grid.proofs.Remainders.{few, last-is}
 use Rattle.word_grid.proofs.last.Goals as goal
 

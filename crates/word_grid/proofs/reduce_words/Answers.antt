@@ -1,8 +1,7 @@
 -- `word_grid::reduce_words` meets its contract: each turn is one word more.
 -- Assumes nothing.
-use Rattle.std.proofs.Common.{◌≡◌, ◌-◌, ◌≤◌, length, sym, refl, ◌∙◌, arith, length-set, rules}
-use Rattle.word_grid.specs.Grid.{reduced_words}
-use Rattle.lists.proofs.Filled.{Filled, fill_start, fill_step, fill_end}
+use Rattle.std.proofs.Common.{length, sym, refl, ◌∙◌, arith, length-set, rules}
+use Rattle.lists.proofs.Filled.{fill_start, fill_step, fill_end}
 use Rattle.word_grid.proofs.Remainders.{length-reduced, get_or-reduced}
 use borrow.Author.Rules.{rules}
 use Rattle.word_grid.proofs.reduce_words.Goals as goal
@@ -17,13 +16,12 @@ pub loop-k-smaller : goal.loop-k-smaller
 loop-k-smaller c = omega arith
 
 pub loop-k-preserved : goal.loop-k-preserved
-loop-k-preserved c =
-    (
-      omega arith,
-      simp length-set (omega arith),
-      fill_step _ c.loop-k.invariant.2 (omega arith)
-          (c.reduce.ensures ∙ sym (get_or-reduced _ (length c.args.out.now) c.args.lo.now c.args.hi.now c.loop-k.k (omega arith))),
-    )
+loop-k-preserved c = (
+  omega arith,
+  simp length-set (omega arith),
+  fill_step _ c.loop-k.invariant.2 (omega arith)
+      (c.reduce.ensures ∙ sym (get_or-reduced _ (length c.args.out.now) c.args.lo.now c.args.hi.now c.loop-k.k (omega arith))),
+)
 
 pub shape_of-out : goal.shape_of-out
 shape_of-out c = c.loop-k.invariant.1

@@ -1,9 +1,8 @@
 -- `word_grid::reduce_words` meets its contract: each turn is one word more.
 -- Assumes nothing.
-use Rattle.std.proofs.Common.{◌≡◌, ◌-◌, ◌≤◌, length, sym, refl, ◌∙◌, arith, length-set, rules}
+use Rattle.std.proofs.Common.{◌≡◌, ◌-◌, ◌≤◌, length}
 use Rattle.word_grid.specs.Grid.{reduced_words}
-use Rattle.lists.proofs.Filled.{Filled, fill_start, fill_step, fill_end}
-use Rattle.word_grid.proofs.Remainders.{length-reduced, get_or-reduced}
+use Rattle.lists.proofs.Filled.{Filled}
 use Rattle.word_grid.proofs.reduce_words.Given as goal
 
 abbrev pub invariant-loop-k : goal.invariant-loop-k

@@ -1,10 +1,7 @@
 -- `word_karatsuba::add_words` meets its contract. The loop's invariant: the words below i are those of the row, and the rest is as it was. The
 -- measure is the number of words left.
 -- Assumes nothing.
-use Prim.Native.Nat.{◌-◌, ◌≤◌}
 use native.Mathlib.Omega.{arith}
-use lib.ListN.{length}
-use Rattle.word_row.specs.Rows.{Partway}
 use Rattle.word_row.proofs.Loops.{start, next, finish}
 use Rattle.word_karatsuba.proofs.Words.{still-below}
 use borrow.Author.Rules.{rules}

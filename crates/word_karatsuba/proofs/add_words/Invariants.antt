@@ -2,11 +2,8 @@
 -- measure is the number of words left.
 -- Assumes nothing.
 use Prim.Native.Nat.{◌-◌, ◌≤◌}
-use native.Mathlib.Omega.{arith}
 use lib.ListN.{length}
 use Rattle.word_row.specs.Rows.{Partway}
-use Rattle.word_row.proofs.Loops.{start, next, finish}
-use Rattle.word_karatsuba.proofs.Words.{still-below}
 use Rattle.word_karatsuba.proofs.add_words.Given as goal
 
 abbrev pub invariant-loop-i : goal.invariant-loop-i

@@ -1,12 +1,8 @@
 -- `word_karatsuba::sub_words` meets its contract. The loop's invariant: the words below i are those of the row, and the rest is as it was. The
 -- measure is the number of words left.
 -- Assumes nothing.
-use Prim.Native.Nat.{◌-◌, ◌≤◌}
 use native.Mathlib.Omega.{arith}
-use lib.ListN.{length}
-use Rattle.word_row.specs.Rows.{Partway}
 use Rattle.word_row.proofs.Loops.{start, next, finish}
-use Rattle.word_division.specs.Reduction.{negated}
 use Rattle.word_karatsuba.proofs.Words.{minus_is, still-below}
 use borrow.Author.Rules.{rules}
 use Rattle.word_karatsuba.proofs.sub_words.Goals as goal

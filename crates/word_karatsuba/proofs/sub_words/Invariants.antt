@@ -2,12 +2,9 @@
 -- measure is the number of words left.
 -- Assumes nothing.
 use Prim.Native.Nat.{◌-◌, ◌≤◌}
-use native.Mathlib.Omega.{arith}
 use lib.ListN.{length}
 use Rattle.word_row.specs.Rows.{Partway}
-use Rattle.word_row.proofs.Loops.{start, next, finish}
 use Rattle.word_division.specs.Reduction.{negated}
-use Rattle.word_karatsuba.proofs.Words.{minus_is, still-below}
 use Rattle.word_karatsuba.proofs.sub_words.Given as goal
 
 abbrev pub invariant-loop-i : goal.invariant-loop-i

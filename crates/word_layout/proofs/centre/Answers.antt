@@ -1,7 +1,6 @@
 -- `word_layout::centre` meets its contract: each turn is one word more.
 -- Assumes nothing.
-use Rattle.std.proofs.Common.{◌≡◌, ◌-◌, ◌≤◌, length, refl, arith, length-set, rules}
-use Rattle.word_layout.specs.Layout.{Centred}
+use Rattle.std.proofs.Common.{refl, arith, length-set, rules}
 use Rattle.word_layout.proofs.Loops.{centre-start, centre-next, at-end}
 use borrow.Author.Rules.{rules}
 use Rattle.word_layout.proofs.centre.Goals as goal

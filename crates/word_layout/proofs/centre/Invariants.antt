@@ -1,8 +1,7 @@
 -- `word_layout::centre` meets its contract: each turn is one word more.
 -- Assumes nothing.
-use Rattle.std.proofs.Common.{◌≡◌, ◌-◌, ◌≤◌, length, refl, arith, length-set, rules}
+use Rattle.std.proofs.Common.{◌≡◌, ◌-◌, ◌≤◌, length}
 use Rattle.word_layout.specs.Layout.{Centred}
-use Rattle.word_layout.proofs.Loops.{centre-start, centre-next, at-end}
 use Rattle.word_layout.proofs.centre.Given as goal
 
 abbrev pub invariant-loop-i : goal.invariant-loop-i

@@ -1,6 +1,6 @@
 -- `word_layout::centred` meets its contract: a word from 2^15 on stands for itself less p.
 -- Assumes nothing.
-use Rattle.std.proofs.Common.{◌-◌, arith, rules}
+use Rattle.std.proofs.Common.{arith}
 use Rattle.word_layout.proofs.Loops.{stand-low, stand-high}
 use Rattle.word_layout.proofs.centred.Goals as goal
 

@@ -1,7 +1,6 @@
 -- `word_layout::repeat_pair` meets its contract: each turn is one pair more.
 -- Assumes nothing.
-use Rattle.std.proofs.Common.{◌-◌, ◌≤◌, refl, arith, length-set, rules}
-use Rattle.word_layout.specs.Layout.{Repeated}
+use Rattle.std.proofs.Common.{refl, arith, length-set, rules}
 use Rattle.word_layout.proofs.Loops.{repeat-start, repeat-next, repeat-end}
 use borrow.Author.Rules.{rules}
 use Rattle.word_layout.proofs.repeat_pair.Goals as goal

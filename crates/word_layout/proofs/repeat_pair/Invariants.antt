@@ -1,8 +1,7 @@
 -- `word_layout::repeat_pair` meets its contract: each turn is one pair more.
 -- Assumes nothing.
-use Rattle.std.proofs.Common.{◌-◌, ◌≤◌, refl, arith, length-set, rules}
+use Rattle.std.proofs.Common.{◌-◌, ◌≤◌}
 use Rattle.word_layout.specs.Layout.{Repeated}
-use Rattle.word_layout.proofs.Loops.{repeat-start, repeat-next, repeat-end}
 use Rattle.word_layout.proofs.repeat_pair.Given as goal
 
 abbrev pub invariant-loop-l : goal.invariant-loop-l

@@ -1,7 +1,6 @@
 -- `word_layout::spread` meets its contract: each turn is one pair of x more.
 -- Assumes nothing.
-use Rattle.std.proofs.Common.{◌≡◌, ◌-◌, ◌≤◌, length, refl, ◌∙◌, arith, rules}
-use Rattle.word_strips.specs.Strips.{Spread}
+use Rattle.std.proofs.Common.{refl, ◌∙◌, arith, rules}
 use Rattle.word_layout.proofs.Loops.{spread-start, spread-next, at-end}
 use borrow.Author.Rules.{rules}
 use Rattle.word_layout.proofs.spread.Goals as goal

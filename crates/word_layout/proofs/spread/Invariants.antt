@@ -1,8 +1,7 @@
 -- `word_layout::spread` meets its contract: each turn is one pair of x more.
 -- Assumes nothing.
-use Rattle.std.proofs.Common.{◌≡◌, ◌-◌, ◌≤◌, length, refl, ◌∙◌, arith, rules}
+use Rattle.std.proofs.Common.{◌≡◌, ◌-◌, ◌≤◌, length}
 use Rattle.word_strips.specs.Strips.{Spread}
-use Rattle.word_layout.proofs.Loops.{spread-start, spread-next, at-end}
 use Rattle.word_layout.proofs.spread.Given as goal
 
 abbrev pub invariant-loop-j : goal.invariant-loop-j

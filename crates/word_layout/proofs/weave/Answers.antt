@@ -1,7 +1,6 @@
 -- `word_layout::weave` meets its contract: each turn is one word more, beside the one before it.
 -- Assumes nothing.
-use Rattle.std.proofs.Common.{◌≡◌, ◌-◌, ◌≤◌, length, refl, arith, length-set, rules}
-use Rattle.word_layout.specs.Layout.{Woven}
+use Rattle.std.proofs.Common.{refl, arith, length-set, rules}
 use Rattle.word_layout.proofs.Loops.{woven-start, woven-next, at-end}
 use borrow.Author.Rules.{rules}
 use Rattle.word_layout.proofs.weave.Goals as goal

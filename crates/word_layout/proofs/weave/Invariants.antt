@@ -1,8 +1,7 @@
 -- `word_layout::weave` meets its contract: each turn is one word more, beside the one before it.
 -- Assumes nothing.
-use Rattle.std.proofs.Common.{◌≡◌, ◌-◌, ◌≤◌, length, refl, arith, length-set, rules}
+use Rattle.std.proofs.Common.{◌≡◌, ◌-◌, ◌≤◌, length}
 use Rattle.word_layout.specs.Layout.{Woven}
-use Rattle.word_layout.proofs.Loops.{woven-start, woven-next, at-end}
 use Rattle.word_layout.proofs.weave.Given as goal
 
 abbrev pub invariant-loop-q : goal.invariant-loop-q

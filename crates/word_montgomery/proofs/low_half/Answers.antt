@@ -1,6 +1,6 @@
 -- `word_montgomery::low_half` meets its contract: the product fits 32 bits.
 -- Assumes nothing.
-use Rattle.std.proofs.Common.{arith, rules}
+use Rattle.std.proofs.Common.{arith}
 use Rattle.field.proofs.Words.{product_le}
 use Rattle.word_montgomery.proofs.low_half.Goals as goal
 

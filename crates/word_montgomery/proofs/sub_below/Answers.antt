@@ -1,6 +1,6 @@
 -- `word_montgomery::sub_below` meets its contract, where the difference goes below 0 and where it does not.
 -- Assumes nothing.
-use Rattle.std.proofs.Common.{◌≡◌, ◌+◌, ◌-◌, ◌∙◌, arith, rules}
+use Rattle.std.proofs.Common.{◌≡◌, ◌+◌, ◌-◌, ◌∙◌, arith}
 use Rattle.word_montgomery.proofs.Words.{sub-less, sub_more}
 use Rattle.word_montgomery.proofs.sub_below.Goals as goal
 

@@ -1,6 +1,6 @@
 -- `word_pairs::add_high` meets its contract: what is added is the high half.
 -- Assumes nothing.
-use Rattle.std.proofs.Common.{ap, arith, w32, rules}
+use Rattle.std.proofs.Common.{ap, arith, w32}
 use mir.ValLaws.{to_z-of_z}
 use Rattle.word_pairs.specs.Pairs.{up32}
 use Rattle.word_pairs.proofs.add_high.Goals as goal

@@ -1,6 +1,6 @@
 -- `word_pairs::bits` meets its contract: the integer and 2^32, in 64 bits, modulo 2^32.
 -- Assumes nothing.
-use Rattle.std.proofs.Common.{◌%◌, ap, rules}
+use Rattle.std.proofs.Common.{◌%◌, ap}
 use Rattle.word_pairs.proofs.Integers.{wide_fits, bits-fits, bits-plain}
 use Rattle.word_pairs.proofs.bits.Goals as goal
 

@@ -1,7 +1,6 @@
 -- `word_pairs::gain_high` meets its contract, one number after the other.
 -- Assumes nothing.
 use Rattle.word_pairs.proofs.Integers.{high_sum, more-high}
-use Rattle.std.proofs.Common.{rules}
 use Rattle.word_pairs.proofs.gain_high.Goals as goal
 
 pub returns : goal.returns

@@ -1,7 +1,6 @@
 -- `word_pairs::gain_whole` meets its contract, one number after the other.
 -- Assumes nothing.
 use Rattle.word_pairs.proofs.Integers.{first-whole, more-whole, whole_sum}
-use Rattle.std.proofs.Common.{rules}
 use Rattle.word_pairs.proofs.gain_whole.Goals as goal
 
 pub returns : goal.returns

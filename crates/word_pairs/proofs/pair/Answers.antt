@@ -2,7 +2,6 @@
 -- Assumes nothing.
 use Rattle.word_pairs.proofs.Integers.{rd-fits, mul-fits, sum_fits, sum_is, up-less}
 use Rattle.word_pairs.specs.Pairs.{up}
-use Rattle.std.proofs.Common.{rules}
 use Rattle.word_pairs.proofs.pair.Goals as goal
 
 pub overflow_mul-result : goal.overflow_mul-result

@@ -1,7 +1,6 @@
 -- `word_pairs::pair_at` meets its contract: it reads the four words.
 -- Assumes nothing.
 use Rattle.word_pairs.proofs.Integers.{rd-fits, rd-up}
-use Rattle.std.proofs.Common.{rules}
 use Rattle.word_pairs.proofs.pair_at.Goals as goal
 
 pub pair-requires : goal.pair-requires

@@ -1,6 +1,6 @@
 -- `word_pairs::signed` meets its contract: 2^15 is added and taken off again, modulo 2^16 between.
 -- Assumes nothing.
-use Rattle.std.proofs.Common.{◌+◌, ◌%◌, arith, rules}
+use Rattle.std.proofs.Common.{◌+◌, ◌%◌, arith}
 use Rattle.word_pairs.proofs.Integers.{signed_is, signed-fits}
 use Rattle.word_pairs.proofs.signed.Goals as goal
 

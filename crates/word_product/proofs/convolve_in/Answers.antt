@@ -15,18 +15,22 @@ use Rattle.word_product.proofs.convolve_in.Goals as goal
 pub lay-requires : goal.lay-requires
 lay-requires c =
     let h = c.requires in
-    let lp = modulus-low c.args.field in record { le_p = (
+    let lp = modulus-low c.args.field in record {
+      le_p = (
         omega (arith, lp, c.modulus_of-p.ensures),
         omega (arith, h.a_in_bounds.0),
         omega arith,
         omega (arith, h.a_in_bounds.1),
         omega (arith, h.a_in_bounds.2),
         omega (arith, h.a_len_bound),
-      ); zero_from = (h.zero_from.0, h.zero_from.1, h.zero_from.2) }
+      );
+      zero_from = (h.zero_from.0, h.zero_from.1, h.zero_from.2);
+    }
 
 pub add_rows-requires : goal.add_rows-requires
 add_rows-requires c =
-    let h = c.requires in record { n_in_bounds = (
+    let h = c.requires in record {
+      n_in_bounds = (
         omega (arith, h.b_in_bounds.0),
         omega (arith, h.b_in_bounds.1),
         omega (arith, h.a_in_bounds.2, c.lay.auto),
@@ -34,7 +38,9 @@ add_rows-requires c =
         h.a_in_bounds.3,
         h.a_len_bound.0,
         omega (arith, h.a_len_bound),
-      ); odd = (c.lay.ensures.odd, c.lay.ensures.zero) }
+      );
+      odd = (c.lay.ensures.odd, c.lay.ensures.zero);
+    }
 
 pub reduce_words-requires : goal.reduce_words-requires
 reduce_words-requires c =

@@ -1,12 +1,10 @@
 -- `word_product::dot` meets its contract: each turn is one row more. The measure is how many are left.
 -- Assumes nothing.
-use mathlib.Core.Path.{◌≡◌, sym, ◌∙◌}
+use mathlib.Core.Path.{◌≡◌}
 use Prim.Native.Nat.{◌+◌, ◌-◌, ◌*◌, ◌≤◌}
-use native.Mathlib.Omega.{arith}
 use lib.ListN.{length}
 use Rattle.word_grid.specs.Grid.{sum_to}
 use Rattle.word_product.specs.Sums.{term_of}
-use Rattle.word_product.proofs.RowSums.{dot-start, dot-next, dot-end}
 use Rattle.word_product.proofs.dot.Given as goal
 
 abbrev pub invariant-loop-j : goal.invariant-loop-j

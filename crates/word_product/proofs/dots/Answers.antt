@@ -1,13 +1,12 @@
 -- `word_product::dots` meets its contract: the words below k are written. The measure is how many are not.
 -- Assumes nothing.
-use mathlib.Core.Path.{◌≡◌, sym, ap, ◌∙◌}
-use Prim.Native.Nat.{◌-◌, ◌%◌, ◌≤◌}
+use mathlib.Core.Path.{sym, ap, ◌∙◌}
+use Prim.Native.Nat.{◌%◌}
 use native.Mathlib.Omega.{arith}
 use lib.ListN.{length, length-set}
 use Rattle.field.specs.Fields.{modulus, field_at}
 use Rattle.field.proofs.Fields.{p-at}
-use Rattle.lists.proofs.Filled.{Filled, fill_start, fill_step, fill_end}
-use Rattle.word_product.specs.Sums.{remainders}
+use Rattle.lists.proofs.Filled.{fill_start, fill_step, fill_end}
 use Rattle.word_product.proofs.Convolution.{length-remainders, get_or-remainders, convolution-is}
 use borrow.Author.Rules.{rules}
 use Rattle.word_product.proofs.dots.Goals as goal

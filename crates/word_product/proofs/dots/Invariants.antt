@@ -1,14 +1,11 @@
 -- `word_product::dots` meets its contract: the words below k are written. The measure is how many are not.
 -- Assumes nothing.
-use mathlib.Core.Path.{◌≡◌, sym, ap, ◌∙◌}
-use Prim.Native.Nat.{◌-◌, ◌%◌, ◌≤◌}
-use native.Mathlib.Omega.{arith}
-use lib.ListN.{length, length-set}
-use Rattle.field.specs.Fields.{modulus, field_at}
-use Rattle.field.proofs.Fields.{p-at}
-use Rattle.lists.proofs.Filled.{Filled, fill_start, fill_step, fill_end}
+use mathlib.Core.Path.{◌≡◌}
+use Prim.Native.Nat.{◌-◌, ◌≤◌}
+use lib.ListN.{length}
+use Rattle.field.specs.Fields.{modulus}
+use Rattle.lists.proofs.Filled.{Filled}
 use Rattle.word_product.specs.Sums.{remainders}
-use Rattle.word_product.proofs.Convolution.{length-remainders, get_or-remainders, convolution-is}
 use Rattle.word_product.proofs.dots.Given as goal
 
 abbrev pub invariant-loop-k : goal.invariant-loop-k

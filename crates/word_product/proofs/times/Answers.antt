@@ -1,6 +1,5 @@
 -- `word_product::times` meets its contract: the product of two words of 16 bits has 32.
 -- Assumes nothing.
-use Prim.Native.Nat.{◌-◌}
 use native.Mathlib.Omega.{arith}
 use native.Mathlib.Nat.{mul-le-mul}
 use Rattle.word_product.proofs.times.Goals as goal

@@ -1,6 +1,6 @@
 -- `word_row::add_below` meets its contract, where the sum is the smaller and where the sum less p is.
 -- Assumes nothing.
-use Rattle.std.proofs.Common.{arith, rules}
+use Rattle.std.proofs.Common.{arith}
 use Rattle.word_row.proofs.Montgomery.{sum-most, sum_less}
 use Rattle.word_row.proofs.add_below.Goals as goal
 

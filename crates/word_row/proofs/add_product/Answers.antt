@@ -1,6 +1,6 @@
 -- `word_row::add_product` meets its contract: x is reduced first.
 -- Assumes nothing.
-use Rattle.std.proofs.Common.{◌+◌, ◌*◌, ◌%◌, ap, ◌∙◌, mod-lt, arith, rules}
+use Rattle.std.proofs.Common.{◌+◌, ◌*◌, ◌%◌, ap, ◌∙◌, mod-lt, arith}
 use native.Mathlib.Nat.{mod-add-mod}
 use Rattle.word_row.proofs.add_product.Goals as goal
 

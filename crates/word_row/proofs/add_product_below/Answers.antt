@@ -1,6 +1,6 @@
 -- `word_row::add_product_below` meets its contract: the difference of the high halves is the product.
 -- Assumes nothing.
-use Rattle.std.proofs.Common.{◌*◌, ◌/◌, ◌<◌, ap, ◌∙◌, le_refl, le_of_lt, mod-lt, arith, rules}
+use Rattle.std.proofs.Common.{◌*◌, ◌/◌, ◌<◌, ap, ◌∙◌, le_refl, le_of_lt, mod-lt, arith}
 use Rattle.word_montgomery.proofs.Words.{high-below}
 use Rattle.word_row.proofs.Montgomery.{added}
 use Rattle.word_row.proofs.add_product_below.Goals as goal
@@ -17,8 +17,7 @@ add_below-requires c =
 
 pub returns : goal.returns
 returns c =
-    let less-below : c.high_half-less.result < c.args.p = rw c.high_half-less.ensures (high-below c.low_half.result (omega arith) (le_refl _) (omega arith)) in
-        (
+    let less-below : c.high_half-less.result < c.args.p = rw c.high_half-less.ensures (high-below c.low_half.result (omega arith) (le_refl _) (omega arith)) in (
       rw c.add_below.ensures (mod-lt _ (omega arith)),
       λ e m f.
           let a = c.args in

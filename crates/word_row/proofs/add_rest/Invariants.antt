@@ -1,10 +1,9 @@
 -- `word_row::add_rest` meets its contract. The loop's invariant: the words below i are those of the row, and the rest is as it was. The measure
 -- is n - i.
 -- Assumes nothing.
-use Rattle.std.proofs.Common.{◌-◌, ◌≤◌, arith, rules}
+use Rattle.std.proofs.Common.{◌-◌, ◌≤◌}
 use Rattle.field.specs.Fields.{modulus}
 use Rattle.word_row.specs.Rows.{Partway}
-use Rattle.word_row.proofs.Loops.{start, next, finish}
 use Rattle.word_row.proofs.add_rest.Given as goal
 
 abbrev pub invariant-loop-i : goal.invariant-loop-i

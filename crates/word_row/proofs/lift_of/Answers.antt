@@ -1,6 +1,6 @@
 -- `word_row::lift_of` meets its contract.
 -- Assumes nothing.
-use Rattle.std.proofs.Common.{◌-◌, ◌*◌, ◌%◌, ◌∙◌, ap₂, arith, rules}
+use Rattle.std.proofs.Common.{◌-◌, ◌*◌, ◌%◌, ◌∙◌, ap₂, arith}
 use Rattle.field.specs.Fields.{modulus}
 use Rattle.word_row.specs.Montgomery.{lift_of}
 use Rattle.word_row.proofs.Montgomery.{square-below}

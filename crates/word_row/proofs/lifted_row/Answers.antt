@@ -1,10 +1,8 @@
 -- `word_row::lifted_row` meets its contract. The loop's invariant: with the constants of any m the words below j are those of the row, and the
 -- rest is as it was. The measure is n - j.
 -- Assumes nothing.
-use Rattle.std.proofs.Common.{ℕ, ◌-◌, ◌≤◌, arith, rules}
-use Rattle.word_row.specs.Rows.{Partway}
-use Rattle.word_row.specs.Montgomery.{Factor}
-use Rattle.word_row.proofs.Loops.{Kept, kept-start, kept_next, kept-below, start, next, upto}
+use Rattle.std.proofs.Common.{arith, rules}
+use Rattle.word_row.proofs.Loops.{kept-start, kept_next, kept-below, start, next, upto}
 use borrow.Author.Rules.{rules}
 use Rattle.word_row.proofs.lifted_row.Goals as goal
 

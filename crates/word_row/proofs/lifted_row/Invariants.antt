@@ -1,10 +1,10 @@
 -- `word_row::lifted_row` meets its contract. The loop's invariant: with the constants of any m the words below j are those of the row, and the
 -- rest is as it was. The measure is n - j.
 -- Assumes nothing.
-use Rattle.std.proofs.Common.{ℕ, ◌-◌, ◌≤◌, arith, rules}
+use Rattle.std.proofs.Common.{ℕ, ◌-◌, ◌≤◌}
 use Rattle.word_row.specs.Rows.{Partway}
 use Rattle.word_row.specs.Montgomery.{Factor}
-use Rattle.word_row.proofs.Loops.{Kept, kept-start, kept_next, kept-below, start, next, upto}
+use Rattle.word_row.proofs.Loops.{Kept}
 use Rattle.word_row.proofs.lifted_row.Given as goal
 
 abbrev pub invariant-loop-j : goal.invariant-loop-j

@@ -1,9 +1,7 @@
 -- `word_row::montgomery_row` meets its contract. The loop's invariant: g and s are the constants of m, the words below j are those of the row,
 -- and the rest is as it was. The measure is n - j.
 -- Assumes nothing.
-use Rattle.std.proofs.Common.{◌-◌, ◌≤◌, arith, rules}
-use Rattle.word_row.specs.Rows.{Partway}
-use Rattle.word_row.specs.Montgomery.{Factor}
+use Rattle.std.proofs.Common.{arith, rules}
 use Rattle.word_row.proofs.Loops.{start, next, upto}
 use Rattle.word_row.proofs.Montgomery.{square-factor, lifted-factor, factor-below}
 use borrow.Author.Rules.{rules}

@@ -1,6 +1,6 @@
 -- `word_row::sub_row` meets its contract: g and s are the constants of -a · m.
 -- Assumes nothing.
-use Rattle.std.proofs.Common.{refl, ap, ◌∙◌, le_refl, arith, rules}
+use Rattle.std.proofs.Common.{refl, ap, ◌∙◌, le_refl, arith}
 use Rattle.field.specs.Fields.{square}
 use Rattle.lists.proofs.Tight.{tight-at}
 use Rattle.word_row.specs.Montgomery.{Modulus, Factor}

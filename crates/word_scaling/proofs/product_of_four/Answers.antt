@@ -1,6 +1,6 @@
 -- `word_scaling::product_of_four` meets its contract: each product of Montgomery's is below p, as the next one asks.
 -- Assumes nothing.
-use Rattle.std.proofs.Common.{◌≡◌, ℕ, ◌*◌, ◌%◌, ◌<◌, sym, ap, ◌∙◌, mod-lt, arith, rules}
+use Rattle.std.proofs.Common.{◌≡◌, ℕ, ◌*◌, ◌%◌, ◌<◌, sym, ap, ◌∙◌, mod-lt, arith}
 use Rattle.field.specs.Fields.{modulus, field_at}
 use Rattle.field.proofs.Fields.{modulus-some, p-at, fourth-is}
 use Rattle.word_montgomery.specs.Montgomery.{montgomery}

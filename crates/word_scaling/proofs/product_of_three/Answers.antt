@@ -1,6 +1,6 @@
 -- `word_scaling::product_of_three` meets its contract: the first product of Montgomery's is below p, as the second one asks.
 -- Assumes nothing.
-use Rattle.std.proofs.Common.{◌≡◌, ℕ, ap, ◌∙◌, ap₂, arith, rules}
+use Rattle.std.proofs.Common.{ℕ, ap, ◌∙◌, ap₂, arith}
 use Rattle.field.proofs.Fields.{modulus-some}
 use Rattle.word_montgomery.specs.Montgomery.{montgomery}
 use Rattle.word_montgomery.proofs.Montgomery.{montgomery-below}

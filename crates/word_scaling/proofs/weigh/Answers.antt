@@ -1,6 +1,6 @@
 -- `word_scaling::weigh` meets its contract: its tests are `weigh_fits`.
 -- Assumes nothing.
-use Rattle.std.proofs.Common.{length, arith, rules, le-leb}
+use Rattle.std.proofs.Common.{length, arith, le-leb}
 use borrow.Author.Tests.{lt-leb}
 use Rattle.word_scaling.specs.Scaling.{weigh_fits}
 use Rattle.word_scaling.proofs.weigh.Goals as goal

@@ -1,9 +1,8 @@
 -- `word_scaling::weigh_in` meets its contract. The loop's invariant: the words below k are written. The measure is n - k.
 -- Assumes nothing.
-use Rattle.std.proofs.Common.{◌≡◌, ◌-◌, ◌≤◌, length, sym, ◌∙◌, arith, length-set, rules}
-use Rattle.lists.proofs.Filled.{Filled, fill_start, fill_step, fill_end}
+use Rattle.std.proofs.Common.{length, sym, ◌∙◌, arith, length-set, rules}
+use Rattle.lists.proofs.Filled.{fill_start, fill_step, fill_end}
 use Rattle.field.specs.Fields.{modulus}
-use Rattle.word_scaling.specs.Scaling.{weighted}
 use Rattle.word_scaling.proofs.Weights.{length-weighted, get_or-weighted}
 use borrow.Author.Rules.{rules}
 use Rattle.word_scaling.proofs.weigh_in.Goals as goal

@@ -1,10 +1,9 @@
 -- `word_scaling::weigh_in` meets its contract. The loop's invariant: the words below k are written. The measure is n - k.
 -- Assumes nothing.
-use Rattle.std.proofs.Common.{◌≡◌, ◌-◌, ◌≤◌, length, sym, ◌∙◌, arith, length-set, rules}
-use Rattle.lists.proofs.Filled.{Filled, fill_start, fill_step, fill_end}
+use Rattle.std.proofs.Common.{◌≡◌, ◌-◌, ◌≤◌, length}
+use Rattle.lists.proofs.Filled.{Filled}
 use Rattle.field.specs.Fields.{modulus}
 use Rattle.word_scaling.specs.Scaling.{weighted}
-use Rattle.word_scaling.proofs.Weights.{length-weighted, get_or-weighted}
 use Rattle.word_scaling.proofs.weigh_in.Given as goal
 
 abbrev pub invariant-loop-k : goal.invariant-loop-k

@@ -1,9 +1,7 @@
 -- `word_strips::half_group` meets its contract: each turn is sixteen outputs more.
 -- Assumes nothing.
 use Prim.Native.Nat.{◌-◌, ◌*◌, ◌≤◌}
-use native.Mathlib.Omega.{arith}
 use Rattle.word_strips.specs.Strips.{Span}
-use Rattle.word_strips.proofs.Turns.{start, joined, to}
 use Rattle.word_strips.proofs.half_group.Given as goal
 
 abbrev pub invariant-loop-s : goal.invariant-loop-s

@@ -1,13 +1,7 @@
 -- `word_strips::half_strip` meets its contract: each turn is one output more.
 -- Assumes nothing.
-use Prim.Native.Nat.{◌+◌, ◌-◌, ◌*◌, ◌≤◌, ◌<◌}
-use native.Mathlib.Nat.{add-zero, add_assoc}
-use native.Mathlib.Omega.{arith}
-use mathlib.Core.Path.{sym}
-use lib.Dec.{lit<}
-use lib.ListN.{length, get_or}
-use Rattle.word_strips.specs.Strips.{whole_at, high_at, Gain, Span}
-use Rattle.word_strips.proofs.Turns.{pair_is, half-gain, start, joined, single, to}
+use Prim.Native.Nat.{◌+◌, ◌-◌, ◌*◌, ◌≤◌}
+use Rattle.word_strips.specs.Strips.{Span}
 use Rattle.word_strips.proofs.half_strip.Given as goal
 
 abbrev pub invariant-loop-l : goal.invariant-loop-l

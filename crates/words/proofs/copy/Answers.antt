@@ -1,10 +1,9 @@
 -- `words::copy` meets its contract. The loop's invariant: the words below k are copied. The measure is the number of words left.
 -- Assumes nothing.
-use mathlib.Core.Path.{◌≡◌, refl, sym, ◌∙◌}
-use Prim.Native.Nat.{◌≤◌, ◌-◌}
+use mathlib.Core.Path.{refl, sym, ◌∙◌}
 use native.Mathlib.Omega.{arith}
-use lib.ListN.{length, length-set}
-use Rattle.lists.proofs.Filled.{Filled, fill_start, fill_step, fill_end}
+use lib.ListN.{length-set}
+use Rattle.lists.proofs.Filled.{fill_start, fill_step, fill_end}
 use Rattle.words.proofs.Transfer.{copied-fit, copied-not}
 use Rattle.words.proofs.copy.Goals as goal
 

@@ -1,11 +1,9 @@
 -- `words::copy` meets its contract. The loop's invariant: the words below k are copied. The measure is the number of words left.
 -- Assumes nothing.
-use mathlib.Core.Path.{◌≡◌, refl, sym, ◌∙◌}
+use mathlib.Core.Path.{◌≡◌}
 use Prim.Native.Nat.{◌≤◌, ◌-◌}
-use native.Mathlib.Omega.{arith}
-use lib.ListN.{length, length-set}
-use Rattle.lists.proofs.Filled.{Filled, fill_start, fill_step, fill_end}
-use Rattle.words.proofs.Transfer.{copied-fit, copied-not}
+use lib.ListN.{length}
+use Rattle.lists.proofs.Filled.{Filled}
 use Rattle.words.proofs.copy.Given as goal
 
 abbrev pub invariant-loop-k : goal.invariant-loop-k

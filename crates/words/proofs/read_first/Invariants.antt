@@ -1,13 +1,11 @@
 -- `words::read_first` meets its contract. The loop's invariant: the words below k are read, and the bytes of n words are there. The measure is
 -- the number of words left.
 -- Assumes nothing.
-use mathlib.Core.Path.{◌≡◌, ◌∙◌}
+use mathlib.Core.Path.{◌≡◌}
 use Prim.Native.Nat.{◌*◌, ◌-◌, ◌≤◌}
-use native.Mathlib.Omega.{arith}
-use lib.ListN.{length, length-set}
+use lib.ListN.{length}
 use Rattle.lists.specs.Bytes.{words_of}
-use Rattle.lists.proofs.Filled.{Filled, fill_start, fill_step}
-use Rattle.words.proofs.Transfer.{word-inside}
+use Rattle.lists.proofs.Filled.{Filled}
 use Rattle.words.proofs.read_first.Given as goal
 
 abbrev pub invariant-loop-k : goal.invariant-loop-k

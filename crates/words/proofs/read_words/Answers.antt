@@ -1,13 +1,10 @@
 -- `words::read_words` meets its contract. The loop's invariant: the words below k are there, and k is past the first n, which were read. The
 -- measure is the number of words left.
 -- Assumes nothing.
-use mathlib.Core.Path.{◌≡◌}
-use Prim.Native.Nat.{◌≤◌, ◌-◌}
 use native.Mathlib.Nat.{div-add-mod}
 use native.Mathlib.Omega.{arith}
 use lib.ListN.{length, length-set}
-use Rattle.lists.specs.Bytes.{words_of}
-use Rattle.lists.proofs.Filled.{Filled, fill_step}
+use Rattle.lists.proofs.Filled.{fill_step}
 use Rattle.words.proofs.Transfer.{into-is, word-past}
 use borrow.Author.Rules.{rules}
 use Rattle.words.proofs.read_words.Goals as goal

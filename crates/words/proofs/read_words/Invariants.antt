@@ -3,12 +3,9 @@
 -- Assumes nothing.
 use mathlib.Core.Path.{◌≡◌}
 use Prim.Native.Nat.{◌≤◌, ◌-◌}
-use native.Mathlib.Nat.{div-add-mod}
-use native.Mathlib.Omega.{arith}
-use lib.ListN.{length, length-set}
+use lib.ListN.{length}
 use Rattle.lists.specs.Bytes.{words_of}
-use Rattle.lists.proofs.Filled.{Filled, fill_step}
-use Rattle.words.proofs.Transfer.{into-is, word-past}
+use Rattle.lists.proofs.Filled.{Filled}
 use Rattle.words.proofs.read_words.Given as goal
 
 abbrev pub invariant-loop-k : goal.invariant-loop-k

@@ -1,13 +1,11 @@
 -- `words::write_words` meets its contract. The loop's invariant: the bytes of the words below k are written. The measure is the number of
 -- words left.
 -- Assumes nothing.
-use mathlib.Core.Path.{◌≡◌, sym, ◌∙◌}
-use Prim.Native.Nat.{◌*◌, ◌-◌, ◌≤◌}
+use mathlib.Core.Path.{sym, ◌∙◌}
 use native.Mathlib.Omega.{arith}
-use lib.ListN.{length, length-set}
-use Rattle.lists.specs.Bytes.{bytes_of}
+use lib.ListN.{length-set}
 use Rattle.lists.proofs.Bytes.{length-bytes_of}
-use Rattle.lists.proofs.Filled.{Filled, fill_start, fill_end}
+use Rattle.lists.proofs.Filled.{fill_start, fill_end}
 use Rattle.words.proofs.Transfer.{two-more, even_is, odd-not, half-not, bytes_fit, bytes-not}
 use Rattle.words.proofs.write_words.Goals as goal
 
@@ -24,13 +22,12 @@ pub bounds-bytes-k-in-loop-k : goal.bounds-bytes-k-in-loop-k
 bounds-bytes-k-in-loop-k c = simp length-set (omega arith)
 
 pub loop-k-preserved : goal.loop-k-preserved
-loop-k-preserved c =
-    (
-      omega arith,
-      simp length-set (omega arith),
-      omega arith,
-      two-more _ _ _ _ _ c.loop-k.invariant.3 (omega arith) (omega arith) c.low.ensures c.high.ensures,
-    )
+loop-k-preserved c = (
+  omega arith,
+  simp length-set (omega arith),
+  omega arith,
+  two-more _ _ _ _ _ c.loop-k.invariant.3 (omega arith) (omega arith) c.low.ensures c.high.ensures,
+)
 
 pub returns : goal.returns
 returns c =

@@ -1,14 +1,11 @@
 -- `words::write_words` meets its contract. The loop's invariant: the bytes of the words below k are written. The measure is the number of
 -- words left.
 -- Assumes nothing.
-use mathlib.Core.Path.{◌≡◌, sym, ◌∙◌}
+use mathlib.Core.Path.{◌≡◌}
 use Prim.Native.Nat.{◌*◌, ◌-◌, ◌≤◌}
-use native.Mathlib.Omega.{arith}
-use lib.ListN.{length, length-set}
+use lib.ListN.{length}
 use Rattle.lists.specs.Bytes.{bytes_of}
-use Rattle.lists.proofs.Bytes.{length-bytes_of}
-use Rattle.lists.proofs.Filled.{Filled, fill_start, fill_end}
-use Rattle.words.proofs.Transfer.{two-more, even_is, odd-not, half-not, bytes_fit, bytes-not}
+use Rattle.lists.proofs.Filled.{Filled}
 use Rattle.words.proofs.write_words.Given as goal
 
 abbrev pub invariant-loop-k : goal.invariant-loop-k

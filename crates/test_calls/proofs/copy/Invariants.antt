@@ -1,10 +1,9 @@
 -- `test_calls::copy` meets its contract. The loop's invariant: the bytes below i are copied. The measure is the number of bytes left.
 -- Assumes nothing.
-use mathlib.Core.Path.{◌≡◌, refl, sym, ◌∙◌}
+use mathlib.Core.Path.{◌≡◌}
 use Prim.Native.Nat.{◌≤◌, ◌-◌}
-use native.Mathlib.Omega.{arith}
-use lib.ListN.{length, length-set}
-use Rattle.lists.proofs.Filled.{Filled, fill_start, fill_step, fill_end}
+use lib.ListN.{length}
+use Rattle.lists.proofs.Filled.{Filled}
 use Rattle.test_calls.proofs.copy.Given as goal
 
 abbrev pub invariant-loop-i : goal.invariant-loop-i

@@ -1,6 +1,5 @@
 -- `test_calls::test_evaluate` meets its contract: what the call ensures, with the number in place of the answer.
 -- Assumes nothing.
-use Rattle.lists.specs.Operations.{evaluate}
 use Rattle.test_calls.proofs.Answers.{told}
 use Rattle.refusal.proofs.Clauses.{number_and_values}
 use Rattle.test_calls.proofs.test_evaluate.Goals as goal

@@ -11,7 +11,7 @@
    pointer needs no alignment. The two lists may be the same memory; a result overlaps neither a list nor another result.
 
    The calls allocate nothing, keep no state between them and may run in several threads at once, each with results of its own. On the
-   stack they take up to 58 KB: a thread of 64 KB is enough.
+   stack they take up to 58 KB, so that a thread of 64 KB is enough (measured with rattle-kit-5b).
 
    To link:  (cd crates/bernstein && rt lib)
              cc -Iinclude program.c crates/bernstein/out/libbernstein.a */

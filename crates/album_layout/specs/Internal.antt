@@ -7,7 +7,7 @@
 --     place_at            the place that entry i names; 0 there
 -- Theorems, of an album of bytes that obeys its layout and has a list i:
 --     body-start         body_at is the bytes from where body i has to start
---     body-bytes         they are the bytes of list i
+--     body_bytes         they are the bytes of list i
 -- Assumes nothing.
 use Rattle.std.specs.Prelude.{◌≡◌, Bool, cond, ◌&&◌, List, [], ◌∷◌, ℕ, ◌+◌, ◌*◌, ◌≤◌, ◌<◌, leb, ltb, length, take, drop}
 use Rattle.refusal.specs.Limits.{max_degree, max_lists}

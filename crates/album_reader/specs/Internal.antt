@@ -2,7 +2,7 @@
 --     words_read    the number of words that entry i names; 0 where the slice is too short for them
 --     left_at       these words, zeros after them; what the slice held where it is too short
 --     Held         x is a slice of `most` words that holds a list of n words, which no call refuses, and zeros after it
--- Theorem: read-held, in an album that passed, list i is read so that the slice holds it.
+-- Theorem: read_held, in an album that passed, list i is read so that the slice holds it.
 -- Assumes nothing.
 use Rattle.std.specs.Prelude.{◌≡◌, cond, List, ℕ, ltb, length}
 use Rattle.lists.specs.Bytes.{word_count, words_of}

@@ -6,7 +6,7 @@
 -- Theorems (proofs/Degree):
 --     degree-of, degree-unique     every polynomial but 0 has one degree
 --     degree-mul                   over a field the degrees of a product add
---     size-extent, size-of         a size d + 1 is a degree d, and conversely
+--     size-extent, size_of         a size d + 1 is a degree d, and conversely
 --     size-least                   no bound is below the size
 -- Assumes nothing.
 use Rattle.std.specs.Prelude.{◌≡◌, ℕ, zero, suc}

@@ -9,7 +9,7 @@
 -- Theorems (specs/ModularLaws):
 --     residue_mod-add, residue_mod-mul, residue_mod-neg     the residue of a sum, a product and a negative is that of the residues
 --     residue_mod_injective                                 two numbers with one residue leave the same remainder by p
---     mul-inverse-in                                        a times its inverse is 1, for each a but 0
+--     mul-inverse_in                                        a times its inverse is 1, for each a but 0
 -- Assumes nothing.
 use mathlib.Core.HLevel.{hedberg}
 use Prim.Native.Nat.{ℕ, zero, suc, ◌+◌, ◌*◌, ◌-◌, ◌%◌, ◌/◌, ◌<◌, Fin}

@@ -4,7 +4,7 @@
 -- Theorems, each in the module of proofs/ that is named:
 --     ⟨1-t⟩^-cancel               a factor (1-t)^n cancels (OneMinusT)
 --     factor                      the factor theorem at 1: where s(1) = 0, s is 1 - t times a polynomial (Factors)
---     split-off, split-unique     every polynomial but 0 is (1-t)^k · core with core(1) not 0, and k is one (Factors)
+--     split_off, split-unique     every polynomial but 0 is (1-t)^k · core with core(1) not 0, and k is one (Factors)
 --     divides-without-⟨1-t⟩       a divisor of (1-t)^N · h that is not 0 at 1 divides h (Factors)
 -- Assumes nothing.
 use Rattle.std.specs.Prelude.{ℕ}

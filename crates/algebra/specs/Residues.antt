@@ -2,7 +2,7 @@
 --     red p pos n       n modulo p
 --     add, mul, neg     sum, product and negative modulo p
 -- Theorems (specs/ResiduesLaws):
---     add-assoc, mul-add, …     the laws of a commutative ring
+--     add_assoc, mul-add, …     the laws of a commutative ring
 -- Assumes nothing.
 use Prim.Native.Nat.{ℕ, ◌+◌, ◌*◌, ◌-◌, ◌%◌, ◌<◌, Fin}
 use Rattle.std.proofs.Math.Nat as N

@@ -5,7 +5,7 @@
 --     szero, sone     0, 0, 0, … and 1, 0, 0, …
 --     cauchy f g      the product: term n is the sum of f_j · g_(n-j)
 -- Theorems (specs/SequencesLaws):
---     cauchy-comm, cauchy-assoc, cauchy-add, cauchy-one     the product keeps the laws of a commutative ring
+--     cauchy_comm, cauchy_assoc, cauchy-add, cauchy-one     the product keeps the laws of a commutative ring
 -- Assumes nothing.
 use Rattle.std.specs.Prelude.{ℕ, zero, suc}
 use Rattle.algebra.specs.Ring.{CommRing}

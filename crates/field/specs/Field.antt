@@ -13,7 +13,7 @@
 --     inverse_refusals p a        those for the inverse
 -- Theorems (proofs/Field), on words below p, for every prime field:
 --     residue-sum, residue-difference, residue-product, residue-inverse     each operation is the field's, on residues
---     sum-lt, difference-lt, product-lt                                     each result is a coefficient
+--     sum_lt, difference-lt, product_lt                                     each result is a coefficient
 --     inverse-is                                                            every coefficient but 0 has its inverse, and inverse_of is it
 --     has-inverse                                                           so none but 0 is refused for lack of one
 -- Assumes nothing.

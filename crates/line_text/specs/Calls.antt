@@ -8,7 +8,7 @@
 --     line_text_answer k        the number of bytes of the text
 --     line_text_written k       the text, zeros after it
 -- Theorems, each in the module of proofs/ that is named:
---     parts-join                      a line without byte 0A, that byte and an album are read as this line and this album (Parts)
+--     parts_join                      a line without byte 0A, that byte and an album are read as this line and this album (Parts)
 --     of-the-line, of-no-line-end     two texts, by computation (Examples)
 -- Assumes nothing.
 use Rattle.std.specs.Prelude.{cond, List, [], ◌∷◌, map, ℕ, eqb, length, replicate}

@@ -6,7 +6,7 @@
 --     read_outcome        the same with the slice for the program: one that is too short for some line is refused first
 --     judged_outcome      the refusal of a line that was read; Done where it has a program
 --     ProgramOf           the n bytes written for a line that is read are the program of its tree
--- Theorems (proofs/Lines): outside-is, inside-is    a line is outside the grammar exactly where it has more than max_line bytes, or the
+-- Theorems (proofs/Lines): outside-is, inside_is    a line is outside the grammar exactly where it has more than max_line bytes, or the
 --     grammar has no tree for its tokens; else the grammar has exactly one
 -- Assumes nothing.
 use Rattle.std.specs.Prelude.{◌≡◌, Bool, true, false, cond, ◌||◌, List, [], ◌∷◌, ℕ, ◌≤◌, ltb, length, take}

@@ -4,7 +4,7 @@
 --     first_operator     the lowest of them
 --     postfix            the program of a tree
 --     Small              every operand of the tree is below the operators
--- Theorems (proofs/Operands): reading-small    the tree that a line reads as is small, since a number has at most two digits
+-- Theorems (proofs/Operands): reading_small    the tree that a line reads as is small, since a number has at most two digits
 -- Assumes nothing.
 use Rattle.std.specs.Prelude.{List, [], ◌∷◌, ◌++◌, ℕ, ◌<◌}
 use Rattle.lines.specs.Grammar.{Tree, list, sum, difference, product, derivative}

@@ -7,7 +7,7 @@
 -- Theorems (proofs/Judged):
 --     judged                     the lowest number that applies, as the chain of tests that the code makes
 --     one-listed, two-listed     the lists of a call that refuses nothing are such lists
---     one-passes                 such a list is not refused
+--     one_passes                 such a list is not refused
 -- Assumes nothing.
 use Rattle.std.specs.Prelude.{Bool, false, ◌||◌, List, [], ◌∷◌, ℕ, ◌≤◌, ◌<◌, leb, ltb, eqb, length, get_or}
 use Rattle.refusal.specs.Lowest.{Condition, ◌given-when◌}

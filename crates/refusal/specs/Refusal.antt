@@ -7,7 +7,7 @@
 --     written o new old     what a lent slice holds afterwards: the result, or, refused, what it held before
 -- Theorems (proofs/Answers):
 --     number-range     the numbers are 1 to 13
---     number-is        the number of a reply is that of its outcome
+--     number_is        the number of a reply is that of its outcome
 -- Assumes nothing.
 use Rattle.std.specs.Prelude.{List, [], ℕ}
 use Rattle.refusal.specs.declared.Refusal.{Refusal}

@@ -8,7 +8,7 @@
 -- Theorems, each in the module of proofs/ that is named:
 --     convolution-is     the words, reduced, are the product (Convolution)
 --     ready              what the layout loops leave is laid (Laying)
---     rows-are           the rows of what is laid are these words modulo p (Laying)
+--     rows_are           the rows of what is laid are these words modulo p (Laying)
 -- Assumes nothing.
 use Rattle.std.specs.Prelude.{List, ◌++◌, ℕ, suc, ◌-◌, ◌*◌, ◌%◌, length, get_or, replicate}
 use Rattle.lists.specs.Tabulate.{tabulate}

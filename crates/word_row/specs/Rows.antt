@@ -5,7 +5,7 @@
 --     Partway p old m y x i     the words of x below i are those of the row, and the rest is as it was
 --     row_from p k x m y        the words of x + m · u^k · y: the row step from word k on
 -- Theorems (proofs/RowWords):
---     row-within, row-beyond                        a word of a row, where y reaches and where it does not
+--     row_within, row-beyond                        a word of a row, where y reaches and where it does not
 --     row_from-low, row_from-at, row_from-above     a word of the row step from word k on
 -- Assumes nothing.
 use Rattle.std.specs.Prelude.{◌≡◌, ℕ, ◌+◌, ◌-◌, ◌*◌, ◌%◌, ◌<◌, ◌≤◌, cond, List, ◌++◌, length, take, drop, nat_lt, slice_index}

@@ -5,7 +5,7 @@
 -- Theorems:
 --     into-exact     as many words as the bytes have: their words
 --     into-padded    at least as many: their words, padded
---     bytes-fit      a slice of two bytes for each word holds the bytes of the words
+--     bytes_fit      a slice of two bytes for each word holds the bytes of the words
 --     copied-fit     a slice of as many words holds the words
 -- Assumes nothing.
 use Rattle.std.specs.Prelude.{cond, List, ℕ, ◌*◌, eqb, length, get_or}

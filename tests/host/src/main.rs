@@ -31,7 +31,13 @@ use engine::{Call, Operation};
 use model::{Gcd, List, MAX_WORDS};
 use public::Done;
 use random::Random;
-use std::{collections::BTreeMap, fs, path::Path, process::exit};
+use std::{
+    collections::BTreeMap,
+    fs,
+    os::fd::OwnedFd,
+    path::Path,
+    process::{Command, Stdio, exit},
+};
 use vectors::Vector;
 
 const CALLS: usize = 10_000;
@@ -660,6 +666,14 @@ fn compare_examples(tally: &mut Tally) {
 /// Where tests/host/run puts what examples/run prints.
 const EXAMPLES: &str = "target/comparer/examples.txt";
 
+/// A pipe that nothing reads any more.
+fn closed_pipe() -> fs::File {
+    let mut reader = Command::new("true").stdin(Stdio::piped()).spawn().expect("the program true");
+    let pipe = reader.stdin.take().expect("its standard input");
+    reader.wait().expect("the program true");
+    fs::File::from(OwnedFd::from(pipe))
+}
+
 /// What the programs say when they are given arguments, and when their output cannot be written, and how much they read.
 fn compare_messages(tally: &mut Tally) {
     let programs = [
@@ -682,9 +696,11 @@ fn compare_messages(tally: &mut Tally) {
             }
         }
         let full = fs::File::options().write(true).open("/dev/full").expect("the device /dev/full");
-        let said = engine::run_to(name, fs::File::open(sample).expect("a sample"), full);
-        if said != format!("{name}: standard output cannot be written\n").into_bytes() {
-            tally.fault(&format!("{name} >/dev/full"), &format!("it says {:?}", String::from_utf8_lossy(&said)));
+        for (what, out) in [("/dev/full", full), ("a closed pipe", closed_pipe())] {
+            let said = engine::run_to(name, fs::File::open(sample).expect("a sample"), out);
+            if said != format!("{name}: standard output cannot be written\n").into_bytes() {
+                tally.fault(&format!("{name} >{what}"), &format!("it says {:?}", String::from_utf8_lossy(&said)));
+            }
         }
     }
     println!("report, bind and line: what they say to arguments, and where their output cannot be written; how much they read");

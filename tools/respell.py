@@ -24,13 +24,9 @@ LIBRARY = set(
 # Names whose plain respelling would mean something else, or is a word that is taken.
 CHOSEN = {
     "listAt": "nth_list",
-    "maxDegree": "max_degree",
-    "maxBytes": "max_bytes",
     "valueAt1-⟨1-t⟩": "value_at1-⟨1-t⟩",
     "valueAt-⟨1-t⟩": "value_at-⟨1-t⟩",
 }
-# Rust's own or the format's words, written as they are.
-STAY = set()
 
 
 def files(top):
@@ -82,7 +78,7 @@ def imported(text, ours, called):
 
 
 def borrowed(texts, called):
-    return set().union(*(imported(text, False, called) for text in texts.values()))
+    return set().union(*(imported(text, False, called) for path, text in texts.items() if not path.endswith(".edit")))
 
 
 def in_walk(path):
@@ -145,7 +141,7 @@ def table(texts):
                 names.add(t)
     for name in sorted(names - borrowed(texts, called)):
         new = respelled(name, words, name in said)
-        if new != name and name not in STAY:
+        if new != name:
             rows[name] = new
     # A name stays where its new spelling is another's in a file that has it: of two that would meet, the one with the dash.
     last = None

@@ -1,26 +1,19 @@
--- `field_tables::factorials` meets its contract: one test over both parts of each table, computed.
+-- `field_tables::factorials` meets its contract: one test over each table, computed.
 -- Assumes nothing.
-use mathlib.Core.Path.{refl, subst, sym, ◌∙◌}
+use mathlib.Core.Path.{refl, ◌∙◌}
 use Rattle.field.specs.Fields.{modulus, field_at, longest}
 use Rattle.field.proofs.Fields.{p-at, modulus-first, modulus-second, modulus-third}
-use Rattle.field_tables.specs.Factorials.{Holds, factorial_in}
 use Rattle.field_tables.proofs.Entries.{factorials-hold}
 use Rattle.field_tables.proofs.factorials.Goals as goal
 
 pub returns-in-0 : goal.returns-in-0
 unfolding longest modulus
-returns-in-0 c =
-    subst (Holds (field_at _) _ (factorial_in (field_at _))) (sym c.joined.ensures)
-    (factorials-hold (field_at _) (p-at _ ∙ modulus-first c.in-0.is) _ _ refl tt)
+returns-in-0 c = factorials-hold (field_at _) (p-at _ ∙ modulus-first c.in-0.is) _ _ refl tt
 
 pub returns-in-1 : goal.returns-in-1
 unfolding longest modulus
-returns-in-1 c =
-    subst (Holds (field_at _) _ (factorial_in (field_at _))) (sym c.joined-in-1.ensures)
-    (factorials-hold (field_at _) (p-at _ ∙ modulus-second c.in-1.is) _ _ refl tt)
+returns-in-1 c = factorials-hold (field_at _) (p-at _ ∙ modulus-second c.in-1.is) _ _ refl tt
 
 pub returns-in_default : goal.returns-in_default
 unfolding longest modulus
-returns-in_default c =
-    subst (Holds (field_at _) _ (factorial_in (field_at _))) (sym c.joined-in_default.ensures)
-    (factorials-hold (field_at _) (p-at _ ∙ modulus-third c.in_default.in_default-own.rest.0.1 c.in_default.in_default-own.rest.1) _ _ refl tt)
+returns-in_default c = factorials-hold (field_at _) (p-at _ ∙ modulus-third c.in_default.in_default-own.rest.0.1 c.in_default.in_default-own.rest.1) _ _ refl tt

@@ -1,7 +1,7 @@
 // 0, and the inverses of the numbers of words, 1 first, modulo 65,521.
 use crate::InverseTable;
 
-pub const INVERSES: InverseTable = [
+pub static INVERSES: InverseTable = [
     0, 1, 32761, 43681, 49141, 52417, 54601, 56161, 57331, 58241, 58969, 11913, 60061, 60481,
     60841, 61153, 61426, 42396, 61881, 6897, 62245, 62401, 38717, 11395, 62791, 49796, 63001,
     41254, 63181, 58743, 63337, 25363, 30713, 3971, 21198, 63649, 63701, 54896, 36209, 63841,

@@ -1,7 +1,7 @@
 // 0, and the inverses of the numbers of words, 1 first, modulo 65,519.
 use crate::InverseTable;
 
-pub const INVERSES: InverseTable = [
+pub static INVERSES: InverseTable = [
     0, 1, 32760, 21840, 16380, 13104, 10920, 9360, 8190, 7280, 6552, 41694, 5460, 5040, 4680, 4368,
     4095, 61665, 3640, 27587, 3276, 3120, 20847, 8546, 2730, 55036, 2520, 46106, 2340, 40667, 2184,
     61292, 34807, 13898, 63592, 1872, 1820, 24791, 46553, 1680, 1638, 63921, 1560, 15237, 43183,

@@ -1,7 +1,7 @@
 // 0, and the inverses of the numbers of words, 1 first, modulo 65,497.
 use crate::InverseTable;
 
-pub const INVERSES: InverseTable = [
+pub static INVERSES: InverseTable = [
     0, 1, 32749, 43665, 49123, 26199, 54581, 37427, 57310, 14555, 45848, 41680, 60039, 20153,
     51462, 8733, 28655, 50086, 40026, 48261, 22924, 34308, 20840, 28477, 62768, 44538, 42825,
     26684, 25731, 60980, 37115, 54933, 47076, 57558, 25043, 59883, 20013, 37174, 56879, 28550,

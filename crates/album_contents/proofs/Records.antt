@@ -8,10 +8,10 @@ use native.Mathlib.Omega.{arith}
 use lib.ListN.{length, take, set, length-set}
 use lib.Seq.{take_all, take-suc-set}
 use borrow.Author.Tests.{lt-ltb, le-ltb}
+use Rattle.refusal.specs.Refusal.{Outcome}
+use Rattle.std.specs.Prelude.{Ok, Err}
 use Rattle.refusal.specs.Limits.{max_lists}
 use Rattle.refusal.specs.Lowest.{lowest}
-use Rattle.refusal.specs.declared.Outcome.{Outcome}
-use Rattle.refusal.specs.declared.Outcome.TheVariants.{Done, Refused}
 use Rattle.album_layout.specs.Layout.{count, degree_at, offset_at}
 use Rattle.album_contents.specs.Calls.{record_at, records_from, contents_rows, filled}
 use Rattle.album_contents.specs.Internal.{records_due}
@@ -60,8 +60,8 @@ after-all s xs n e = sym (take_all n (after s xs n) (omega (arith, length-after 
 module _ (p : ℕ) (s : List ℕ) (xs : List Entry) where
   -- what is due fits the slice
   pub due-fits : (o : Outcome) → o ≡ lowest (contents_rows p s (length xs)) → records_due o ≤ length xs
-  due-fits Done e = omega (arith, fit_all p s (length xs) (sym e))
-  due-fits (Refused why) e = omega arith
+  due-fits (Ok _) e = omega (arith, fit_all p s (length xs) (sym e))
+  due-fits (Err why) e = omega arith
 
   -- the slice after what is due is written
   pub after-due : (o : Outcome) → o ≡ lowest (contents_rows p s (length xs)) → (d : ℕ) → d ≡ records_due o
@@ -69,5 +69,5 @@ module _ (p : ℕ) (s : List ℕ) (xs : List Entry) where
   after-due o e d q = due o e q ∙ ap (λ r. filled r (records_from s 0 max_lists) xs) e
     where
       due : (o : Outcome) → o ≡ lowest (contents_rows p s (length xs)) → d ≡ records_due o → after s xs d ≡ filled o (records_from s 0 max_lists) xs
-      due Done e q = after-all s xs d (fit_all p s (length xs) (sym e) ∙ sym q) ∙ ap (records_from s 0) q
-      due (Refused why) e q = ap (after s xs) q
+      due (Ok _) e q = after-all s xs d (fit_all p s (length xs) (sym e) ∙ sym q) ∙ ap (records_from s 0) q
+      due (Err why) e q = ap (after s xs) q

@@ -7,13 +7,11 @@
 --     contents_written k    the records of the album's lists
 --     filled                what the lent slice holds afterwards: the records, or, refused, what it held before
 -- Assumes nothing.
-use Rattle.std.specs.Prelude.{cond, not, List, [], ◌∷◌, ◌++◌, ℕ, zero, suc, ltb, eqb, length}
+use Rattle.std.specs.Prelude.{cond, not, List, [], ◌∷◌, ◌++◌, ℕ, zero, suc, ltb, eqb, length, Ok, Err}
 use Rattle.refusal.specs.Limits.{max_lists}
-use Rattle.refusal.specs.Refusal.{Reply, reply}
+use Rattle.refusal.specs.Refusal.{Reply, reply, Outcome}
 use Rattle.refusal.specs.Lowest.{Condition, ◌given-when◌, lowest}
 use Rattle.refusal.specs.declared.Refusal.TheVariants.{Misfit}
-use Rattle.refusal.specs.declared.Outcome.{Outcome}
-use Rattle.refusal.specs.declared.Outcome.TheVariants.{Done, Refused}
 use Rattle.field.specs.Fields.{modulus}
 use Rattle.album_layout.specs.Layout.{count, degree_at, offset_at}
 use Rattle.album_layout.specs.Calls.{album_refusals}
@@ -30,8 +28,8 @@ unfoldable pub contents_rows : (p : ℕ) → List ℕ → (n : ℕ) → List Con
 contents_rows p s n = album_refusals p s ++ (Misfit given-when not (eqb n max_lists) ∷ [])
 
 abbrev pub filled : Outcome → (new old : List Entry) → List Entry
-filled Done new old = new
-filled (Refused why) new old = old
+filled (Ok _) new old = new
+filled (Err why) new old = old
 
 abbrev pub contents_answer : (k : ℕ) → List ℕ → List Entry → Reply
 contents_answer k s out = reply (lowest (contents_rows (modulus k) s (length out))) []

@@ -7,11 +7,11 @@ use native.Mathlib.Decide.{dec_lt}
 use native.Mathlib.Omega.{arith}
 use lib.ListN.{get_or, length, take, get_or-eq_default}
 use lib.Seq.{take_at}
+use Rattle.std.specs.Prelude.{Ok, Err}
 use Rattle.algebra.specs.PrimeField.{PrimeField}
 use Rattle.refusal.specs.Refusal.{reply, written}
 use Rattle.refusal.specs.Lowest.{lowest}
 use Rattle.refusal.specs.declared.Refusal.{Refusal}
-use Rattle.refusal.specs.declared.Outcome.TheVariants.{Done, Refused}
 use Rattle.lists.specs.Degrees.{naive_degree}
 use Rattle.lists.specs.Lists.{Coefficients}
 use Rattle.lists.specs.Refused.{IsList}
@@ -29,7 +29,7 @@ use Rattle.album_gcd.specs.Internal.{zero_start, fold_gcd, Folded, Answered}
 use Rattle.album_gcd.proofs.Folds.{fold-album}
 use Rattle.album_gcd.proofs.Zeros.{Nonzero}
 
-pub refused : (F : PrimeField) (most : ℕ) (s h : List ℕ) {why : Refusal} → lowest (album_gcd_rows F.p most s h) ≡ Refused why
+pub refused : (F : PrimeField) (most : ℕ) (s h : List ℕ) {why : Refusal} → lowest (album_gcd_rows F.p most s h) ≡ Err why
     → Answered F most s h h (G.Refused why)
 refused F most s h e =
     record {
@@ -84,7 +84,7 @@ module _ (F : PrimeField) (most : ℕ) (big : most ≤ F.p) (lists : List (List 
 
 module _ (F : PrimeField) (most : ℕ) (big : most ≤ F.p) (s h : List ℕ)
     (listed : (i : ℕ) → i < length (lists_of s) → IsList F.p most (get_or (lists_of s) i [])) (one : Nonzero (lists_of s)) where
-  pub answered : {x : List ℕ} {n k c : ℕ} → Done ≡ lowest (album_gcd_rows F.p most s h) → Folded F most (lists_of s) x n k c
+  pub answered : {x : List ℕ} {n k c : ℕ} → Ok tt ≡ lowest (album_gcd_rows F.p most s h) → Folded F most (lists_of s) x n k c
       → c ≡ common_power (lists_of s) → Answered F most s h x (G.Done (record { 0 = n - 1 }) (record { 0 = c }) (record { 0 = k }))
   answered {x} {n} {k} {c} e f ec =
       let a = answer F most big (lists_of s) listed one f ec in

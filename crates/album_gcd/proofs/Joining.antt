@@ -8,11 +8,11 @@ use native.Mathlib.Omega.{arith}
 use lib.Dec.{eqb}
 use lib.ListN.{get_or, length}
 use borrow.Author.Tests.{eq-eqb, ne_eqb, le-ltb, lt-leb}
+use Rattle.std.specs.Prelude.{Ok}
 use Rattle.algebra.specs.PrimeField.{PrimeField}
 use Rattle.refusal.specs.Refusal.{reply, written}
 use Rattle.refusal.specs.Lowest.{lowest}
 use Rattle.refusal.specs.declared.Refusal.{Refusal}
-use Rattle.refusal.specs.declared.Outcome.TheVariants.{Done}
 use Rattle.lists.specs.declared.NaiveDegree.{NaiveDegree}
 use Rattle.lists.specs.declared.Power.{Power}
 use Rattle.lists.specs.Degrees.{naive_degree, significant, power}
@@ -47,12 +47,12 @@ module _ (p most : ℕ) where
       simp (ne_eqb (length c) 0 (λ e. omega arith), le-ltb most (length c) l.short)
 
   module _ (f g : List ℕ) (lf : IsList p most f) (lg : IsList p most g) where
-    lists-pass : lowest (list_refusals p most (f ∷ g ∷ [])) ≡ Done
+    lists-pass : lowest (list_refusals p most (f ∷ g ∷ [])) ≡ Ok tt
     lists-pass =
         judged p most (f ∷ g ∷ [])
         ∙ simp (right-length f lf, right-length g lg, tight f lf.words, tight g lg.words)
 
-    gcd-pass : (h : List ℕ) → ¬ (significant g ≡ 0) → length h ≡ most → lowest (gcd_rows p most f g h) ≡ Done
+    gcd-pass : (h : List ℕ) → ¬ (significant g ≡ 0) → length h ≡ most → lowest (gcd_rows p most f g h) ≡ Ok tt
     unfolding gcd_rows
     gcd-pass h some e =
         sym (judged-done p most f g (not (eqb (length h) most)) lists-pass
@@ -72,7 +72,7 @@ module _ (F : PrimeField) (most : ℕ) (big : most ≤ F.p) where
         }
 
     module _ (lc : IsList F.p most c) (some : ¬ (significant c ≡ 0)) where
-      pass : lowest (gcd_rows F.p most f c x) ≡ Done
+      pass : lowest (gcd_rows F.p most f c x) ≡ Ok tt
       pass = gcd-pass F.p most f c h.listed lc x some (held-length h)
 
       pub join-never : (why : Refusal) → gcd_reply (G.Refused why) ≡ reply (lowest (gcd_rows F.p most f c x)) (gcd_values F f c) → ⊥

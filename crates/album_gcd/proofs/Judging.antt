@@ -7,10 +7,10 @@ use Prim.Native.Nat.{ℕ}
 use lib.Dec.{eqb}
 use lib.ListN.{length}
 use borrow.Author.Tests.{eq-eqb, ne_eqb, eqb-true, not-false}
+use Rattle.std.specs.Prelude.{Ok, Err}
 use Rattle.refusal.specs.Lowest.{lowest}
 use Rattle.refusal.specs.declared.Refusal.{Refusal}
 use Rattle.refusal.specs.declared.Refusal.TheVariants.{AllZero, Misfit}
-use Rattle.refusal.specs.declared.Outcome.TheVariants.{Done, Refused}
 use Rattle.refusal.proofs.First.{refuse, or_else, first_then, refuse-done, or-else-done}
 use Rattle.album_layout.specs.Layout.{lists_of}
 use Rattle.album_layout.specs.Calls.{album_refusals}
@@ -19,25 +19,25 @@ use Rattle.album_gcd.specs.Calls.{all_zero, album_gcd_rows}
 
 module _ (p most : ℕ) (s h : List ℕ) where
   rows-judged : lowest (album_gcd_rows p most s h)
-      ≡ or_else (lowest (album_refusals p s)) (refuse (all_zero (lists_of s)) AllZero (refuse (not (eqb (length h) most)) Misfit Done))
+      ≡ or_else (lowest (album_refusals p s)) (refuse (all_zero (lists_of s)) AllZero (refuse (not (eqb (length h) most)) Misfit (Ok tt)))
   unfolding album_gcd_rows album_refusals
   rows-judged = first_then (album_refusals p s) _ tt
 
-  pub judged-album : {why : Refusal} → lowest (album_refusals p s) ≡ Refused why → Refused why ≡ lowest (album_gcd_rows p most s h)
+  pub judged-album : {why : Refusal} → lowest (album_refusals p s) ≡ Err why → Err why ≡ lowest (album_gcd_rows p most s h)
   judged-album e = sym (rows-judged ∙ simp e)
 
   module _ (e : Passed p s) where
-    pub judged-zero : all_zero (lists_of s) ≡ true → Refused AllZero ≡ lowest (album_gcd_rows p most s h)
+    pub judged-zero : all_zero (lists_of s) ≡ true → Err AllZero ≡ lowest (album_gcd_rows p most s h)
     judged-zero z = sym (rows-judged ∙ simp (e, z))
 
-    pub judged-misfit : all_zero (lists_of s) ≡ false → ¬ (length h ≡ most) → Refused Misfit ≡ lowest (album_gcd_rows p most s h)
+    pub judged-misfit : all_zero (lists_of s) ≡ false → ¬ (length h ≡ most) → Err Misfit ≡ lowest (album_gcd_rows p most s h)
     judged-misfit z m = sym (rows-judged ∙ simp (e, z, ne_eqb (length h) most m))
 
-    pub judged-done : all_zero (lists_of s) ≡ false → length h ≡ most → Done ≡ lowest (album_gcd_rows p most s h)
+    pub judged-done : all_zero (lists_of s) ≡ false → length h ≡ most → Ok tt ≡ lowest (album_gcd_rows p most s h)
     judged-done z m = sym (rows-judged ∙ simp (e, z, eq-eqb (length h) most m))
 
   -- what a call knows that refuses nothing
-  pub judged-fine : lowest (album_gcd_rows p most s h) ≡ Done → Passed p s × (all_zero (lists_of s) ≡ false) × (length h ≡ most)
+  pub judged-fine : lowest (album_gcd_rows p most s h) ≡ Ok tt → Passed p s × (all_zero (lists_of s) ≡ false) × (length h ≡ most)
   judged-fine e =
       let d = or-else-done (lowest (album_refusals p s)) _ (sym rows-judged ∙ e) in
       let z = refuse-done (all_zero (lists_of s)) _ _ d.1 in

@@ -8,9 +8,9 @@ use native.Mathlib.Omega.{arith}
 use lib.Dec.{ltb}
 use lib.ListN.{length, take, drop}
 use borrow.Author.Tests.{lt-ltb, le-ltb, le-leb, lt-leb}
+use Rattle.std.specs.Prelude.{Ok, Err}
 use Rattle.refusal.specs.Lowest.{lowest}
 use Rattle.refusal.specs.declared.Refusal.{Refusal}
-use Rattle.refusal.specs.declared.Outcome.TheVariants.{Done, Refused}
 use Rattle.field.specs.Fields.{modulus}
 use Rattle.lists.specs.Bytes.{Bytes, bytes_of}
 use Rattle.lists.proofs.Bytes.{length-bytes_of}
@@ -61,13 +61,13 @@ module _ (s : List ℕ) (i : ℕ) where
 
 -- a list that can be read, and one that cannot
 module _ (k : ℕ) (s : List ℕ) (i : ℕ) where
-  pub body-done : lowest (check_refusals (modulus k) s i) ≡ Done → (body_at s i ≡ body_of k s i) × (place_at s i ≡ body_place k s i)
+  pub body-done : lowest (check_refusals (modulus k) s i) ≡ Ok tt → (body_at s i ≡ body_of k s i) × (place_at s i ≡ body_place k s i)
   unfolding body_of body_place
   body-done e =
       let fine = call-fine (modulus k) s i e in
       let part = body-start s i fine.0 fine.1 in
       rw e part
 
-  pub body_refused : {why : Refusal} → lowest (check_refusals (modulus k) s i) ≡ Refused why → ([] ≡ body_of k s i) × (0 ≡ body_place k s i)
+  pub body_refused : {why : Refusal} → lowest (check_refusals (modulus k) s i) ≡ Err why → ([] ≡ body_of k s i) × (0 ≡ body_place k s i)
   unfolding body_of body_place
   body_refused e = rw e (refl, refl)

@@ -8,11 +8,11 @@ use native.Mathlib.Omega.{arith}
 use lib.Dec.{leb}
 use lib.ListN.{length}
 use borrow.Author.Tests.{eq-eqb, ne_eqb, lt-ltb, leb-false, le-leb, lt-leb}
+use Rattle.std.specs.Prelude.{Ok, Err}
 use Rattle.refusal.specs.Limits.{max_degree, max_lists}
 use Rattle.refusal.specs.Lowest.{◌given-when◌, lowest}
 use Rattle.refusal.specs.declared.Refusal.{Refusal}
 use Rattle.refusal.specs.declared.Refusal.TheVariants.{Count, Contents, Index, LooseWord}
-use Rattle.refusal.specs.declared.Outcome.TheVariants.{Done, Refused}
 use Rattle.refusal.proofs.First.{refuse, or_else, first-is, first_then, refuse-done, or-else-done}
 use Rattle.lists.specs.Refused.{has_loose, any_of}
 use Rattle.album_layout.specs.Layout.{count, degree_at, offset_at, start_at, offsets_agree, degrees_fit, wrong_count, broken_layout, lists_of}
@@ -25,7 +25,7 @@ not-true-false true f = absurd (f refl)
 not-true-false false f = refl
 
 module _ (s : List ℕ) where
-  layout-judged : lowest (layout_refusals s) ≡ refuse (wrong_count max_lists s) Count (refuse (broken_layout s) Contents Done)
+  layout-judged : lowest (layout_refusals s) ≡ refuse (wrong_count max_lists s) Count (refuse (broken_layout s) Contents (Ok tt))
   unfolding layout_refusals
   layout-judged = first-is (layout_refusals s) tt
 
@@ -53,79 +53,79 @@ module _ (s : List ℕ) where
   unfolding broken_layout
   broken-degree e = simp (e, and-false)
 
-  pub layout-empty : length s ≡ 0 → Refused Count ≡ lowest (layout_refusals s)
+  pub layout-empty : length s ≡ 0 → Err Count ≡ lowest (layout_refusals s)
   layout-empty e = sym (layout-judged ∙ simp (wrong-empty e))
 
-  pub layout-none : count s ≡ 0 → Refused Count ≡ lowest (layout_refusals s)
+  pub layout-none : count s ≡ 0 → Err Count ≡ lowest (layout_refusals s)
   layout-none e = sym (layout-judged ∙ simp (wrong-none e))
 
-  pub layout-many : max_lists < count s → Refused Count ≡ lowest (layout_refusals s)
+  pub layout-many : max_lists < count s → Err Count ≡ lowest (layout_refusals s)
   layout-many l = sym (layout-judged ∙ simp (wrong-many l))
 
   module _ (some : 0 < length s) (low : 0 < count s) (few : count s ≤ max_lists) where
-    pub layout-size : (length s ≡ start_at s (count s) → ⊥) → Refused Contents ≡ lowest (layout_refusals s)
+    pub layout-size : (length s ≡ start_at s (count s) → ⊥) → Err Contents ≡ lowest (layout_refusals s)
     layout-size f = sym (layout-judged ∙ simp (right-count s some low few, broken-size f))
 
-    pub layout-place : (k : ℕ) → k < count s → (offset_at s k ≡ start_at s k → ⊥) → Refused Contents ≡ lowest (layout_refusals s)
+    pub layout-place : (k : ℕ) → k < count s → (offset_at s k ≡ start_at s k → ⊥) → Err Contents ≡ lowest (layout_refusals s)
     layout-place k l f =
         sym (layout-judged ∙ simp (right-count s some low few, broken-place (not-true-false _ (λ t. f (agree_at s k (count s) l t)))))
 
-    pub layout-degree : (k : ℕ) → k < count s → max_degree < degree_at s k → Refused Contents ≡ lowest (layout_refusals s)
+    pub layout-degree : (k : ℕ) → k < count s → max_degree < degree_at s k → Err Contents ≡ lowest (layout_refusals s)
     layout-degree k l m =
         sym (layout-judged ∙ simp (right-count s some low few, broken-degree (not-true-false _ (λ t. let d = fit_at s max_degree k (count s) l t in omega arith))))
 
-    pub layout-done : length s ≡ start_at s (count s) → offsets_agree s (count s) ≡ true → degrees_fit max_degree s (count s) ≡ true → Done ≡ lowest (layout_refusals s)
+    pub layout-done : length s ≡ start_at s (count s) → offsets_agree s (count s) ≡ true → degrees_fit max_degree s (count s) ≡ true → Ok tt ≡ lowest (layout_refusals s)
     layout-done e t d = sym (layout-judged ∙ simp (right-count s some low few, right-layout s e t d))
 
-  pub layout-obeys : lowest (layout_refusals s) ≡ Done → Obeys s
+  pub layout-obeys : lowest (layout_refusals s) ≡ Ok tt → Obeys s
   layout-obeys e =
       let w = refuse-done (wrong_count max_lists s) _ _ (sym layout-judged ∙ e) in
       obeys s w.0 (refuse-done (broken_layout s) _ _ w.1).0
 
 module _ (p : ℕ) (s : List ℕ) where
-  album-judged : lowest (album_refusals p s) ≡ or_else (lowest (layout_refusals s)) (refuse (any_of (has_loose p) (lists_of s)) LooseWord Done)
+  album-judged : lowest (album_refusals p s) ≡ or_else (lowest (layout_refusals s)) (refuse (any_of (has_loose p) (lists_of s)) LooseWord (Ok tt))
   unfolding album_refusals layout_refusals
   album-judged = first_then (layout_refusals s) (LooseWord given-when any_of (has_loose p) (lists_of s) ∷ []) tt
 
-  pub album-refused : {why : Refusal} → lowest (layout_refusals s) ≡ Refused why → Refused why ≡ lowest (album_refusals p s)
+  pub album-refused : {why : Refusal} → lowest (layout_refusals s) ≡ Err why → Err why ≡ lowest (album_refusals p s)
   album-refused e = sym (album-judged ∙ simp e)
 
-  module _ (e : lowest (layout_refusals s) ≡ Done) where
-    pub album-loose : any_of (has_loose p) (lists_of s) ≡ true → Refused LooseWord ≡ lowest (album_refusals p s)
+  module _ (e : lowest (layout_refusals s) ≡ Ok tt) where
+    pub album-loose : any_of (has_loose p) (lists_of s) ≡ true → Err LooseWord ≡ lowest (album_refusals p s)
     album-loose t = sym (album-judged ∙ simp (e, t))
 
-    pub album-done : any_of (has_loose p) (lists_of s) ≡ false → Done ≡ lowest (album_refusals p s)
+    pub album-done : any_of (has_loose p) (lists_of s) ≡ false → Ok tt ≡ lowest (album_refusals p s)
     album-done t = sym (album-judged ∙ simp (e, t))
 
   -- an album that passed
-  pub album-fine : Passed p s → (lowest (layout_refusals s) ≡ Done) × (any_of (has_loose p) (lists_of s) ≡ false)
+  pub album-fine : Passed p s → (lowest (layout_refusals s) ≡ Ok tt) × (any_of (has_loose p) (lists_of s) ≡ false)
   album-fine e =
       let d = or-else-done (lowest (layout_refusals s)) _ (sym album-judged ∙ e) in
       (d.0, (refuse-done (any_of (has_loose p) (lists_of s)) _ _ d.1).0)
 
 module _ (p : ℕ) (s : List ℕ) (i : ℕ) where
   call-judged : lowest (check_refusals p s i)
-      ≡ or_else (lowest (layout_refusals s)) (refuse (leb (count s) i) Index (refuse (any_of (has_loose p) (lists_of s)) LooseWord Done))
+      ≡ or_else (lowest (layout_refusals s)) (refuse (leb (count s) i) Index (refuse (any_of (has_loose p) (lists_of s)) LooseWord (Ok tt)))
   unfolding check_refusals layout_refusals
   call-judged =
       first_then (layout_refusals s) (Index given-when leb (count s) i ∷ LooseWord given-when any_of (has_loose p) (lists_of s) ∷ []) tt
 
-  pub call-refused : {why : Refusal} → lowest (layout_refusals s) ≡ Refused why → Refused why ≡ lowest (check_refusals p s i)
+  pub call-refused : {why : Refusal} → lowest (layout_refusals s) ≡ Err why → Err why ≡ lowest (check_refusals p s i)
   call-refused e = sym (call-judged ∙ simp e)
 
-  module _ (e : lowest (layout_refusals s) ≡ Done) where
-    pub call-index : count s ≤ i → Refused Index ≡ lowest (check_refusals p s i)
+  module _ (e : lowest (layout_refusals s) ≡ Ok tt) where
+    pub call-index : count s ≤ i → Err Index ≡ lowest (check_refusals p s i)
     call-index l = sym (call-judged ∙ simp (e, le-leb (count s) i l))
 
     module _ (l : i < count s) where
-      pub call-loose : any_of (has_loose p) (lists_of s) ≡ true → Refused LooseWord ≡ lowest (check_refusals p s i)
+      pub call-loose : any_of (has_loose p) (lists_of s) ≡ true → Err LooseWord ≡ lowest (check_refusals p s i)
       call-loose t = sym (call-judged ∙ simp (e, lt-leb (count s) i l, t))
 
-      pub call-done : any_of (has_loose p) (lists_of s) ≡ false → Done ≡ lowest (check_refusals p s i)
+      pub call-done : any_of (has_loose p) (lists_of s) ≡ false → Ok tt ≡ lowest (check_refusals p s i)
       call-done t = sym (call-judged ∙ simp (e, lt-leb (count s) i l, t))
 
   -- a list that can be read
-  pub call-fine : lowest (check_refusals p s i) ≡ Done → Obeys s × (i < count s)
+  pub call-fine : lowest (check_refusals p s i) ≡ Ok tt → Obeys s × (i < count s)
   call-fine e =
       let d = or-else-done (lowest (layout_refusals s)) _ (sym call-judged ∙ e) in
       (layout-obeys s d.0, leb-false (count s) i (refuse-done (leb (count s) i) _ _ d.1).0)

@@ -8,9 +8,9 @@ use native.Mathlib.Omega.{arith}
 use lib.Dec.{leb}
 use lib.ListN.{length, get_or}
 use borrow.Author.Tests.{leb-false}
+use Rattle.std.specs.Prelude.{Ok}
 use Rattle.refusal.specs.Limits.{max_words}
 use Rattle.refusal.specs.Lowest.{lowest}
-use Rattle.refusal.specs.declared.Outcome.TheVariants.{Done}
 use Rattle.refusal.proofs.First.{or-false}
 use Rattle.lists.specs.Refused.{has_loose, any_of, IsList}
 use Rattle.lists.proofs.Search.{none-loose}
@@ -36,7 +36,7 @@ module _ (p : ℕ) where
     pub passed-obeys : Obeys s
     passed-obeys = layout-obeys s (album-fine p s e).0
 
-    pub passed-call : (i : ℕ) → i < count s → lowest (check_refusals p s i) ≡ Done
+    pub passed-call : (i : ℕ) → i < count s → lowest (check_refusals p s i) ≡ Ok tt
     passed-call i l = sym (call-done p s i (album-fine p s e).0 l (album-fine p s e).1)
 
     tight : (i : ℕ) → i < count s → has_loose p (nth_list s i) ≡ false

@@ -9,16 +9,16 @@ use Prim.Native.Nat.{ℕ, ◌≤◌, ◌<◌}
 use native.Mathlib.Omega.{arith}
 use lib.ListN.{length}
 use borrow.Author.Tests.{lt-leb}
+use Rattle.std.specs.Prelude.{Ok}
 use Rattle.refusal.specs.Limits.{max_lists, max_bytes}
 use Rattle.refusal.specs.Lowest.{lowest}
-use Rattle.refusal.specs.declared.Outcome.TheVariants.{Done}
 use Rattle.lists.specs.Refused.{has_loose, any_of}
 use Rattle.album_layout.specs.Layout.{count, wrong_count, broken_layout, lists_of}
 use Rattle.album_layout.specs.Calls.{check_refusals}
 use Rattle.album_layout.proofs.Places.{start-high, obeys}
 
 module _ (s : List ℕ) (counted : wrong_count max_lists s ≡ false) (laid : broken_layout s ≡ false) where
-  pub album-is-read : (p : ℕ) → any_of (has_loose p) (lists_of s) ≡ false → (i : ℕ) → i < count s → lowest (check_refusals p s i) ≡ Done
+  pub album-is-read : (p : ℕ) → any_of (has_loose p) (lists_of s) ≡ false → (i : ℕ) → i < count s → lowest (check_refusals p s i) ≡ Ok tt
   unfolding lowest check_refusals
   album-is-read p tight i l = simp (counted, laid, tight, lt-leb (count s) i l)
 

@@ -6,14 +6,12 @@
 --     body_place k        where they start in the album; 0 when refused
 --     PartFrom            a part of lent bytes that starts at a place of these bytes: of the same block of memory, so far from their start
 -- Assumes nothing.
-use Rattle.std.specs.Prelude.{◌≡◌, List, [], ◌∷◌, ℕ, ◌+◌, ◌*◌, leb, take, drop}
+use Rattle.std.specs.Prelude.{◌≡◌, List, [], ◌∷◌, ℕ, ◌+◌, ◌*◌, leb, take, drop, Ok, Err}
 use Rattle.std.specs.Borrow.{Bor}
 use Rattle.refusal.specs.Limits.{max_lists}
-use Rattle.refusal.specs.Refusal.{Reply, reply, written}
+use Rattle.refusal.specs.Refusal.{Reply, reply, written, Outcome}
 use Rattle.refusal.specs.Lowest.{Condition, ◌given-when◌, lowest}
 use Rattle.refusal.specs.declared.Refusal.TheVariants.{Count, Contents, Index, LooseWord}
-use Rattle.refusal.specs.declared.Outcome.{Outcome}
-use Rattle.refusal.specs.declared.Outcome.TheVariants.{Done, Refused}
 use Rattle.field.specs.Fields.{modulus}
 use Rattle.lists.specs.Refused.{has_loose, any_of}
 use Rattle.album_layout.specs.Layout.{count, degree_at, start_at, wrong_count, broken_layout, lists_of}
@@ -41,8 +39,8 @@ body_of k s i = written (lowest (check_refusals (modulus k) s i)) (take (2 * (de
 
 -- of an outcome
 abbrev pub placed : Outcome → ℕ → ℕ
-placed Done at = at
-placed (Refused why) at = 0
+placed (Ok _) at = at
+placed (Err why) at = 0
 
 unfoldable pub body_place : (k : ℕ) → List ℕ → ℕ → ℕ
 body_place k s i = placed (lowest (check_refusals (modulus k) s i)) (start_at s i)

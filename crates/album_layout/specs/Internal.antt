@@ -9,11 +9,10 @@
 --     body-start         body_at is the bytes from where body i has to start
 --     body_bytes         they are the bytes of list i
 -- Assumes nothing.
-use Rattle.std.specs.Prelude.{◌≡◌, Bool, cond, ◌&&◌, List, [], ◌∷◌, ℕ, ◌+◌, ◌*◌, ◌≤◌, ◌<◌, leb, ltb, length, take, drop}
+use Rattle.std.specs.Prelude.{◌≡◌, Bool, cond, ◌&&◌, List, [], ◌∷◌, ℕ, ◌+◌, ◌*◌, ◌≤◌, ◌<◌, leb, ltb, length, take, drop, Ok}
 use Rattle.refusal.specs.Limits.{max_degree, max_lists}
 use Rattle.refusal.specs.Lowest.{Condition, ◌given-when◌, lowest}
 use Rattle.refusal.specs.declared.Refusal.TheVariants.{Count, Contents}
-use Rattle.refusal.specs.declared.Outcome.TheVariants.{Done}
 use Rattle.album_layout.specs.Layout.{count, degree_at, offset_at, start_at, wrong_count, broken_layout}
 use Rattle.album_layout.specs.Calls.{album_refusals}
 
@@ -32,7 +31,7 @@ pub record Obeys (s : List ℕ) : Type 0 where
   pub short : (i : ℕ) → i < count s → degree_at s i ≤ max_degree
 
 abbrev pub Passed : ℕ → List ℕ → Type 0
-Passed p s = lowest (album_refusals p s) ≡ Done
+Passed p s = lowest (album_refusals p s) ≡ Ok tt
 
 unfoldable pub named : List ℕ → ℕ → Bool
 named s i = ltb i (count s) && leb (offset_at s i + 2 * (degree_at s i + 1)) (length s)

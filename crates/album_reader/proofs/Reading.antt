@@ -6,11 +6,11 @@ use Prim.Native.Nat.{ℕ, ◌+◌, ◌-◌, ◌/◌, ◌≤◌, ◌<◌}
 use native.Mathlib.Omega.{arith}
 use lib.ListN.{length}
 use borrow.Author.Tests.{lt-ltb, le-ltb}
+use Rattle.std.specs.Prelude.{Ok, Err}
 use Rattle.refusal.specs.Refusal.{number}
 use Rattle.refusal.specs.Lowest.{lowest}
 use Rattle.refusal.specs.declared.Refusal.{Refusal}
 use Rattle.refusal.specs.declared.Refusal.TheVariants.{Misfit}
-use Rattle.refusal.specs.declared.Outcome.TheVariants.{Done, Refused}
 use Rattle.field.specs.Fields.{modulus, longest}
 use Rattle.field.proofs.Fields.{longest-full}
 use Rattle.lists.specs.Padded.{padded}
@@ -63,11 +63,11 @@ module _ (s : List ℕ) (i : ℕ) (out : List ℕ) (o : Obeys s) (l : i < count 
 
 -- what the call answers and leaves in the slice
 module _ (k : ℕ) (s : List ℕ) (i : ℕ) (out : List ℕ) where
-  pub said-refused : {why : Refusal} → lowest (check_refusals (modulus k) s i) ≡ Refused why
+  pub said-refused : {why : Refusal} → lowest (check_refusals (modulus k) s i) ≡ Err why
       → (record { number = number why; values = [] } ≡ read_answer k s i out) × (out ≡ read_written k s i out)
   said-refused e = rw (read-refused (modulus k) (longest k) s i out e) (refl, refl)
 
-  module _ (e : lowest (check_refusals (modulus k) s i) ≡ Done) where
+  module _ (e : lowest (check_refusals (modulus k) s i) ≡ Ok tt) where
     pub said-misfit : ¬ (length out ≡ longest k)
         → (record { number = number Misfit; values = [] } ≡ read_answer k s i out) × (out ≡ read_written k s i out)
     said-misfit f = rw (read-misfit (modulus k) (longest k) s i out e f) (refl, refl)

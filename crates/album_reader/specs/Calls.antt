@@ -4,7 +4,8 @@
 --     read_written k    its words, zeros after them
 --     listed_reply      what the answer says: the list's naive degree
 -- Assumes nothing.
-use Rattle.std.specs.Prelude.{not, List, [], ◌∷◌, ◌++◌, ℕ, eqb, length}
+use Rattle.refusal.specs.declared.Refusal.{Refusal}
+use Rattle.std.specs.Prelude.{not, List, [], ◌∷◌, ◌++◌, ℕ, eqb, length, Ok, Err, Result}
 use Rattle.refusal.specs.Refusal.{Reply, number, reply, written}
 use Rattle.refusal.specs.Lowest.{Condition, ◌given-when◌, lowest}
 use Rattle.refusal.specs.declared.Refusal.TheVariants.{Misfit}
@@ -12,8 +13,6 @@ use Rattle.field.specs.Fields.{modulus, longest}
 use Rattle.lists.specs.Padded.{padded}
 use Rattle.album_layout.specs.Layout.{degree_at, nth_list}
 use Rattle.album_layout.specs.Calls.{check_refusals}
-use Rattle.album_reader.specs.declared.Listed.{Listed}
-use Rattle.album_reader.specs.declared.Listed.TheVariants.{Done, Refused}
 
 unfoldable pub read_rows : (p most : ℕ) → List ℕ → ℕ → List ℕ → List Condition
 read_rows p most s i out = check_refusals p s i ++ (Misfit given-when not (eqb (length out) most) ∷ [])
@@ -24,6 +23,6 @@ read_answer k s i out = reply (lowest (read_rows (modulus k) (longest k) s i out
 abbrev pub read_written : (k : ℕ) → List ℕ → ℕ → List ℕ → List ℕ
 read_written k s i out = written (lowest (read_rows (modulus k) (longest k) s i out)) (padded (longest k) (nth_list s i)) out
 
-abbrev pub listed_reply : Listed → Reply
-listed_reply (Done n) = record { number = 0; values = n.0 ∷ [] }
-listed_reply (Refused why) = record { number = number why; values = [] }
+abbrev pub listed_reply : (Result NaiveDegree Refusal) → Reply
+listed_reply (Ok n) = record { number = 0; values = n.0 ∷ [] }
+listed_reply (Err why) = record { number = number why; values = [] }

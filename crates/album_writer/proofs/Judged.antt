@@ -8,10 +8,10 @@ use native.Mathlib.Omega.{arith}
 use lib.Dec.{eqb, ltb}
 use lib.ListN.{length, get_or}
 use borrow.Author.Tests.{eqb-true, eqb-false, ltb-false, not-false, eq-eqb, ne_eqb, le-ltb}
+use Rattle.std.specs.Prelude.{Ok}
 use Rattle.refusal.specs.Limits.{max_degree, max_lists, max_words, max_bytes}
 use Rattle.refusal.specs.Lowest.{lowest}
 use Rattle.refusal.specs.declared.Refusal.TheVariants.{Count, Contents, Length, LooseWord, Misfit}
-use Rattle.refusal.specs.declared.Outcome.TheVariants.{Done}
 use Rattle.refusal.proofs.First.{refuse, first-is, refuse-done, or-false}
 use Rattle.lists.specs.Degrees.{naive_degree}
 use Rattle.lists.specs.Refused.{has_loose}
@@ -57,7 +57,7 @@ pub write-judged : (p : ℕ) (words degrees out : List ℕ)
     ≡ refuse (wrong_lists (length degrees)) Count
     (refuse (has_high max_degree degrees) Contents
     (refuse (not (eqb (length words) (words_for degrees))) Length
-    (refuse (has_loose p words) LooseWord (refuse (ltb (length out) max_bytes) Misfit Done))))
+    (refuse (has_loose p words) LooseWord (refuse (ltb (length out) max_bytes) Misfit (Ok tt)))))
 unfolding write_rows
 write-judged p words degrees out = first-is (write_rows p words degrees out) tt
 
@@ -69,7 +69,7 @@ pub record Taken (p : ℕ) (words degrees out : List ℕ) : Type 0 where
   pub tight : has_loose p words ≡ false
   pub room : max_bytes ≤ length out
 
-pub taken : (p : ℕ) (words degrees out : List ℕ) → lowest (write_rows p words degrees out) ≡ Done → Taken p words degrees out
+pub taken : (p : ℕ) (words degrees out : List ℕ) → lowest (write_rows p words degrees out) ≡ Ok tt → Taken p words degrees out
 taken p words degrees out e =
     let count = refuse-done (wrong_lists (length degrees)) _ _ (sym (write-judged p words degrees out) ∙ e) in
     let high = refuse-done (has_high max_degree degrees) _ _ count.1 in
@@ -86,7 +86,7 @@ taken p words degrees out e =
       room = ltb-false (length out) max_bytes short.0;
     }
 
-pub taken-done : (p : ℕ) (words degrees out : List ℕ) → Taken p words degrees out → lowest (write_rows p words degrees out) ≡ Done
+pub taken-done : (p : ℕ) (words degrees out : List ℕ) → Taken p words degrees out → lowest (write_rows p words degrees out) ≡ Ok tt
 taken-done p words degrees out t =
     write-judged p words degrees out
     ∙ simp (

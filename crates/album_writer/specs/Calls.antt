@@ -8,7 +8,8 @@
 --     write_written k      the album of the lists, at the front of the target
 --     written_reply        what the answer says: the number of bytes
 -- Assumes nothing.
-use Rattle.std.specs.Prelude.{Bool, false, not, ◌||◌, List, [], ◌∷◌, ◌++◌, ℕ, eqb, ltb, length, drop}
+use Rattle.refusal.specs.declared.Refusal.{Refusal}
+use Rattle.std.specs.Prelude.{Bool, false, not, ◌||◌, List, [], ◌∷◌, ◌++◌, ℕ, eqb, ltb, length, drop, Ok, Err, Result}
 use Rattle.refusal.specs.Limits.{max_degree, max_lists, max_bytes}
 use Rattle.refusal.specs.Refusal.{Reply, number, reply, written}
 use Rattle.refusal.specs.Lowest.{Condition, ◌given-when◌, lowest}
@@ -17,8 +18,6 @@ use Rattle.field.specs.Fields.{modulus}
 use Rattle.lists.specs.Refused.{has_loose}
 use Rattle.album_layout.specs.Written.{album_of}
 use Rattle.album_writer.specs.Cut.{words_for, cut_by}
-use Rattle.album_writer.specs.declared.Written.{Written}
-use Rattle.album_writer.specs.declared.Written.TheVariants.{Done, Refused}
 
 unfoldable pub wrong_lists : ℕ → Bool
 wrong_lists n = eqb n 0 || ltb max_lists n
@@ -46,6 +45,6 @@ abbrev pub write_written : (k : ℕ) → (words degrees out : List ℕ) → List
 write_written k words degrees out =
     written (lowest (write_rows (modulus k) words degrees out)) (over_front (album_of (cut_by degrees words)) out) out
 
-abbrev pub written_reply : Written → Reply
-written_reply (Done size) = record { number = 0; values = size ∷ [] }
-written_reply (Refused why) = record { number = number why; values = [] }
+abbrev pub written_reply : (Result ℕ Refusal) → Reply
+written_reply (Ok size) = record { number = 0; values = size ∷ [] }
+written_reply (Err why) = record { number = number why; values = [] }

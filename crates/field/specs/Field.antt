@@ -17,20 +17,19 @@
 --     inverse-is                                                            every coefficient but 0 has its inverse, and inverse_of is it
 --     has-inverse                                                           so none but 0 is refused for lack of one
 -- Assumes nothing.
-use Rattle.std.specs.Prelude.{◌≡◌, Bool, false, cond, not, ◌&&◌, ◌||◌, List, [], ◌∷◌, ℕ, zero, suc, ◌+◌, ◌-◌, ◌*◌, ◌%◌, ◌≤◌, ◌<◌, leb, ltb, eqb}
+use Rattle.refusal.specs.declared.Refusal.{Refusal}
+use Rattle.std.specs.Prelude.{◌≡◌, Bool, false, cond, not, ◌&&◌, ◌||◌, List, [], ◌∷◌, ℕ, zero, suc, ◌+◌, ◌-◌, ◌*◌, ◌%◌, ◌≤◌, ◌<◌, leb, ltb, eqb, Ok, Err, Result}
 use Rattle.algebra.specs.PrimeField.{PrimeField, residue, value, inverse}
 use Rattle.refusal.specs.Refusal.{Reply, number}
 use Rattle.refusal.specs.Lowest.{Condition, ◌given-when◌}
 use Rattle.refusal.specs.declared.Refusal.TheVariants.{LooseWord, AllZero, NoInverse}
-use Rattle.field.specs.declared.Word.{Word}
-use Rattle.field.specs.declared.Word.TheVariants.{Done, Refused}
 
 abbrev pub loose : ℕ → ℕ → Bool
 loose p a = leb p a
 
-abbrev pub word_reply : Word → Reply
-word_reply (Done word) = record { number = 0; values = word ∷ [] }
-word_reply (Refused why) = record { number = number why; values = [] }
+abbrev pub word_reply : (Result ℕ Refusal) → Reply
+word_reply (Ok word) = record { number = 0; values = word ∷ [] }
+word_reply (Err why) = record { number = number why; values = [] }
 
 abbrev pub operand_refusals : ℕ → ℕ → ℕ → List Condition
 operand_refusals p a b = LooseWord given-when (loose p a || loose p b) ∷ []

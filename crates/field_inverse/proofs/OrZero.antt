@@ -7,16 +7,17 @@ use native.Mathlib.Decide.{dec_lt, ℕ_discrete}
 use native.Mathlib.Omega.{arith}
 use lib.ListN.{get_or}
 use borrow.Author.Tests.{lt-ltb, le-ltb}
+use Rattle.refusal.specs.declared.Refusal.{Refusal}
+use Rattle.std.specs.Prelude.{Result}
 use Rattle.algebra.specs.PrimeField.{PrimeField, positive}
 use Rattle.refusal.specs.Refusal.{Reply, reply}
 use Rattle.refusal.specs.Lowest.{lowest}
 use Rattle.field.specs.Field.{word_reply, inverse_refusals, inverse_of, inverse_or_zero}
 use Rattle.field.proofs.Field.{inverse-is}
-use Rattle.field.specs.declared.Word.{Word}
 use Rattle.field_inverse.proofs.Answers.{inverse-loose, inverse-zero, answered}
 
 -- the word of an answer, or 0
-abbrev pub word_or_zero : Word → ℕ
+abbrev pub word_or_zero : (Result ℕ Refusal) → ℕ
 word_or_zero w = get_or (word_reply w).values 0 0
 
 module _ (F : PrimeField) where
@@ -45,7 +46,7 @@ module _ (F : PrimeField) where
       let b = inverse-is F a h l in
       sym (ap first (answered F refl a (inverse_of F a) h l (record { high = b.high; one = b.one })).answer) ∙ sym (inverse-some a h l)
 
-  pub inverse-word : {p : ℕ} → F.p ≡ p → (a : ℕ) (w : Word) → word_reply w ≡ reply (lowest (inverse_refusals p a)) (inverse_of F a ∷ [])
+  pub inverse-word : {p : ℕ} → F.p ≡ p → (a : ℕ) (w : (Result ℕ Refusal)) → word_reply w ≡ reply (lowest (inverse_refusals p a)) (inverse_of F a ∷ [])
       → word_or_zero w ≡ inverse_or_zero F a
   unfolding first
   inverse-word e a w h =

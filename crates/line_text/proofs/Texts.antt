@@ -10,11 +10,10 @@ use Prim.Native.Nat.{ℕ, ◌+◌, ◌-◌, ◌*◌, ◌≤◌, min}
 use native.Mathlib.Omega.{arith}
 use lib.ListN.{length, get_or, take, drop, replicate, length-drop, length-replicate}
 use lib.Seq.{take_all, take_at}
+use Rattle.std.specs.Prelude.{Ok, Err, Result}
 use Rattle.refusal.specs.Limits.{max_words}
-use Rattle.refusal.specs.Refusal.{reply, written}
+use Rattle.refusal.specs.Refusal.{reply, written, Outcome}
 use Rattle.refusal.specs.declared.Refusal.{Refusal}
-use Rattle.refusal.specs.declared.Outcome.{Outcome}
-use Rattle.refusal.specs.declared.Outcome.TheVariants.{Done, Refused}
 use Rattle.refusal.proofs.Answers.{done-reply}
 use Rattle.field.specs.Fields.{field_at, longest}
 use Rattle.field.proofs.Fields.{modulus-high, longest-room}
@@ -24,8 +23,6 @@ use Rattle.lists.specs.declared.NaiveDegree.{NaiveDegree}
 use Rattle.lists.proofs.Padded.{length-padded}
 use Rattle.lists.proofs.Scaled.{length-naive}
 use Rattle.album_reader.specs.Calls.{listed_reply}
-use Rattle.album_reader.specs.declared.Listed.{Listed}
-use Rattle.album_reader.specs.declared.Listed.TheVariants as listed
 use Rattle.line_values.specs.Values.{Valued}
 use Rattle.line_values.proofs.Judging.{line-listed}
 use Rattle.line_values.specs.Calls.{line_rows, line_value, list_in, line_outcome, line_answer, line_written}
@@ -58,7 +55,7 @@ module _ (k : ℕ) (s l old : List ℕ) where
     unfolding value_text
     text-is e = ap (λ o. text_for o (list_in v)) (sym outcome-is ∙ e)
 
-    pub value-held : {r : Listed} {n : NaiveDegree} {new : List ℕ} → r ≡ listed.Done n → listed_reply r ≡ line_answer k s l old
+    pub value-held : {r : (Result NaiveDegree Refusal)} {n : NaiveDegree} {new : List ℕ} → r ≡ Ok n → listed_reply r ≡ line_answer k s l old
         → new ≡ line_written k s l old → Held k s l new n.0
     unfolding padded
     value-held {r} {n} {new} i a w =
@@ -79,14 +76,14 @@ module _ (k : ℕ) (s l old : List ℕ) where
           fits = omega (arith, ap (λ c. length (line (map decimal c))) front);
         }
 
-    refused-so : (why : Refusal) (o : Outcome) (m : ℕ) → line_outcome k s l old ≡ o → reply (Refused why) [] ≡ reply o (m ∷ [])
+    refused-so : (why : Refusal) (o : Outcome) (m : ℕ) → line_outcome k s l old ≡ o → reply (Err why) [] ≡ reply o (m ∷ [])
         → value_text k s l ≡ refused_line why
     unfolding refused_line
-    refused-so why Done m q e = absurd (let n = ap (λ x. length x.values) e in omega arith)
-    refused-so why (Refused other) m q e =
+    refused-so why (Ok _) m q e = absurd (let n = ap (λ x. length x.values) e in omega arith)
+    refused-so why (Err other) m q e =
         text-is q ∙ ap (λ n. line (⟨refused⟩ ∷ decimal n ∷ [])) (sym (ap (λ x. x.number) e))
 
-    pub text-refused : {r : Listed} {why : Refusal} → r ≡ listed.Refused why → listed_reply r ≡ line_answer k s l old
+    pub text-refused : {r : (Result NaiveDegree Refusal)} {why : Refusal} → r ≡ Err why → listed_reply r ≡ line_answer k s l old
         → refused_line why ≡ value_text k s l
     text-refused {why = why} i a = sym (refused-so why (line_outcome k s l old) (naive_degree (list_in v)) refl (ap listed_reply (sym i) ∙ a))
 

@@ -11,11 +11,9 @@
 --     parts_join                      a line without byte 0A, that byte and an album are read as this line and this album (Parts)
 --     of-the-line, of-no-line-end     two texts, by computation (Examples)
 -- Assumes nothing.
-use Rattle.std.specs.Prelude.{cond, List, [], ◌∷◌, map, ℕ, eqb, length, replicate}
-use Rattle.refusal.specs.Refusal.{Reply, reply, written}
+use Rattle.std.specs.Prelude.{cond, List, [], ◌∷◌, map, ℕ, eqb, length, replicate, Ok, Err}
+use Rattle.refusal.specs.Refusal.{Reply, reply, written, Outcome}
 use Rattle.refusal.specs.Lowest.{Condition, lowest}
-use Rattle.refusal.specs.declared.Outcome.{Outcome}
-use Rattle.refusal.specs.declared.Outcome.TheVariants.{Done, Refused}
 use Rattle.field.specs.Fields.{field_at, longest}
 use Rattle.lists.specs.Padded.{padded}
 use Rattle.report_text.specs.Text.{decimal, line}
@@ -36,8 +34,8 @@ album_in (x ∷ input) = cond (eqb x ⟨line-end⟩) input (album_in input)
 
 -- c is the list of a value that is not refused
 abbrev pub text_for : Outcome → (c : List ℕ) → List ℕ
-text_for Done c = line (map decimal c)
-text_for (Refused why) c = refused_line why
+text_for (Ok _) c = line (map decimal c)
+text_for (Err why) c = refused_line why
 
 -- the value is had in a slice that fits: misfit (10) is refused for the text's slice alone
 unfoldable pub value_text : (k : ℕ) → (s l : List ℕ) → List ℕ

@@ -7,9 +7,9 @@ use mathlib.Core.Bool.{Bool, true}
 use mathlib.Core.List.{List, [], ◌∷◌, ◌++◌}
 use Prim.Native.Nat.{ℕ}
 use lib.ListN.{replicate}
+use Rattle.std.specs.Prelude.{Ok, Err}
 use Rattle.refusal.specs.Lowest.{lower, lowest}
 use Rattle.refusal.specs.declared.Refusal.TheVariants.{Line, Index, Over, Misfit}
-use Rattle.refusal.specs.declared.Outcome.TheVariants.{Done, Refused}
 use Rattle.field.specs.Fields.{modulus, longest}
 use Rattle.lists.specs.Tabulate.{tabulate}
 use Rattle.lists.specs.Bytes.{words_at}
@@ -33,26 +33,26 @@ unfolding lines.computes tabulate words_at start_at offsets_agree degrees_fit wr
 computes = true
 
 -- 0*0, whose product is over the limit: 6
-over : line_outcome 0 wide (48 ∷ 42 ∷ 48 ∷ []) (replicate 1024 0) ≡ Refused Over
+over : line_outcome 0 wide (48 ∷ 42 ∷ 48 ∷ []) (replicate 1024 0) ≡ Err Over
 unfolding computes
 over = refl
 
 -- and 10 goes before 6
-over-and-misfit : line_outcome 0 wide (48 ∷ 42 ∷ 48 ∷ []) [] ≡ Refused Misfit
+over-and-misfit : line_outcome 0 wide (48 ∷ 42 ∷ 48 ∷ []) [] ≡ Err Misfit
 unfolding computes
 over-and-misfit = refl
 
 -- 0+99: 3
-lacking : line_outcome 0 small (48 ∷ 43 ∷ 57 ∷ 57 ∷ []) (replicate 1024 0) ≡ Refused Index
+lacking : line_outcome 0 small (48 ∷ 43 ∷ 57 ∷ 57 ∷ []) (replicate 1024 0) ≡ Err Index
 unfolding computes
 lacking = refl
 
 -- 99 99: 12 goes before 3
-outside-and-lacking : line_outcome 0 small (57 ∷ 57 ∷ 32 ∷ 57 ∷ 57 ∷ []) [] ≡ Refused Line
+outside-and-lacking : line_outcome 0 small (57 ∷ 57 ∷ 32 ∷ 57 ∷ 57 ∷ []) [] ≡ Err Line
 unfolding computes
 outside-and-lacking = refl
 
 -- 0+0: done
-fine : line_outcome 0 small (48 ∷ 43 ∷ 48 ∷ []) (replicate 1024 0) ≡ Done
+fine : line_outcome 0 small (48 ∷ 43 ∷ 48 ∷ []) (replicate 1024 0) ≡ Ok tt
 unfolding computes
 fine = refl

@@ -14,14 +14,13 @@ use native.Mathlib.Omega.{arith}
 use lib.Dec.{eqb}
 use lib.ListN.{length, take}
 use borrow.Author.Tests.{eq-eqb, ne_eqb, eqb-true, le-ltb, ltb-false, not-false}
+use Rattle.std.specs.Prelude.{Ok, Err}
 use Rattle.refusal.specs.Limits.{max_lists, max_line, max_open}
 use Rattle.refusal.specs.Lowest.{Condition, ◌given-when◌, lowest, or_else}
-use Rattle.refusal.specs.Refusal.{Reply, number, outcome_number, reply, written}
+use Rattle.refusal.specs.Refusal.{Reply, number, outcome_number, reply, written, Outcome}
 use Rattle.refusal.proofs.Answers.{number-range}
 use Rattle.refusal.specs.declared.Refusal.{Refusal}
 use Rattle.refusal.specs.declared.Refusal.TheVariants.{Line, Nesting, Index, LooseWord, Misfit}
-use Rattle.refusal.specs.declared.Outcome.{Outcome}
-use Rattle.refusal.specs.declared.Outcome.TheVariants.{Done, Refused}
 use Rattle.refusal.proofs.First.{refuse, first, first-is, first_then, refuse-done, or-else-done}
 use Rattle.field.specs.Fields.{modulus, field_at, longest}
 use Rattle.field.proofs.Fields.{longest-in, longest-full}
@@ -36,7 +35,6 @@ use Rattle.album_layout.proofs.Passed.{passed-each}
 use Rattle.album_layout.proofs.Places.{length-lists}
 use Rattle.lines.specs.Grammar.{deepest}
 use Rattle.lines.specs.Lines.{outside_grammar, too_deep, line_refusals, read_outcome, ProgramOf}
-use Rattle.lines.specs.declared.Judged.TheVariants as judged
 use Rattle.lines.proofs.Height.{line-height}
 use Rattle.lines.proofs.Operands.{reading_small}
 use Rattle.lines.proofs.Lines.{inside_is}
@@ -48,11 +46,11 @@ use Rattle.line_values.proofs.Values.{value-listed}
 use Rattle.line_values.proofs.Programs.{lacks-program, lacks-tokens}
 
 -- an outcome is one or the other
-never : {why : Refusal} → Done ≡ Refused why → ⊥
+never : {why : Refusal} → Ok tt ≡ Err why → ⊥
 never {why} e = let n : 0 ≡ number why = ap outcome_number e in omega (arith, number-range why)
 
 -- two tests, and what comes behind them
-two : (a b : Bool) (v w : Refusal) (next : Outcome) → refuse a v (refuse b w next) ≡ or_else (refuse a v (refuse b w Done)) next
+two : (a b : Bool) (v w : Refusal) (next : Outcome) → refuse a v (refuse b w next) ≡ or_else (refuse a v (refuse b w (Ok tt))) next
 two true b v w next = refl
 two false true v w next = refl
 two false false v w next = refl
@@ -73,23 +71,23 @@ module _ (p most : ℕ) (s line out : List ℕ) where
       ∙ ap (or_else (lowest (layout_refusals s)))
       (two (outside_grammar line) (too_deep line) Line Nesting (first rest) ∙ ap (λ o. or_else o (first rest)) (sym (first-is (line_refusals line) tt)))
 
-  pub judged-layout : {why : Refusal} → lowest (layout_refusals s) ≡ Refused why → Refused why ≡ lowest (line_rows p most s line out)
+  pub judged-layout : {why : Refusal} → lowest (layout_refusals s) ≡ Err why → Err why ≡ lowest (line_rows p most s line out)
   judged-layout e = sym (rows-judged ∙ simp e)
 
-  module _ (e : lowest (layout_refusals s) ≡ Done) where
-    pub judged-line : {why : Refusal} → lowest (line_refusals line) ≡ Refused why → Refused why ≡ lowest (line_rows p most s line out)
+  module _ (e : lowest (layout_refusals s) ≡ Ok tt) where
+    pub judged-line : {why : Refusal} → lowest (line_refusals line) ≡ Err why → Err why ≡ lowest (line_rows p most s line out)
     judged-line f = sym (rows-judged ∙ simp (e, f))
 
-    module _ (f : lowest (line_refusals line) ≡ Done) where
-      pub judged-index : lacks_operand s line ≡ true → Refused Index ≡ lowest (line_rows p most s line out)
+    module _ (f : lowest (line_refusals line) ≡ Ok tt) where
+      pub judged-index : lacks_operand s line ≡ true → Err Index ≡ lowest (line_rows p most s line out)
       judged-index t = sym (rows-judged ∙ simp (e, f, t))
 
       module _ (has : lacks_operand s line ≡ false) where
         -- what every call on the album refuses
-        pub judged-album : {why : Refusal} → lowest (album_refusals p s) ≡ Refused why → Refused why ≡ lowest (line_rows p most s line out)
+        pub judged-album : {why : Refusal} → lowest (album_refusals p s) ≡ Err why → Err why ≡ lowest (line_rows p most s line out)
         judged-album {why} a = go (any_of (has_loose p) (lists_of s)) refl
           where
-            go : (b : Bool) → any_of (has_loose p) (lists_of s) ≡ b → Refused why ≡ lowest (line_rows p most s line out)
+            go : (b : Bool) → any_of (has_loose p) (lists_of s) ≡ b → Err why ≡ lowest (line_rows p most s line out)
             go true t = sym a ∙ sym (album-loose p s e t) ∙ sym (rows-judged ∙ simp (e, f, has, t))
             go false t = absurd (never (album-done p s e t ∙ a))
 
@@ -97,10 +95,10 @@ module _ (p most : ℕ) (s line out : List ℕ) where
           tight : any_of (has_loose p) (lists_of s) ≡ false
           tight = (album-fine p s passed).1
 
-          pub judged-misfit : ¬ (length out ≡ most) → Refused Misfit ≡ lowest (line_rows p most s line out)
+          pub judged-misfit : ¬ (length out ≡ most) → Err Misfit ≡ lowest (line_rows p most s line out)
           judged-misfit t = sym (rows-judged ∙ simp (e, f, has, tight, ne_eqb (length out) most t))
 
-          pub judged-done : length out ≡ most → Done ≡ lowest (line_rows p most s line out)
+          pub judged-done : length out ≡ most → Ok tt ≡ lowest (line_rows p most s line out)
           judged-done t = sym (rows-judged ∙ simp (e, f, has, tight, eq-eqb (length out) most t))
 
   -- what is known where no row applies
@@ -113,7 +111,7 @@ module _ (p most : ℕ) (s line out : List ℕ) where
     pub tight : any_of (has_loose p) (lists_of s) ≡ false
     pub fits : length out ≡ most
 
-  pub accepted : lowest (line_rows p most s line out) ≡ Done → Accepted
+  pub accepted : lowest (line_rows p most s line out) ≡ Ok tt → Accepted
   unfolding line_rows
   accepted d =
       let a = refuse-done (wrong_count max_lists s) _ _ (sym (first-is (line_rows p most s line out) tt) ∙ d) in
@@ -138,12 +136,12 @@ module _ (p most : ℕ) (s line out : List ℕ) where
   accepted-passed h = sym (album-done p s (first-is (layout_refusals s) tt ∙ simp (h.counted, h.laid)) h.tight)
 
 -- a value that is not refused
-pub valued : (v : Valued) → late_of v ≡ Done → v ≡ value (list_in v)
+pub valued : (v : Valued) → late_of v ≡ Ok tt → v ≡ value (list_in v)
 valued (value c) e = refl
 valued (refused why) e = cc
 
 -- the value of a line that is not refused is a list that no call refuses
-pub line-listed : (k : ℕ) (s line out : List ℕ) → line_outcome k s line out ≡ Done
+pub line-listed : (k : ℕ) (s line out : List ℕ) → line_outcome k s line out ≡ Ok tt
     → IsList (modulus k) (longest k) (list_in (line_value (field_at k) (longest k) s line))
 unfolding field_at line_value lacks_operand
 line-listed k s line out e =
@@ -161,7 +159,7 @@ pub read_found : (line code : List ℕ) {o : Outcome} → max_line ≤ length co
 read_found line code l e = e ∙ rw (le-ltb (length code) max_line l)
 
 -- the program of a line
-module _ (s line code : List ℕ) {n : ℕ} (g : ProgramOf line code (judged.Program n)) where
+module _ (s line code : List ℕ) {n : ℕ} (g : ProgramOf line code (Ok n)) where
   lacks-is : lacks_byte (count s) (take n code) ≡ lacks_operand s line
   unfolding lacks_operand
   lacks-is =
@@ -173,7 +171,7 @@ module _ (s line code : List ℕ) {n : ℕ} (g : ProgramOf line code (judged.Pro
   pub lacks-found : {lists : ℕ} {b t : Bool} → lists ≡ count s → b ≡ lacks_byte lists (take n code) → b ≡ t → lacks_operand s line ≡ t
   lacks-found e f g = sym lacks-is ∙ ap (λ k. lacks_byte k (take n code)) (sym e) ∙ sym f ∙ g
 
-  module _ (k : ℕ) (out : List ℕ) (d : Done ≡ lowest (line_rows (modulus k) (longest k) s line out)) where
+  module _ (k : ℕ) (out : List ℕ) (d : Ok tt ≡ lowest (line_rows (modulus k) (longest k) s line out)) where
     known : Accepted (modulus k) (longest k) s line out
     known = accepted (modulus k) (longest k) s line out (sym d)
 
@@ -202,6 +200,6 @@ module _ (s line code : List ℕ) {n : ℕ} (g : ProgramOf line code (judged.Pro
           h.1 ∙ ap₂ (λ o u. written o (padded (longest k) (list_in u)) out) outcome same,
         )
 
-pub refused-early : (k : ℕ) (s line out : List ℕ) {why : Refusal} → Refused why ≡ lowest (line_rows (modulus k) (longest k) s line out)
+pub refused-early : (k : ℕ) (s line out : List ℕ) {why : Refusal} → Err why ≡ lowest (line_rows (modulus k) (longest k) s line out)
     → (record { number = number why; values = [] } ≡ line_answer k s line out) × (out ≡ line_written k s line out)
 refused-early k s line out d = rw (sym d) (refl, refl)

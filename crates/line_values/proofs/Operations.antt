@@ -10,13 +10,12 @@ use native.Mathlib.Omega.{arith}
 use lib.ListN.{length, take, drop}
 use lib.Seq.{take_at}
 use borrow.Author.Tests.{eq-eqb, ne_eqb, lt-ltb, le-ltb}
+use Rattle.std.specs.Prelude.{Ok}
 use Rattle.algebra.specs.PrimeField.{PrimeField}
 use Rattle.refusal.specs.Limits.{max_words}
 use Rattle.refusal.specs.Lowest.{lowest}
-use Rattle.refusal.specs.Refusal.{written}
+use Rattle.refusal.specs.Refusal.{written, Outcome}
 use Rattle.refusal.specs.declared.Refusal.TheVariants.{Over}
-use Rattle.refusal.specs.declared.Outcome.{Outcome}
-use Rattle.refusal.specs.declared.Outcome.TheVariants.{Done}
 use Rattle.field.specs.Fields.{modulus, field_at, longest}
 use Rattle.field.proofs.Fields.{modulus-some, longest-in, longest-room}
 use Rattle.lists.specs.Degrees.{naive_degree}
@@ -56,14 +55,14 @@ module _ (F : PrimeField) (most x : ℕ) (a b : List ℕ) where
     operation-multiply f = rw (ne_eqb x add_byte not-add, ne_eqb x subtract_byte f)
 
 -- a result in front of a buffer
-in-front : (o : Outcome) (c old rest : List ℕ) {part : List ℕ} (n : ℕ) → o ≡ Done → part ≡ written o c old → n ≡ length c → take n (part ++ rest) ≡ c
+in-front : (o : Outcome) (c old rest : List ℕ) {part : List ℕ} (n : ℕ) → o ≡ Ok tt → part ≡ written o c old → n ≡ length c → take n (part ++ rest) ≡ c
 in-front o c old rest {part} n d e q =
     ap (λ l. take n (l ++ rest)) (e ∙ ap (λ x. written x c old) d) ∙ take_at c rest n (sym q)
 
 module _ (k : ℕ) where
   module _ (a b : List ℕ) (l : IsList (modulus k) (longest k) a) (m : IsList (modulus k) (longest k) b)
       (room : List ℕ) (full : length room ≡ max_words) where
-    passes : lowest (list_refusals (modulus k) (longest k) (a ∷ b ∷ [])) ≡ Done
+    passes : lowest (list_refusals (modulus k) (longest k) (a ∷ b ∷ [])) ≡ Ok tt
     passes =
         judged (modulus k) (longest k) (a ∷ b ∷ [])
         ∙ simp (right-length (modulus k) (longest k) a l, right-length (modulus k) (longest k) b m, tight (modulus k) a l.words, tight (modulus k) b m.words)
@@ -75,7 +74,7 @@ module _ (k : ℕ) where
       pub larger-fits : n ≤ length room
       larger-fits = omega (arith, short)
 
-      done : lowest (sum_rows (modulus k) (longest k) a b (take n room)) ≡ Done
+      done : lowest (sum_rows (modulus k) (longest k) a b (take n room)) ≡ Ok tt
       done = sym (sum_done (modulus k) (longest k) (modulus-some k) a b (take n room) passes (prefix-length n max_words room full short ∙ e))
 
       pub came-sum : {part : List ℕ} → part ≡ sum_written k a b (take n room)

@@ -4,20 +4,18 @@
 --     lacks_operand      an operand of the line, reached or not, is the number of no list of the album
 --     line_rows          the refusals that the inputs alone decide, in their order: 12 and 13 go before 3
 --     line_value         what the line's tree comes to over the album's lists
---     late_of            of a value: the refusal of its first refusing operation, or Done
+--     late_of            of a value: the refusal of its first refusing operation, or Ok
 --     list_in            its list; none when refused
 --     line_outcome k     the first of the rows that apply, and after them the number of the first refusing operation
 --     line_answer k      the naive degree of the list that the tree comes to
 --     line_written k     its words, zeros after them
 -- Assumes nothing.
-use Rattle.std.specs.Prelude.{Bool, false, not, ◌||◌, List, [], ◌∷◌, ℕ, eqb, leb, length}
+use Rattle.std.specs.Prelude.{Bool, false, not, ◌||◌, List, [], ◌∷◌, ℕ, eqb, leb, length, Ok, Err}
 use Rattle.algebra.specs.PrimeField.{PrimeField}
 use Rattle.refusal.specs.Limits.{max_lists}
-use Rattle.refusal.specs.Refusal.{Reply, reply, written}
+use Rattle.refusal.specs.Refusal.{Reply, reply, written, Outcome}
 use Rattle.refusal.specs.Lowest.{Condition, ◌given-when◌, lowest, or_else}
 use Rattle.refusal.specs.declared.Refusal.TheVariants.{Count, Contents, Line, Nesting, Index, LooseWord, Misfit}
-use Rattle.refusal.specs.declared.Outcome.{Outcome}
-use Rattle.refusal.specs.declared.Outcome.TheVariants.{Done, Refused}
 use Rattle.field.specs.Fields.{modulus, field_at, longest}
 use Rattle.lists.specs.Degrees.{naive_degree}
 use Rattle.lists.specs.Refused.{has_loose, any_of}
@@ -64,8 +62,8 @@ unfoldable pub line_value : (F : PrimeField) (most : ℕ) → (s line : List ℕ
 line_value F most s line = value_in F most (lists_of s) (reading_of (tokens line))
 
 abbrev pub late_of : Valued → Outcome
-late_of (value c) = Done
-late_of (refused why) = Refused why
+late_of (value c) = Ok tt
+late_of (refused why) = Err why
 
 abbrev pub list_in : Valued → List ℕ
 list_in (value c) = c

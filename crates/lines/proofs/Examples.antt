@@ -8,9 +8,9 @@ use mathlib.Core.Bool.{Bool, true}
 use mathlib.Core.List.{List, [], ◌∷◌, ◌++◌}
 use Prim.Native.Nat.{ℕ}
 use lib.ListN.{replicate}
+use Rattle.std.specs.Prelude.{Ok, Err}
 use Rattle.refusal.specs.Lowest.{lower, lowest}
 use Rattle.refusal.specs.declared.Refusal.TheVariants.{Line, Nesting}
-use Rattle.refusal.specs.declared.Outcome.TheVariants.{Done, Refused}
 use Rattle.lines.specs.Grammar.{is_digit, sign_of, lone, tokens, open_behind, deepest, list, sum, difference, product, derivative}
 use Rattle.lines.specs.Reader.{Reading, reads, outside, reading_of, want, closed, ended, term_place, term_tree, sum_place, sum_tree}
 use Rattle.lines.specs.Program.{postfix}
@@ -96,25 +96,25 @@ unfolding computes
 three-open = refl
 
 -- 32 pairs of parentheses
-pub most-open : lowest (line_refusals (nested 32)) ≡ Done
+pub most-open : lowest (line_refusals (nested 32)) ≡ Ok tt
 unfolding computes
 most-open = refl
 
 -- 33 pairs
-pub too-many-open : lowest (line_refusals (nested 33)) ≡ Refused Nesting
+pub too-many-open : lowest (line_refusals (nested 33)) ≡ Err Nesting
 unfolding computes
 too-many-open = refl
 
 -- 33 parentheses that are not closed: the grammar is asked first
-pub never-closed : lowest (line_refusals (replicate 33 40)) ≡ Refused Line
+pub never-closed : lowest (line_refusals (replicate 33 40)) ≡ Err Line
 unfolding computes
 never-closed = refl
 
 -- 255 spaces and 0, then 256 spaces and 0
-pub longest : lowest (line_refusals (replicate 255 32 ++ 48 ∷ [])) ≡ Done
+pub longest : lowest (line_refusals (replicate 255 32 ++ 48 ∷ [])) ≡ Ok tt
 unfolding computes
 longest = refl
 
-pub too_long : lowest (line_refusals (replicate 256 32 ++ 48 ∷ [])) ≡ Refused Line
+pub too_long : lowest (line_refusals (replicate 256 32 ++ 48 ∷ [])) ≡ Err Line
 unfolding computes
 too_long = refl

@@ -13,10 +13,10 @@ use lib.Dec.{eqb, ltb}
 use lib.ListN.{length, get_or, drop, drop_of_length-le}
 use lib.Seq.{drop-cons}
 use borrow.Author.Tests.{lt-ltb, le-ltb}
+use Rattle.std.specs.Prelude.{Ok, Err}
 use Rattle.refusal.specs.Limits.{max_line, max_open}
 use Rattle.refusal.specs.Lowest.{lowest}
 use Rattle.refusal.specs.declared.Refusal.TheVariants.{Line, Nesting}
-use Rattle.refusal.specs.declared.Outcome.TheVariants.{Done, Refused}
 use Rattle.refusal.proofs.First.{refuse, first-is}
 use Rattle.lines.specs.declared.Token.{Token}
 use Rattle.lines.specs.declared.Token.TheVariants.{Number, Plus, Minus, Times, Derive, Open, Close, Wrong}
@@ -80,15 +80,15 @@ module _ (line old new : List ℕ) (end n : ℕ) (g : Got PastExpression line 0 
 
 -- what is refused, as the chain of tests that the code makes
 module _ (line : List ℕ) where
-  line-judged : lowest (line_refusals line) ≡ refuse (outside_grammar line) Line (refuse (too_deep line) Nesting Done)
+  line-judged : lowest (line_refusals line) ≡ refuse (outside_grammar line) Line (refuse (too_deep line) Nesting (Ok tt))
   unfolding line_refusals
   line-judged = first-is (line_refusals line) tt
 
-  pub long : max_line < length line → Refused Line ≡ lowest (line_refusals line)
+  pub long : max_line < length line → Err Line ≡ lowest (line_refusals line)
   unfolding outside_grammar
   long h = sym (line-judged ∙ rw (lt-ltb max_line (length line) h))
 
-  pub not-read : reading_of (tokens line) ≡ outside → Refused Line ≡ lowest (line_refusals line)
+  pub not-read : reading_of (tokens line) ≡ outside → Err Line ≡ lowest (line_refusals line)
   unfolding outside_grammar
   not-read e = sym (line-judged ∙ rw (e, or-true (ltb max_line (length line))))
 
@@ -97,10 +97,10 @@ module _ (line : List ℕ) where
     unfolding outside_grammar
     within = rw (r, le-ltb max_line (length line) short)
 
-    pub deep : max_open < deepest 0 line → Refused Nesting ≡ lowest (line_refusals line)
+    pub deep : max_open < deepest 0 line → Err Nesting ≡ lowest (line_refusals line)
     unfolding too_deep
     deep h = sym (line-judged ∙ rw (within, lt-ltb max_open (deepest 0 line) h))
 
-    pub fine : deepest 0 line ≤ max_open → Done ≡ lowest (line_refusals line)
+    pub fine : deepest 0 line ≤ max_open → Ok tt ≡ lowest (line_refusals line)
     unfolding too_deep
     fine h = sym (line-judged ∙ rw (within, le-ltb max_open (deepest 0 line) h))

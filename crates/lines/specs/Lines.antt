@@ -9,14 +9,12 @@
 -- Theorems (proofs/Lines): outside-is, inside_is    a line is outside the grammar exactly where it has more than max_line bytes, or the
 --     grammar has no tree for its tokens; else the grammar has exactly one
 -- Assumes nothing.
-use Rattle.std.specs.Prelude.{◌≡◌, Bool, true, false, cond, ◌||◌, List, [], ◌∷◌, ℕ, ◌≤◌, ltb, length, take}
+use Rattle.refusal.specs.declared.Refusal.{Refusal}
+use Rattle.refusal.specs.Refusal.{Outcome}
+use Rattle.std.specs.Prelude.{◌≡◌, Bool, true, false, cond, ◌||◌, List, [], ◌∷◌, ℕ, ◌≤◌, ltb, length, take, Ok, Err, Result}
 use Rattle.refusal.specs.Limits.{max_line, max_open}
 use Rattle.refusal.specs.Lowest.{Condition, ◌given-when◌, lowest}
 use Rattle.refusal.specs.declared.Refusal.TheVariants.{Line, Nesting, Misfit}
-use Rattle.refusal.specs.declared.Outcome.{Outcome}
-use Rattle.refusal.specs.declared.Outcome.TheVariants as outcome
-use Rattle.lines.specs.declared.Judged.{Judged}
-use Rattle.lines.specs.declared.Judged.TheVariants.{Program, Refused}
 use Rattle.lines.specs.Grammar.{tokens, deepest, Tree}
 use Rattle.lines.specs.Reader.{Reading, reads, outside, reading_of}
 use Rattle.lines.specs.Program.{postfix}
@@ -35,13 +33,13 @@ unfoldable pub line_refusals : List ℕ → List Condition
 line_refusals line = Line given-when outside_grammar line ∷ Nesting given-when too_deep line ∷ []
 
 abbrev pub read_outcome : (line code : List ℕ) → Outcome
-read_outcome line code = cond (ltb (length code) max_line) (outcome.Refused Misfit) (lowest (line_refusals line))
+read_outcome line code = cond (ltb (length code) max_line) (Err Misfit) (lowest (line_refusals line))
 
-abbrev pub judged_outcome : Judged → Outcome
-judged_outcome (Program n) = outcome.Done
-judged_outcome (Refused why) = outcome.Refused why
+abbrev pub judged_outcome : (Result ℕ Refusal) → Outcome
+judged_outcome (Ok n) = Ok tt
+judged_outcome (Err why) = Err why
 
-abbrev pub ProgramOf : List ℕ → List ℕ → Judged → Type 0
-ProgramOf line code (Program n) =
+abbrev pub ProgramOf : List ℕ → List ℕ → (Result ℕ Refusal) → Type 0
+ProgramOf line code (Ok n) =
     (e : Tree) × (reading_of (tokens line) ≡ reads e) × (n ≤ max_line) × (take n code ≡ postfix e)
-ProgramOf line code (Refused why) = Unit {0}
+ProgramOf line code (Err why) = Unit {0}

@@ -7,12 +7,11 @@ use Prim.Native.Nat.{ℕ, ◌+◌, ◌≤◌, ◌<◌}
 use native.Mathlib.Decide.{dec_lt}
 use native.Mathlib.Omega.{arith}
 use lib.ListN.{length, get_or, get_or-eq_default}
+use Rattle.std.specs.Prelude.{Ok, Err}
 use Rattle.algebra.specs.PrimeField.{PrimeField}
 use Rattle.refusal.specs.Limits.{max_words}
-use Rattle.refusal.specs.Refusal.{number, outcome_number, written}
+use Rattle.refusal.specs.Refusal.{number, outcome_number, written, Outcome}
 use Rattle.refusal.specs.declared.Refusal.TheVariants.{Length}
-use Rattle.refusal.specs.declared.Outcome.{Outcome}
-use Rattle.refusal.specs.declared.Outcome.TheVariants.{Done, Refused}
 use Rattle.refusal.proofs.Answers.{kept}
 use Rattle.lists.specs.Degrees.{significant}
 use Rattle.lists.proofs.Extents.{significant-le, power_le}
@@ -32,17 +31,17 @@ second-bad false e t = sym e ∙ t
 pub good : {r a : Bool} → r ≡ a → r ≡ false → a ≡ false
 good e t = sym e ∙ t
 
-pub bad-answer : {found : Outcome} {n : ℕ} → found ≡ Refused Length → n ≡ number Length → (new old : List ℕ)
+pub bad-answer : {found : Outcome} {n : ℕ} → found ≡ Err Length → n ≡ number Length → (new old : List ℕ)
     → (n ≡ outcome_number found) × (old ≡ written found new old)
 bad-answer e q new old = (q ∙ sym (ap outcome_number e), kept new old e)
 
-pub bad-answers : {found : Outcome} {n : ℕ} → found ≡ Refused Length → n ≡ number Length → (new₁ old₁ new₂ old₂ : List ℕ)
+pub bad-answers : {found : Outcome} {n : ℕ} → found ≡ Err Length → n ≡ number Length → (new₁ old₁ new₂ old₂ : List ℕ)
     → (n ≡ outcome_number found) × ((old₁ ≡ written found new₁ old₁) × (old₂ ≡ written found new₂ old₂))
 bad-answers e q new₁ old₁ new₂ old₂ =
     ((bad-answer e q new₁ old₁).0, ((bad-answer e q new₁ old₁).1, (bad-answer e q new₂ old₂).1))
 
 -- the engine's result, as bytes
-pub wrote : {found engine : Outcome} (new old part : List ℕ) {words bytes : List ℕ} → engine ≡ found → found ≡ Done
+pub wrote : {found engine : Outcome} (new old part : List ℕ) {words bytes : List ℕ} → engine ≡ found → found ≡ Ok tt
     → words ≡ written engine new part → bytes ≡ bytes_of words → bytes ≡ written found (bytes_of new) old
 wrote new old part e d w b =
     b ∙ ap bytes_of (w ∙ ap (λ o. written o new part) (e ∙ d)) ∙ sym (ap (λ o. written o (bytes_of new) old) d)

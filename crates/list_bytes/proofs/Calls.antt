@@ -8,13 +8,12 @@ use mathlib.Core.List.{List, [], ◌∷◌}
 use Prim.Native.Nat.{ℕ, ◌+◌, ◌*◌, ◌≤◌, ◌<◌}
 use native.Mathlib.Omega.{arith}
 use lib.ListN.{length}
+use Rattle.std.specs.Prelude.{Ok, Err}
 use Rattle.algebra.specs.PrimeField.{PrimeField}
 use Rattle.refusal.specs.Limits.{max_words}
-use Rattle.refusal.specs.Refusal.{number, outcome_number, reply, outcome_reply, written}
+use Rattle.refusal.specs.Refusal.{number, outcome_number, reply, outcome_reply, written, Outcome}
 use Rattle.refusal.specs.Lowest.{lowest}
 use Rattle.refusal.specs.declared.Refusal.{Refusal}
-use Rattle.refusal.specs.declared.Outcome.{Outcome}
-use Rattle.refusal.specs.declared.Outcome.TheVariants.{Done, Refused}
 use Rattle.lists.specs.declared.NaiveDegree.{NaiveDegree}
 use Rattle.lists.specs.declared.Power.{Power}
 use Rattle.lists.specs.Degrees.{significant}
@@ -70,14 +69,14 @@ module _ {most : ℕ} where
         ap₂ (λ x y. lowest (P.product_rows p most x y c)) call.words-f call.words-g
         ∙ product-rows most p f g out c call.good-f call.good-g call.room
 
-    product-completes : answer ≡ Done → lowest (host_product_rows p most f g out) ≡ Done
+    product-completes : answer ≡ Ok tt → lowest (host_product_rows p most f g out) ≡ Ok tt
     product-completes d =
         sym product-same ∙ (done-reply (lowest (P.product_rows p most a b c)) [] [] (sym (ap outcome_reply d) ∙ call.says)).0
 
-    pub product-fits : answer ≡ Done → length out ≡ 2 * length c
+    pub product-fits : answer ≡ Ok tt → length out ≡ 2 * length c
     product-fits d = rw call.room (product_whole most p f g out (product-completes d))
 
-    pub product-done : answer ≡ Done → (F : PrimeField) {c' out' : List ℕ}
+    pub product-done : answer ≡ Ok tt → (F : PrimeField) {c' out' : List ℕ}
         → c' ≡ written (lowest (P.product_rows p most a b c)) (product F a b) c → out' ≡ bytes_of c'
         → (0 ≡ outcome_number (lowest (host_product_rows p most f g out)))
         × (out' ≡ written (lowest (host_product_rows p most f g out)) (bytes_of (product F (words_of f) (words_of g))) out)
@@ -87,7 +86,7 @@ module _ {most : ℕ} where
           (w ∙ ap₂ (λ x y. written (lowest (P.product_rows p most a b c)) (product F x y) c) call.words-f call.words-g) o,
     )
 
-    pub product-refused : {why : Refusal} → answer ≡ Refused why → {n : ℕ} → n ≡ number why → (new : List ℕ)
+    pub product-refused : {why : Refusal} → answer ≡ Err why → {n : ℕ} → n ≡ number why → (new : List ℕ)
         → (n ≡ outcome_number (lowest (host_product_rows p most f g out))) × (out ≡ written (lowest (host_product_rows p most f g out)) new out)
     product-refused {why} r e new =
         let h = refused-reply why (lowest (P.product_rows p most a b c)) [] (sym (ap outcome_reply r) ∙ call.says) in
@@ -99,16 +98,16 @@ module _ {most : ℕ} where
         ap₂ (λ x y. lowest (D.divide_rows p most x y c d)) call.words-g call.words-f
         ∙ division-rows most p g f q r call.good-g call.good-f c d call.room-q call.room-r
 
-    division-completes : answer ≡ Done → lowest (host_division_rows p most g f q r) ≡ Done
+    division-completes : answer ≡ Ok tt → lowest (host_division_rows p most g f q r) ≡ Ok tt
     division-completes e =
         sym division-same ∙ (done-reply (lowest (D.divide_rows p most a b c d)) [] [] (sym (ap outcome_reply e) ∙ call.says)).0
 
-    pub division-fits : answer ≡ Done → (length q ≡ 2 * length c) × (length r ≡ 2 * length d)
+    pub division-fits : answer ≡ Ok tt → (length q ≡ 2 * length c) × (length r ≡ 2 * length d)
     division-fits e =
         let h = division-whole most p g f q r call.good-g call.good-f (division-completes e) in
         (rw call.room-q h.0, rw call.room-r h.1)
 
-    pub division-done : answer ≡ Done → (F : PrimeField) {c' d' q' r' : List ℕ}
+    pub division-done : answer ≡ Ok tt → (F : PrimeField) {c' d' q' r' : List ℕ}
         → c' ≡ written (lowest (D.divide_rows p most a b c d)) (quotient_of F a b) c
         → d' ≡ written (lowest (D.divide_rows p most a b c d)) (remainder_of F a b) d
         → q' ≡ bytes_of c' → r' ≡ bytes_of d'
@@ -125,7 +124,7 @@ module _ {most : ℕ} where
       ),
     )
 
-    pub division-refused : {why : Refusal} → answer ≡ Refused why → {n : ℕ} → n ≡ number why → (new-q new-r : List ℕ)
+    pub division-refused : {why : Refusal} → answer ≡ Err why → {n : ℕ} → n ≡ number why → (new-q new-r : List ℕ)
         → (n ≡ outcome_number (lowest (host_division_rows p most g f q r))) × ((q ≡ written (lowest (host_division_rows p most g f q r)) new-q q)
         × (r ≡ written (lowest (host_division_rows p most g f q r)) new-r r))
     division-refused {why} w e new-q new-r =
@@ -141,10 +140,10 @@ module _ {most : ℕ} where
         ∙ gcd-rows most p f g h answer some c call.good-f call.good-g call.room
 
     module _ {w : NaiveDegree} {power : Power} {rounds : Rounds} (d : found ≡ G.Done w power rounds) where
-      told : (lowest (E.gcd_rows p most a b c) ≡ Done) × (w.0 ∷ power.0 ∷ rounds.0 ∷ [] ≡ gcd_values F a b)
+      told : (lowest (E.gcd_rows p most a b c) ≡ Ok tt) × (w.0 ∷ power.0 ∷ rounds.0 ∷ [] ≡ gcd_values F a b)
       told = done-reply (lowest (E.gcd_rows p most a b c)) (w.0 ∷ power.0 ∷ rounds.0 ∷ []) (gcd_values F a b) (sym (ap gcd_reply d) ∙ call.says)
 
-      gcd-completes : lowest (host_gcd_rows p most f g h answer) ≡ Done
+      gcd-completes : lowest (host_gcd_rows p most f g h answer) ≡ Ok tt
       gcd-completes = sym gcd-same ∙ told.0
 
       pub gcd-fits : (length h ≡ 2 * length c) × (length c ≡ most) × (length answer ≡ 6)

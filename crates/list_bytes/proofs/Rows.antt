@@ -8,10 +8,10 @@ use native.Mathlib.Omega.{arith}
 use lib.Dec.{eqb, ltb}
 use lib.ListN.{length, get_or}
 use borrow.Author.Tests.{ltb-false, eqb-false}
+use Rattle.refusal.specs.Refusal.{Outcome}
+use Rattle.std.specs.Prelude.{Ok, Err}
 use Rattle.refusal.specs.Lowest.{lowest}
 use Rattle.refusal.specs.declared.Refusal.TheVariants.{Length, LooseWord, Over, Backwards, Vanishes, AllZero, Misfit}
-use Rattle.refusal.specs.declared.Outcome.{Outcome}
-use Rattle.refusal.specs.declared.Outcome.TheVariants.{Done, Refused}
 use Rattle.refusal.proofs.First.{refuse, first-is, refuse-done, or-false}
 use Rattle.lists.specs.Degrees.{naive_degree, significant}
 use Rattle.lists.specs.Refused.{wrong_length, has_loose, list_refusals}
@@ -44,32 +44,32 @@ module _ (most : ℕ) where
       → judged_words p (words_of f) (words_of g) next ≡ judged p f g next
   judged-same p f g next ef eg = simp (ef, eg, right-length f ef, right-length g eg, or_nothing)
 
-  judged-done : (p : ℕ) (f g : List ℕ) (next : Outcome) → judged p f g next ≡ Done → next ≡ Done
+  judged-done : (p : ℕ) (f g : List ℕ) (next : Outcome) → judged p f g next ≡ Ok tt → next ≡ Ok tt
   judged-done p f g next e =
       (refuse-done (has_loose p (words_of f) || has_loose p (words_of g)) _ _ (refuse-done (bad_list most f || bad_list most g) _ _ e).1).1
 
-  judged-bad : (p : ℕ) (f g : List ℕ) (next : Outcome) → (bad_list most f || bad_list most g) ≡ true → judged p f g next ≡ Refused Length
+  judged-bad : (p : ℕ) (f g : List ℕ) (next : Outcome) → (bad_list most f || bad_list most g) ≡ true → judged p f g next ≡ Err Length
   judged-bad p f g next e = rw e
 
   -- whether a result fits does not matter where the call refuses before
-  before-misfit : (b : Bool) {m m' : Bool} → (b ≡ false → m ≡ m') → refuse b Over (refuse m Misfit Done) ≡ refuse b Over (refuse m' Misfit Done)
+  before-misfit : (b : Bool) {m m' : Bool} → (b ≡ false → m ≡ m') → refuse b Over (refuse m Misfit (Ok tt)) ≡ refuse b Over (refuse m' Misfit (Ok tt))
   before-misfit true h = refl
-  before-misfit false h = ap (λ m. refuse m Misfit Done) (h refl)
+  before-misfit false h = ap (λ m. refuse m Misfit (Ok tt)) (h refl)
 
   module _ (p : ℕ) (f g out : List ℕ) where
     d : ℕ
     d = naive_degree (words_of f) + naive_degree (words_of g)
 
-    product-chain : lowest (host_product_rows p most f g out) ≡ judged p f g (refuse (ltb most (suc d)) Over (refuse (misfit (suc d) out) Misfit Done))
+    product-chain : lowest (host_product_rows p most f g out) ≡ judged p f g (refuse (ltb most (suc d)) Over (refuse (misfit (suc d) out) Misfit (Ok tt)))
     unfolding host_product_rows lists_refused bad_list d
     product-chain = first-is (host_product_rows p most f g out) tt
 
     product-words : (c : List ℕ) → lowest (P.product_rows p most (words_of f) (words_of g) c)
-        ≡ judged_words p (words_of f) (words_of g) (refuse (ltb most (suc d)) Over (refuse (not (eqb (length c) (suc d))) Misfit Done))
+        ≡ judged_words p (words_of f) (words_of g) (refuse (ltb most (suc d)) Over (refuse (not (eqb (length c) (suc d))) Misfit (Ok tt)))
     unfolding P.product_rows list_refusals d
     product-words c = first-is (P.product_rows p most (words_of f) (words_of g) c) tt
 
-    pub product-bad : (bad_list most f || bad_list most g) ≡ true → lowest (host_product_rows p most f g out) ≡ Refused Length
+    pub product-bad : (bad_list most f || bad_list most g) ≡ true → lowest (host_product_rows p most f g out) ≡ Err Length
     product-bad e = product-chain ∙ judged-bad p f g _ e
 
     pub product-rows : (c : List ℕ) → bad_list most f ≡ false → bad_list most g ≡ false → length c ≡ room_of most 0 out
@@ -83,7 +83,7 @@ module _ (most : ℕ) where
         same b = let l = ltb-false most (suc d) b in rw e (room_fits most 0 (suc d) out (omega arith) (λ z. omega arith))
 
     -- where the call completes, the words of the result are those of its bytes
-    pub product_whole : lowest (host_product_rows p most f g out) ≡ Done → length out ≡ 2 * room_of most 0 out
+    pub product_whole : lowest (host_product_rows p most f g out) ≡ Ok tt → length out ≡ 2 * room_of most 0 out
     product_whole e =
         let o = refuse-done (ltb most (suc d)) _ _ (judged-done p f g _ (sym product-chain ∙ e)) in
         let m = refuse-done (misfit (suc d) out) _ _ o.1 in
@@ -95,7 +95,7 @@ module _ (most : ℕ) where
         ≡ judged p g f
         (refuse (ltb (length (words_of g)) (length (words_of f))) Backwards
         (refuse (eqb (get_or (words_of f) (naive_degree (words_of f)) 0) 0) Vanishes
-        (refuse (misfit (steps (words_of g) (words_of f)) q || misfit (naive_degree (words_of f)) r) Misfit Done)))
+        (refuse (misfit (steps (words_of g) (words_of f)) q || misfit (naive_degree (words_of f)) r) Misfit (Ok tt))))
     unfolding host_division_rows lists_refused bad_list
     division-chain = first-is (host_division_rows p most g f q r) tt
 
@@ -103,11 +103,11 @@ module _ (most : ℕ) where
         ≡ judged_words p (words_of g) (words_of f)
         (refuse (ltb (length (words_of g)) (length (words_of f))) Backwards
         (refuse (eqb (get_or (words_of f) (naive_degree (words_of f)) 0) 0) Vanishes
-        (refuse (not (eqb (length c) (steps (words_of g) (words_of f))) || not (eqb (length d) (naive_degree (words_of f)))) Misfit Done)))
+        (refuse (not (eqb (length c) (steps (words_of g) (words_of f))) || not (eqb (length d) (naive_degree (words_of f)))) Misfit (Ok tt))))
     unfolding D.divide_rows list_refusals
     division-words c d = first-is (D.divide_rows p most (words_of g) (words_of f) c d) tt
 
-    pub division-bad : (bad_list most g || bad_list most f) ≡ true → lowest (host_division_rows p most g f q r) ≡ Refused Length
+    pub division-bad : (bad_list most g || bad_list most f) ≡ true → lowest (host_division_rows p most g f q r) ≡ Err Length
     division-bad e = division-chain ∙ judged-bad p g f _ e
 
     module _ (eg : bad_list most g ≡ false) (ef : bad_list most f ≡ false) where
@@ -136,7 +136,7 @@ module _ (most : ℕ) where
           ))
           ∙ sym division-chain
 
-      pub division-whole : lowest (host_division_rows p most g f q r) ≡ Done → (length q ≡ 2 * room_of most 0 q) × (length r ≡ 2 * room_of most most r)
+      pub division-whole : lowest (host_division_rows p most g f q r) ≡ Ok tt → (length q ≡ 2 * room_of most 0 q) × (length r ≡ 2 * room_of most most r)
       division-whole e =
           let s = remainder-short in
           let b = refuse-done (ltb (length (words_of g)) (length (words_of f))) _ _ (judged-done p g f _ (sym division-chain ∙ e)) in
@@ -149,29 +149,29 @@ module _ (most : ℕ) where
     zero = eqb (significant (words_of f) + significant (words_of g)) 0
 
     gcd-chain : lowest (host_gcd_rows p most f g h answer)
-        ≡ judged p f g (refuse zero AllZero (refuse (misfit most h || misfit 3 answer) Misfit Done))
+        ≡ judged p f g (refuse zero AllZero (refuse (misfit most h || misfit 3 answer) Misfit (Ok tt)))
     unfolding host_gcd_rows lists_refused bad_list zero
     gcd-chain = first-is (host_gcd_rows p most f g h answer) tt
 
     gcd-words : (c : List ℕ) → lowest (G.gcd_rows p most (words_of f) (words_of g) c)
-        ≡ judged_words p (words_of f) (words_of g) (refuse zero AllZero (refuse (not (eqb (length c) most)) Misfit Done))
+        ≡ judged_words p (words_of f) (words_of g) (refuse zero AllZero (refuse (not (eqb (length c) most)) Misfit (Ok tt)))
     unfolding G.gcd_rows list_refusals zero
     gcd-words c = first-is (G.gcd_rows p most (words_of f) (words_of g) c) tt
 
-    pub gcd-bad : (bad_list most f || bad_list most g) ≡ true → lowest (host_gcd_rows p most f g h answer) ≡ Refused Length
+    pub gcd-bad : (bad_list most f || bad_list most g) ≡ true → lowest (host_gcd_rows p most f g h answer) ≡ Err Length
     gcd-bad e = gcd-chain ∙ judged-bad p f g _ e
 
     pub gcd-rows : 0 < most → (c : List ℕ) → bad_list most f ≡ false → bad_list most g ≡ false → length c ≡ gcd_room most h answer
         → lowest (G.gcd_rows p most (words_of f) (words_of g) c) ≡ lowest (host_gcd_rows p most f g h answer)
     gcd-rows some c ef eg e =
         gcd-words c ∙ judged-same p f g _ ef eg
-        ∙ ap (λ m. judged p f g (refuse zero AllZero (refuse m Misfit Done))) same
+        ∙ ap (λ m. judged p f g (refuse zero AllZero (refuse m Misfit (Ok tt)))) same
         ∙ sym gcd-chain
       where
         same : not (eqb (length c) most) ≡ (misfit most h || misfit 3 answer)
         same = rw e (gcd-room-fits most some h answer)
 
-    pub gcd-whole : lowest (host_gcd_rows p most f g h answer) ≡ Done
+    pub gcd-whole : lowest (host_gcd_rows p most f g h answer) ≡ Ok tt
         → (length h ≡ 2 * most) × (length answer ≡ 6) × ¬ (significant (words_of f) + significant (words_of g) ≡ 0)
     unfolding zero
     gcd-whole e =

@@ -10,15 +10,14 @@ use mathlib.Core.List.{List}
 use Prim.Native.Nat.{ℕ, ◌-◌, ◌≤◌, ◌<◌}
 use native.Mathlib.Omega.{arith}
 use lib.ListN.{length}
+use Rattle.std.specs.Prelude.{Ok}
 use Rattle.algebra.specs.Series.{C}
 use Rattle.algebra.proofs.Series.{coeff-C-mul}
 use Rattle.algebra.specs.PrimeField.{PrimeField, scalars, value, residue, inverse}
 use Rattle.lists.specs.Lists.{binomial, unscaled}
 use Rattle.lists.specs.Words.{series_of, Low}
 use Rattle.lists.proofs.Words.{coeff-series_of}
-use Rattle.refusal.specs.Refusal.{reply, written}
-use Rattle.refusal.specs.declared.Outcome.{Outcome}
-use Rattle.refusal.specs.declared.Outcome.TheVariants.{Done}
+use Rattle.refusal.specs.Refusal.{reply, written, Outcome}
 use Rattle.refusal.proofs.Answers.{result}
 use Rattle.lists.proofs.Tabulate.{tabulate-ext}
 use Rattle.euclid_theory.specs.Gcd.{euclid_of, gcd_of, cofactor_a, cofactor_b}
@@ -82,7 +81,7 @@ module _ (F : PrimeField) where
       (omega (arith, sl.size_a), omega (arith, sl.size_b))
 
   -- what a call answers, and what it leaves in the slices
-  pub cofactors-answered : (n : ℕ) (f g h a b : List ℕ) {found : Outcome} {r : Gcd} {h' a' b' : List ℕ} → found ≡ Done → Ready F n f g
+  pub cofactors-answered : (n : ℕ) (f g h a b : List ℕ) {found : Outcome} {r : Gcd} {h' a' b' : List ℕ} → found ≡ Ok tt → Ready F n f g
       → Results F n f g r h' a' b'
       → (gcd_reply r ≡ reply found (gcd_values F f g)) × (h' ≡ written found (padded n (gcd_of F f g)) h)
       × (a' ≡ written found (cofactor_a F f g) a) × (b' ≡ written found (cofactor_b F f g) b) × Greatest F f g h' r × Cofactors F f g a' b' r

@@ -13,11 +13,11 @@ use native.Mathlib.Omega.{arith}
 use lib.Dec.{eqb}
 use lib.ListN.{length}
 use borrow.Author.Tests.{eqb-true, eq-eqb, ne_eqb, not-false}
+use Rattle.std.specs.Prelude.{Ok, Err}
 use Rattle.algebra.specs.PrimeField.{PrimeField}
 use Rattle.refusal.specs.Lowest.{lowest}
 use Rattle.refusal.specs.declared.Refusal.{Refusal}
 use Rattle.refusal.specs.declared.Refusal.TheVariants.{Misfit}
-use Rattle.refusal.specs.declared.Outcome.TheVariants.{Done, Refused}
 use Rattle.refusal.proofs.First.{refuse, or_else, first_then, refuse-done, or-else-done}
 use Rattle.lists.specs.Degrees.{naive_degree}
 use Rattle.lists.specs.Refused.{list_refusals}
@@ -67,23 +67,23 @@ module _ (p most : ℕ) (f g h a b : List ℕ) where
   rows-judged : lowest (cofactor_rows p most f g h a b)
       ≡ or_else (lowest (gcd_rows p most f g h))
       (refuse (not (eqb (length a) (suc (identity_degree f g - naive_degree f)))) Misfit
-      (refuse (not (eqb (length b) (suc (identity_degree f g - naive_degree g)))) Misfit Done))
+      (refuse (not (eqb (length b) (suc (identity_degree f g - naive_degree g)))) Misfit (Ok tt)))
   unfolding cofactor_rows gcd_rows list_refusals
   rows-judged = first_then (gcd_rows p most f g h) _ tt
 
-  pub refused-gcd : {why : Refusal} → lowest (gcd_rows p most f g h) ≡ Refused why → Refused why ≡ lowest (cofactor_rows p most f g h a b)
+  pub refused-gcd : {why : Refusal} → lowest (gcd_rows p most f g h) ≡ Err why → Err why ≡ lowest (cofactor_rows p most f g h a b)
   refused-gcd e = sym (rows-judged ∙ simp e)
 
   -- na and nb as the code finds them
-  module _ {na : ℕ} (e : lowest (gcd_rows p most f g h) ≡ Done) (ea : na ≡ suc (identity_degree f g - naive_degree f)) where
-    pub misfit-a : ¬ (length a ≡ na) → Refused Misfit ≡ lowest (cofactor_rows p most f g h a b)
+  module _ {na : ℕ} (e : lowest (gcd_rows p most f g h) ≡ Ok tt) (ea : na ≡ suc (identity_degree f g - naive_degree f)) where
+    pub misfit-a : ¬ (length a ≡ na) → Err Misfit ≡ lowest (cofactor_rows p most f g h a b)
     misfit-a w = sym (rows-judged ∙ simp (e, ne_eqb (length a) (suc (identity_degree f g - naive_degree f)) (λ i. w (i ∙ sym ea))))
 
     module _ {nb : ℕ} (fa : length a ≡ na) (eb : nb ≡ suc (identity_degree g f - naive_degree g)) where
       size_b : nb ≡ suc (identity_degree f g - naive_degree g)
       size_b = eb ∙ ap (λ m. suc (m - naive_degree g)) (identity-comm g f)
 
-      pub misfit-b : ¬ (length b ≡ nb) → Refused Misfit ≡ lowest (cofactor_rows p most f g h a b)
+      pub misfit-b : ¬ (length b ≡ nb) → Err Misfit ≡ lowest (cofactor_rows p most f g h a b)
       misfit-b w =
           sym
           (rows-judged
@@ -93,7 +93,7 @@ module _ (p most : ℕ) (f g h a b : List ℕ) where
             ne_eqb (length b) (suc (identity_degree f g - naive_degree g)) (λ i. w (i ∙ sym size_b)),
           ))
 
-      pub none-refused : length b ≡ nb → Done ≡ lowest (cofactor_rows p most f g h a b)
+      pub none-refused : length b ≡ nb → Ok tt ≡ lowest (cofactor_rows p most f g h a b)
       none-refused fb =
           sym
           (rows-judged
@@ -104,7 +104,7 @@ module _ (p most : ℕ) (f g h a b : List ℕ) where
           ))
 
 -- what a call knows that refuses nothing
-pub cofactors-ready : (F : PrimeField) (most : ℕ) → most ≤ F.p → (f g h a b : List ℕ) → lowest (cofactor_rows F.p most f g h a b) ≡ Done
+pub cofactors-ready : (F : PrimeField) (most : ℕ) → most ≤ F.p → (f g h a b : List ℕ) → lowest (cofactor_rows F.p most f g h a b) ≡ Ok tt
     → Ready F most f g × Slices most f g h a b
 cofactors-ready F most big f g h a b e =
     let tests = or-else-done (lowest (gcd_rows F.p most f g h)) _ (sym (rows-judged F.p most f g h a b) ∙ e) in

@@ -4,11 +4,10 @@ use mathlib.Core.Path.{◌≡◌, sym, ◌∙◌, ap}
 use mathlib.Core.List.{List, []}
 use Prim.Native.Nat.{ℕ}
 use native.Mathlib.Omega.{arith}
+use Rattle.std.specs.Prelude.{Ok, Err}
 use Rattle.algebra.specs.PrimeField.{PrimeField}
-use Rattle.refusal.specs.Refusal.{reply, outcome_reply, written}
+use Rattle.refusal.specs.Refusal.{reply, outcome_reply, written, Outcome}
 use Rattle.refusal.specs.declared.Refusal.{Refusal}
-use Rattle.refusal.specs.declared.Outcome.{Outcome}
-use Rattle.refusal.specs.declared.Outcome.TheVariants.{Done, Refused}
 use Rattle.refusal.proofs.Answers.{result, kept}
 use Rattle.euclid_theory.specs.Division.{quotient_of, remainder_of, Divisible}
 use Rattle.euclid_theory.proofs.Division.{length-quotient, length-remainder, division-identity, division-only}
@@ -30,10 +29,10 @@ pub record Divided (F : PrimeField) (answer found : Outcome) (g f q r q' r' : Li
   pub reported : outcome_reply answer ≡ reply found []
   pub quotient : q' ≡ written found (quotient_of F g f) q
   pub remainder : r' ≡ written found (remainder_of F g f) r
-  pub promised : answer ≡ Done → DividesSo F g f q' r'
+  pub promised : answer ≡ Ok tt → DividesSo F g f q' r'
 
 module _ (F : PrimeField) {answer found : Outcome} (e : answer ≡ found) (g f q r : List ℕ) where
-  pub done : answer ≡ Done → Divisible F g f → {q' r' : List ℕ} → q' ≡ quotient_of F g f → r' ≡ remainder_of F g f
+  pub done : answer ≡ Ok tt → Divisible F g f → {q' r' : List ℕ} → q' ≡ quotient_of F g f → r' ≡ remainder_of F g f
       → Divided F answer found g f q r q' r'
   done d h eq er =
       record {
@@ -43,7 +42,7 @@ module _ (F : PrimeField) {answer found : Outcome} (e : answer ≡ found) (g f q
         promised = λ _. rw (eq, er) (divides-so F g f h);
       }
 
-  pub refused : {why : Refusal} → answer ≡ Refused why → Divided F answer found g f q r q r
+  pub refused : {why : Refusal} → answer ≡ Err why → Divided F answer found g f q r q r
   refused d =
       record {
         reported = ap outcome_reply e;

@@ -8,11 +8,11 @@ use native.Mathlib.Omega.{arith}
 use lib.Dec.{eqb, ltb}
 use lib.ListN.{length, get_or}
 use borrow.Author.Tests.{eqb-true, eqb-false, ltb-false, not-false, eq-eqb, ne_eqb, lt-ltb, le-ltb}
+use Rattle.std.specs.Prelude.{Ok, Err}
 use Rattle.algebra.specs.PrimeField.{PrimeField, positive}
 use Rattle.refusal.specs.Lowest.{lowest}
 use Rattle.refusal.specs.declared.Refusal.{Refusal}
 use Rattle.refusal.specs.declared.Refusal.TheVariants.{Backwards, Vanishes, Misfit}
-use Rattle.refusal.specs.declared.Outcome.TheVariants.{Done, Refused}
 use Rattle.refusal.proofs.First.{refuse, or_else, first_then, refuse-done, or-else-done, or-false}
 use Rattle.lists.specs.Degrees.{naive_degree}
 use Rattle.lists.proofs.Scaled.{coefficients-listed}
@@ -23,7 +23,7 @@ use Rattle.list_division.specs.Calls.{divide_rows}
 use Rattle.list_division.specs.Internal.{DivideFits}
 
 -- the divisor has a last word
-pub divisor-some : (p most : ℕ) (big : 0 < p) (g f : List ℕ) → lowest (list_refusals p most (g ∷ f ∷ [])) ≡ Done → 0 < length f
+pub divisor-some : (p most : ℕ) (big : 0 < p) (g f : List ℕ) → lowest (list_refusals p most (g ∷ f ∷ [])) ≡ Ok tt → 0 < length f
 divisor-some p most big g f e = (two-listed p most big g f e).1.some
 
 module _ (p most : ℕ) (big : 0 < p) (g f q r : List ℕ) where
@@ -31,25 +31,25 @@ module _ (p most : ℕ) (big : 0 < p) (g f q r : List ℕ) where
       ≡ or_else (lowest (list_refusals p most (g ∷ f ∷ [])))
       (refuse (ltb (length g) (length f)) Backwards
       (refuse (eqb (get_or f (naive_degree f) 0) 0) Vanishes
-      (refuse (not (eqb (length q) (steps g f)) || not (eqb (length r) (naive_degree f))) Misfit Done)))
+      (refuse (not (eqb (length q) (steps g f)) || not (eqb (length r) (naive_degree f))) Misfit (Ok tt))))
   unfolding divide_rows list_refusals
   divide-judged = first_then (list_refusals p most (g ∷ f ∷ [])) _ tt
 
-  pub divide-refused : {why : Refusal} → lowest (list_refusals p most (g ∷ f ∷ [])) ≡ Refused why
-      → Refused why ≡ lowest (divide_rows p most g f q r)
+  pub divide-refused : {why : Refusal} → lowest (list_refusals p most (g ∷ f ∷ [])) ≡ Err why
+      → Err why ≡ lowest (divide_rows p most g f q r)
   divide-refused e = sym (divide-judged ∙ simp e)
 
-  module _ (e : lowest (list_refusals p most (g ∷ f ∷ [])) ≡ Done) where
-    pub divide-backwards : length g < length f → Refused Backwards ≡ lowest (divide_rows p most g f q r)
+  module _ (e : lowest (list_refusals p most (g ∷ f ∷ [])) ≡ Ok tt) where
+    pub divide-backwards : length g < length f → Err Backwards ≡ lowest (divide_rows p most g f q r)
     divide-backwards l = sym (divide-judged ∙ simp (e, lt-ltb (length g) (length f) l))
 
     module _ (l : length f ≤ length g) where
-      pub divide-vanishes : get_or f (length f - 1) 0 ≡ 0 → Refused Vanishes ≡ lowest (divide_rows p most g f q r)
+      pub divide-vanishes : get_or f (length f - 1) 0 ≡ 0 → Err Vanishes ≡ lowest (divide_rows p most g f q r)
       unfolding naive_degree
       divide-vanishes z = sym (divide-judged ∙ simp (e, le-ltb (length g) (length f) l, eq-eqb (get_or f (length f - 1) 0) 0 z))
 
       module _ (z : ¬ (get_or f (length f - 1) 0 ≡ 0)) where
-        pub divide-misfit-q : ¬ (length q ≡ length g - length f + 1) → Refused Misfit ≡ lowest (divide_rows p most g f q r)
+        pub divide-misfit-q : ¬ (length q ≡ length g - length f + 1) → Err Misfit ≡ lowest (divide_rows p most g f q r)
         unfolding naive_degree steps
         divide-misfit-q h =
             let s = divisor-some p most big g f e in
@@ -58,7 +58,7 @@ module _ (p most : ℕ) (big : 0 < p) (g f q r : List ℕ) where
             ∙ simp (e, le-ltb (length g) (length f) l, ne_eqb (get_or f (length f - 1) 0) 0 z, ne_eqb (length q) (steps g f) (λ i. h (omega arith))))
 
         module _ (h : length q ≡ length g - length f + 1) where
-          pub divide-misfit-r : ¬ (length r ≡ length f - 1) → Refused Misfit ≡ lowest (divide_rows p most g f q r)
+          pub divide-misfit-r : ¬ (length r ≡ length f - 1) → Err Misfit ≡ lowest (divide_rows p most g f q r)
           unfolding naive_degree steps
           divide-misfit-r j =
               let s = divisor-some p most big g f e in
@@ -66,7 +66,7 @@ module _ (p most : ℕ) (big : 0 < p) (g f q r : List ℕ) where
               (divide-judged
               ∙ simp (e, le-ltb (length g) (length f) l, ne_eqb (get_or f (length f - 1) 0) 0 z, eq-eqb (length q) (steps g f) (omega arith), ne_eqb (length r) (naive_degree f) j))
 
-          pub divide-done : length r ≡ length f - 1 → Done ≡ lowest (divide_rows p most g f q r)
+          pub divide-done : length r ≡ length f - 1 → Ok tt ≡ lowest (divide_rows p most g f q r)
           unfolding naive_degree steps
           divide-done j =
               let s = divisor-some p most big g f e in
@@ -75,7 +75,7 @@ module _ (p most : ℕ) (big : 0 < p) (g f q r : List ℕ) where
               ∙ simp (e, le-ltb (length g) (length f) l, ne_eqb (get_or f (length f - 1) 0) 0 z, eq-eqb (length q) (steps g f) (omega arith), eq-eqb (length r) (naive_degree f) j))
 
 module _ (F : PrimeField) (most : ℕ) (wide : most ≤ F.p) (g f q r : List ℕ) where
-  pub divide-fits : Done ≡ lowest (divide_rows F.p most g f q r) → DivideFits F most g f q r
+  pub divide-fits : Ok tt ≡ lowest (divide_rows F.p most g f q r) → DivideFits F most g f q r
   unfolding naive_degree steps
   divide-fits e =
       let d = or-else-done (lowest (list_refusals F.p most (g ∷ f ∷ []))) _ (sym (divide-judged F.p most (positive F) g f q r) ∙ sym e) in

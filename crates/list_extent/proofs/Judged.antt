@@ -7,11 +7,11 @@ use Prim.Native.Nat.{ℕ, ◌-◌, ◌<◌}
 use lib.Dec.{eqb}
 use lib.ListN.{length}
 use borrow.Author.Tests.{eqb-true, not-false, eq-eqb, ne_eqb}
+use Rattle.std.specs.Prelude.{Ok, Err}
 use Rattle.refusal.specs.Refusal.{reply}
 use Rattle.refusal.specs.Lowest.{lowest}
 use Rattle.refusal.specs.declared.Refusal.{Refusal}
 use Rattle.refusal.specs.declared.Refusal.TheVariants.{AllZero, Misfit}
-use Rattle.refusal.specs.declared.Outcome.TheVariants.{Done, Refused}
 use Rattle.refusal.proofs.First.{refuse, or_else, first_then, refuse-done, or-else-done}
 use Rattle.lists.specs.Degrees.{significant, extent, searched}
 use Rattle.lists.specs.Refused.{list_refusals}
@@ -28,11 +28,11 @@ module _ (p most : ℕ) (f : List ℕ) where
       (extent_reply r ≡ reply (lowest (extent_rows p most f)) (extent_values f))
       × (searched_reply r ≡ reply (lowest (extent_rows p most f)) (searched f ∷ []))
 
-  pub extent-refused : {why : Refusal} → lowest (list_refusals p most (f ∷ [])) ≡ Refused why → Answers (found.Refused why)
+  pub extent-refused : {why : Refusal} → lowest (list_refusals p most (f ∷ [])) ≡ Err why → Answers (found.Refused why)
   unfolding extent_rows
   extent-refused e = (simp e, simp e)
 
-  module _ {n r : ℕ} (e : lowest (list_refusals p most (f ∷ [])) ≡ Done) (w : n ≡ significant f) (s : r ≡ searched f) where
+  module _ {n r : ℕ} (e : lowest (list_refusals p most (f ∷ [])) ≡ Ok tt) (w : n ≡ significant f) (s : r ≡ searched f) where
     pub extent-zero : n ≡ 0 → Answers (found.Zero (record { 0 = r }))
     unfolding extent_rows extent_values
     extent-zero z = (simp (e, eq-eqb (significant f) 0 (sym w ∙ z)), simp (e, s))
@@ -44,24 +44,24 @@ module _ (p most : ℕ) (f : List ℕ) where
 module _ (p most : ℕ) (f out : List ℕ) where
   trim-judged : lowest (trim_rows p most f out)
       ≡ or_else (lowest (list_refusals p most (f ∷ [])))
-      (refuse (eqb (significant f) 0) AllZero (refuse (not (eqb (length out) (significant f))) Misfit Done))
+      (refuse (eqb (significant f) 0) AllZero (refuse (not (eqb (length out) (significant f))) Misfit (Ok tt)))
   unfolding trim_rows list_refusals
   trim-judged = first_then (list_refusals p most (f ∷ [])) _ tt
 
-  pub trim-refused : {why : Refusal} → lowest (list_refusals p most (f ∷ [])) ≡ Refused why → Refused why ≡ lowest (trim_rows p most f out)
+  pub trim-refused : {why : Refusal} → lowest (list_refusals p most (f ∷ [])) ≡ Err why → Err why ≡ lowest (trim_rows p most f out)
   trim-refused e = sym (trim-judged ∙ simp e)
 
-  module _ (e : lowest (list_refusals p most (f ∷ [])) ≡ Done) where
-    pub trim-zero : significant f ≡ 0 → Refused AllZero ≡ lowest (trim_rows p most f out)
+  module _ (e : lowest (list_refusals p most (f ∷ [])) ≡ Ok tt) where
+    pub trim-zero : significant f ≡ 0 → Err AllZero ≡ lowest (trim_rows p most f out)
     trim-zero z = sym (trim-judged ∙ simp (e, eq-eqb (significant f) 0 z))
 
-    pub trim-misfit : ¬ (significant f ≡ 0) → ¬ (length out ≡ significant f) → Refused Misfit ≡ lowest (trim_rows p most f out)
+    pub trim-misfit : ¬ (significant f ≡ 0) → ¬ (length out ≡ significant f) → Err Misfit ≡ lowest (trim_rows p most f out)
     trim-misfit z h = sym (trim-judged ∙ simp (e, ne_eqb (significant f) 0 z, ne_eqb (length out) (significant f) h))
 
-    pub trim-done : ¬ (significant f ≡ 0) → length out ≡ significant f → Done ≡ lowest (trim_rows p most f out)
+    pub trim-done : ¬ (significant f ≡ 0) → length out ≡ significant f → Ok tt ≡ lowest (trim_rows p most f out)
     trim-done z h = sym (trim-judged ∙ simp (e, ne_eqb (significant f) 0 z, eq-eqb (length out) (significant f) h))
 
-  pub trim-fits : 0 < p → Done ≡ lowest (trim_rows p most f out) → TrimFits most f out
+  pub trim-fits : 0 < p → Ok tt ≡ lowest (trim_rows p most f out) → TrimFits most f out
   trim-fits big e =
       let d = or-else-done (lowest (list_refusals p most (f ∷ []))) _ (sym trim-judged ∙ sym e) in
       let z = refuse-done (eqb (significant f) 0) _ _ d.1 in

@@ -7,16 +7,15 @@ use Prim.Native.Nat.{ℕ, suc, ◌-◌, ◌≤◌, ◌<◌}
 use native.Mathlib.Omega.{arith}
 use lib.ListN.{get_or, length, take, get_or-eq_default}
 use lib.Seq.{take_at}
+use Rattle.std.specs.Prelude.{Ok, Err}
 use Rattle.algebra.specs.Series.{C}
 use Rattle.algebra.specs.Degree.{size}
 use Rattle.algebra.specs.Euclid.{done, euclid}
 use Rattle.algebra.specs.Monic.{top_inverse}
 use Rattle.algebra.proofs.Monic.{monic-is}
 use Rattle.algebra.specs.PrimeField.{PrimeField, scalar_field, residue, inverse}
-use Rattle.refusal.specs.Refusal.{reply, written}
+use Rattle.refusal.specs.Refusal.{reply, written, Outcome}
 use Rattle.refusal.specs.declared.Refusal.{Refusal}
-use Rattle.refusal.specs.declared.Outcome.{Outcome}
-use Rattle.refusal.specs.declared.Outcome.TheVariants.{Done, Refused}
 use Rattle.refusal.proofs.Answers.{result, kept}
 use Rattle.field.specs.Field.{inverse_of, inverse_or_zero}
 use Rattle.field.proofs.Field.{residue-inverse}
@@ -186,14 +185,14 @@ module _ (F : PrimeField) where
           ∙ monic-written h ∙ ap (λ i. padded i (monic_list F n (series_of F last))) e
 
 -- what a call answers, and what it leaves in the slice of h
-pub refused : (F : PrimeField) (n : ℕ) (f g h : List ℕ) {found : Outcome} {why : Refusal} → found ≡ Refused why
+pub refused : (F : PrimeField) (n : ℕ) (f g h : List ℕ) {found : Outcome} {why : Refusal} → found ≡ Err why
     → (gcd_reply (G.Refused why) ≡ reply found (gcd_values F f g)) × (h ≡ written found (padded n (gcd_of F f g)) h)
 refused F n f g h e = (
   sym (ap (λ o. reply o (gcd_values F f g)) e),
   kept (padded n (gcd_of F f g)) h e,
 )
 
-pub answered : (F : PrimeField) (n : ℕ) (f g h : List ℕ) {found : Outcome} {r : Gcd} {h' : List ℕ} → found ≡ Done → Ready F n f g
+pub answered : (F : PrimeField) (n : ℕ) (f g h : List ℕ) {found : Outcome} {r : Gcd} {h' : List ℕ} → found ≡ Ok tt → Ready F n f g
     → r ≡ gcd_done F f g → h' ≡ padded n (gcd_of F f g)
     → (gcd_reply r ≡ reply found (gcd_values F f g)) × (h' ≡ written found (padded n (gcd_of F f g)) h) × Greatest F f g h' r
 unfolding gcd_done gcd_values

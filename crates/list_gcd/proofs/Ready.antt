@@ -13,11 +13,11 @@ use native.Mathlib.Omega.{arith}
 use lib.Dec.{eqb}
 use lib.ListN.{length}
 use borrow.Author.Tests.{eqb-true, eqb-false, not-false}
+use Rattle.std.specs.Prelude.{Ok, Err}
 use Rattle.algebra.specs.PrimeField.{PrimeField, positive}
 use Rattle.refusal.specs.Lowest.{Condition, ◌given-when◌, lowest}
 use Rattle.refusal.specs.declared.Refusal.{Refusal}
 use Rattle.refusal.specs.declared.Refusal.TheVariants.{AllZero, Misfit}
-use Rattle.refusal.specs.declared.Outcome.TheVariants.{Done, Refused}
 use Rattle.refusal.proofs.First.{refuse, or_else, first_then, refuse-done, or-else-done}
 use Rattle.lists.specs.Degrees.{significant}
 use Rattle.lists.proofs.Scaled.{coefficients-listed}
@@ -36,21 +36,21 @@ judged_rows p most f g misfit =
 
 module _ (p most : ℕ) (f g : List ℕ) (misfit : Bool) where
   rows-judged : lowest (judged_rows p most f g misfit)
-      ≡ or_else (lowest (list_refusals p most (f ∷ g ∷ []))) (refuse (eqb (significant f + significant g) 0) AllZero (refuse misfit Misfit Done))
+      ≡ or_else (lowest (list_refusals p most (f ∷ g ∷ []))) (refuse (eqb (significant f + significant g) 0) AllZero (refuse misfit Misfit (Ok tt)))
   unfolding list_refusals
   rows-judged = first_then (list_refusals p most (f ∷ g ∷ [])) _ tt
 
-  pub judged-lists : {why : Refusal} → lowest (list_refusals p most (f ∷ g ∷ [])) ≡ Refused why → Refused why ≡ lowest (judged_rows p most f g misfit)
+  pub judged-lists : {why : Refusal} → lowest (list_refusals p most (f ∷ g ∷ [])) ≡ Err why → Err why ≡ lowest (judged_rows p most f g misfit)
   judged-lists e = sym (rows-judged ∙ simp e)
 
-  module _ (e : lowest (list_refusals p most (f ∷ g ∷ [])) ≡ Done) where
-    pub judged-zero : eqb (significant f + significant g) 0 ≡ true → Refused AllZero ≡ lowest (judged_rows p most f g misfit)
+  module _ (e : lowest (list_refusals p most (f ∷ g ∷ [])) ≡ Ok tt) where
+    pub judged-zero : eqb (significant f + significant g) 0 ≡ true → Err AllZero ≡ lowest (judged_rows p most f g misfit)
     judged-zero z = sym (rows-judged ∙ simp (e, z))
 
-    pub judged-misfit : eqb (significant f + significant g) 0 ≡ false → misfit ≡ true → Refused Misfit ≡ lowest (judged_rows p most f g misfit)
+    pub judged-misfit : eqb (significant f + significant g) 0 ≡ false → misfit ≡ true → Err Misfit ≡ lowest (judged_rows p most f g misfit)
     judged-misfit z m = sym (rows-judged ∙ simp (e, z, m))
 
-    pub judged-done : eqb (significant f + significant g) 0 ≡ false → misfit ≡ false → Done ≡ lowest (judged_rows p most f g misfit)
+    pub judged-done : eqb (significant f + significant g) 0 ≡ false → misfit ≡ false → Ok tt ≡ lowest (judged_rows p most f g misfit)
     judged-done z m = sym (rows-judged ∙ simp (e, z, m))
 
 pub ready-within : (F : PrimeField) {m : ℕ} (n : ℕ) {f g : List ℕ} → Ready F m f g → length f ≤ n → length g ≤ n → Ready F n f g
@@ -65,7 +65,7 @@ ready-within F n r lf lg =
 
 module _ (F : PrimeField) (most : ℕ) (big : most ≤ F.p) where
   -- what a call knows that refuses nothing
-  pub ready : (f g : List ℕ) (misfit : Bool) → lowest (judged_rows F.p most f g misfit) ≡ Done → Ready F most f g × (misfit ≡ false)
+  pub ready : (f g : List ℕ) (misfit : Bool) → lowest (judged_rows F.p most f g misfit) ≡ Ok tt → Ready F most f g × (misfit ≡ false)
   ready f g misfit e =
       let d = or-else-done (lowest (list_refusals F.p most (f ∷ g ∷ []))) _ (sym (rows-judged F.p most f g misfit) ∙ e) in
       let z = refuse-done (eqb (significant f + significant g) 0) _ _ d.1 in
@@ -82,7 +82,7 @@ module _ (F : PrimeField) (most : ℕ) (big : most ≤ F.p) where
         m.0,
       )
 
-  pub gcd-ready : (f g h : List ℕ) → lowest (gcd_rows F.p most f g h) ≡ Done → Ready F most f g × (length h ≡ most)
+  pub gcd-ready : (f g h : List ℕ) → lowest (gcd_rows F.p most f g h) ≡ Ok tt → Ready F most f g × (length h ≡ most)
   unfolding gcd_rows
   gcd-ready f g h e =
       let r = ready f g (not (eqb (length h) most)) e in

@@ -10,10 +10,10 @@ use native.Mathlib.Omega.{arith}
 use lib.Dec.{eqb}
 use lib.ListN.{length}
 use borrow.Author.Tests.{eqb-true, not-false, eq-eqb, ne_eqb}
+use Rattle.std.specs.Prelude.{Ok, Err}
 use Rattle.refusal.specs.Lowest.{lowest}
 use Rattle.refusal.specs.declared.Refusal.{Refusal}
 use Rattle.refusal.specs.declared.Refusal.TheVariants.{Misfit}
-use Rattle.refusal.specs.declared.Outcome.TheVariants.{Done, Refused}
 use Rattle.refusal.proofs.First.{refuse, or_else, first_then, refuse-done, or-else-done}
 use Rattle.lists.specs.Degrees.{naive_degree}
 use Rattle.lists.specs.Refused.{list_refusals}
@@ -24,28 +24,28 @@ use Rattle.list_sum.specs.Internal.{SumFits}
 module _ (p most : ℕ) (big : 0 < p) (f g out : List ℕ) where
   sum-judged : lowest (sum_rows p most f g out)
       ≡ or_else (lowest (list_refusals p most (f ∷ g ∷ [])))
-      (refuse (not (eqb (length out) (suc (max (naive_degree f) (naive_degree g))))) Misfit Done)
+      (refuse (not (eqb (length out) (suc (max (naive_degree f) (naive_degree g))))) Misfit (Ok tt))
   unfolding sum_rows list_refusals
   sum-judged = first_then (list_refusals p most (f ∷ g ∷ [])) _ tt
 
-  pub sum-refused : {why : Refusal} → lowest (list_refusals p most (f ∷ g ∷ [])) ≡ Refused why
-      → Refused why ≡ lowest (sum_rows p most f g out)
+  pub sum-refused : {why : Refusal} → lowest (list_refusals p most (f ∷ g ∷ [])) ≡ Err why
+      → Err why ≡ lowest (sum_rows p most f g out)
   sum-refused e = sym (sum-judged ∙ simp e)
 
-  module _ (e : lowest (list_refusals p most (f ∷ g ∷ [])) ≡ Done) where
-    pub sum-misfit : ¬ (length out ≡ max (length f) (length g)) → Refused Misfit ≡ lowest (sum_rows p most f g out)
+  module _ (e : lowest (list_refusals p most (f ∷ g ∷ [])) ≡ Ok tt) where
+    pub sum-misfit : ¬ (length out ≡ max (length f) (length g)) → Err Misfit ≡ lowest (sum_rows p most f g out)
     unfolding naive_degree
     sum-misfit h =
         let s = two-listed p most big f g e in
         sym (sum-judged ∙ simp (e, ne_eqb (length out) (suc (max (naive_degree f) (naive_degree g))) (λ q. h (omega arith))))
 
-    pub sum_done : length out ≡ max (length f) (length g) → Done ≡ lowest (sum_rows p most f g out)
+    pub sum_done : length out ≡ max (length f) (length g) → Ok tt ≡ lowest (sum_rows p most f g out)
     unfolding naive_degree
     sum_done h =
         let s = two-listed p most big f g e in
         sym (sum-judged ∙ simp (e, eq-eqb (length out) (suc (max (naive_degree f) (naive_degree g))) (omega arith)))
 
-  pub sum_fits : Done ≡ lowest (sum_rows p most f g out) → SumFits p most f g out
+  pub sum_fits : Ok tt ≡ lowest (sum_rows p most f g out) → SumFits p most f g out
   unfolding naive_degree
   sum_fits e =
       let d = or-else-done (lowest (list_refusals p most (f ∷ g ∷ []))) _ (sym sum-judged ∙ sym e) in

@@ -7,11 +7,11 @@ use Prim.Native.Nat.{ℕ, ◌+◌, ◌-◌, ◌%◌, ◌≤◌, ◌<◌}
 use native.Mathlib.Nat.{mod-lt}
 use native.Mathlib.Omega.{arith}
 use lib.ListN.{length, get_or}
+use Rattle.std.specs.Prelude.{Ok}
 use Rattle.algebra.specs.PrimeField.{PrimeField, scalars, positive, residue, value}
 use Rattle.algebra.proofs.PrimeField.{residue-add-mod, residue-neg}
 use Rattle.refusal.specs.Refusal.{written}
 use Rattle.refusal.specs.Lowest.{lowest}
-use Rattle.refusal.specs.declared.Outcome.TheVariants.{Done}
 use Rattle.lists.specs.Tabulate.{tabulate}
 use Rattle.lists.proofs.Tabulate.{length-tabulate, get_or-tabulate}
 use Rattle.lists.specs.Degrees.{naive_degree}
@@ -48,7 +48,7 @@ module _ (F : PrimeField) where
     in_buffer c a l room e q =
         q ∙ ap (λ o. written o (raise F (length out - 1) c) a) completes ∙ ap (λ n. raise F n c) degree
       where
-        completes : lowest (raise_rows p most c (length out - 1) a) ≡ Done
+        completes : lowest (raise_rows p most c (length out - 1) a) ≡ Ok tt
         completes =
             let some = l.some in
             let first = fits.first.short in

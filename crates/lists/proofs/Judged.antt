@@ -11,14 +11,14 @@ use native.Mathlib.Omega.{arith}
 use lib.Dec.{eqb, ltb}
 use lib.ListN.{length}
 use borrow.Author.Tests.{eqb-false, ltb-false, ne_eqb, le-ltb}
+use Rattle.std.specs.Prelude.{Ok}
 use Rattle.refusal.specs.Lowest.{lowest}
 use Rattle.refusal.specs.declared.Refusal.TheVariants.{Length, LooseWord}
-use Rattle.refusal.specs.declared.Outcome.TheVariants.{Done}
 use Rattle.refusal.proofs.First.{refuse, first-is, refuse-done, or-false}
 use Rattle.lists.specs.Refused.{wrong_length, has_loose, any_of, list_refusals, IsList}
 use Rattle.lists.proofs.Search.{none-loose, tight}
 
-pub judged : (p most : ℕ) (lists : List (List ℕ)) → lowest (list_refusals p most lists) ≡ refuse (any_of (wrong_length most) lists) Length (refuse (any_of (has_loose p) lists) LooseWord Done)
+pub judged : (p most : ℕ) (lists : List (List ℕ)) → lowest (list_refusals p most lists) ≡ refuse (any_of (wrong_length most) lists) Length (refuse (any_of (has_loose p) lists) LooseWord (Ok tt))
 unfolding list_refusals
 judged p most lists = first-is (list_refusals p most lists) tt
 
@@ -30,13 +30,13 @@ module _ (p most : ℕ) (big : 0 < p) where
       let words = eqb-false (length c) 0 tests.0 in
       record { some = omega arith; short = ltb-false most (length c) tests.1; words = none-loose p c big l }
 
-  pub one-listed : (f : List ℕ) → lowest (list_refusals p most (f ∷ [])) ≡ Done → IsList p most f
+  pub one-listed : (f : List ℕ) → lowest (list_refusals p most (f ∷ [])) ≡ Ok tt → IsList p most f
   one-listed f e =
       let lengths = refuse-done (any_of (wrong_length most) (f ∷ [])) _ _ (sym (judged p most (f ∷ [])) ∙ e) in
       let words = refuse-done (any_of (has_loose p) (f ∷ [])) _ _ lengths.1 in
       listed f (or-false (wrong_length most f) false lengths.0).0 (or-false (has_loose p f) false words.0).0
 
-  pub two-listed : (f g : List ℕ) → lowest (list_refusals p most (f ∷ g ∷ [])) ≡ Done → IsList p most f × IsList p most g
+  pub two-listed : (f g : List ℕ) → lowest (list_refusals p most (f ∷ g ∷ [])) ≡ Ok tt → IsList p most f × IsList p most g
   two-listed f g e =
       let lengths = refuse-done (any_of (wrong_length most) (f ∷ g ∷ [])) _ _ (sym (judged p most (f ∷ g ∷ [])) ∙ e) in
       let words = refuse-done (any_of (has_loose p) (f ∷ g ∷ [])) _ _ lengths.1 in
@@ -52,5 +52,5 @@ module _ (p most : ℕ) (c : List ℕ) (l : IsList p most c) where
       let some = l.some in
       simp (ne_eqb (length c) 0 (λ e. omega arith), le-ltb most (length c) l.short)
 
-  pub one_passes : lowest (list_refusals p most (c ∷ [])) ≡ Done
+  pub one_passes : lowest (list_refusals p most (c ∷ [])) ≡ Ok tt
   one_passes = judged p most (c ∷ []) ∙ simp (right-length, tight p c l.words)

@@ -1,7 +1,7 @@
 -- What a call answers and writes that does as its judge found.
 --     number-range      the numbers are 1 to 13
 --     number_is         the number of a reply is that of its outcome
---     result, kept      what a slice holds afterwards, where the judge found Done and where it found a refusal
+--     result, kept      what a slice holds afterwards, where the judge found Ok and where it found a refusal
 --     done, refused     the same with the answer, of a call that hands back no value
 --     done-reply, refused-reply     what a reply tells of the judge's finding: of a call that completes, and of one that is refused
 -- Assumes nothing.
@@ -9,11 +9,10 @@ use mathlib.Core.Path.{◌≡◌, refl, sym, ◌∙◌, ap}
 use mathlib.Core.List.{List, []}
 use Prim.Native.Nat.{ℕ, ◌≤◌}
 use native.Mathlib.Omega.{arith}
-use Rattle.refusal.specs.Refusal.{number, outcome_number, Reply, reply, outcome_reply, written}
+use Rattle.std.specs.Prelude.{Ok, Err}
+use Rattle.refusal.specs.Refusal.{number, outcome_number, Reply, reply, outcome_reply, written, Outcome}
 use Rattle.refusal.specs.declared.Refusal.{Refusal}
 use Rattle.refusal.specs.declared.Refusal.TheVariants.{Count, Contents, Index, Length, LooseWord, Over, Backwards, Vanishes, AllZero, Misfit, NoInverse, Line, Nesting}
-use Rattle.refusal.specs.declared.Outcome.{Outcome}
-use Rattle.refusal.specs.declared.Outcome.TheVariants.{Done, Refused}
 
 pub number-range : (why : Refusal) → (1 ≤ number why) × (number why ≤ 13)
 number-range Count = (omega arith, omega arith)
@@ -31,34 +30,34 @@ number-range Line = (omega arith, omega arith)
 number-range Nesting = (omega arith, omega arith)
 
 reply-number : (o : Outcome) (values : List ℕ) → (reply o values).number ≡ outcome_number o
-reply-number Done values = refl
-reply-number (Refused why) values = refl
+reply-number (Ok _) values = refl
+reply-number (Err why) values = refl
 
 pub number_is : (o : Outcome) (values : List ℕ) {r : Reply} → r ≡ reply o values → r.number ≡ outcome_number o
 number_is o values e = ap (λ r. r.number) e ∙ reply-number o values
 
-pub result : {found : Outcome} (new old : List ℕ) {left : List ℕ} → found ≡ Done → left ≡ new → left ≡ written found new old
+pub result : {found : Outcome} (new old : List ℕ) {left : List ℕ} → found ≡ Ok tt → left ≡ new → left ≡ written found new old
 result new old d q = q ∙ sym (ap (λ o. written o new old) d)
 
-pub kept : {found : Outcome} {why : Refusal} (new old : List ℕ) → found ≡ Refused why → old ≡ written found new old
+pub kept : {found : Outcome} {why : Refusal} (new old : List ℕ) → found ≡ Err why → old ≡ written found new old
 kept new old d = sym (ap (λ o. written o new old) d)
 
-pub done : {answer found : Outcome} → answer ≡ found → answer ≡ Done → (new old : List ℕ) {left : List ℕ} → left ≡ new
+pub done : {answer found : Outcome} → answer ≡ found → answer ≡ Ok tt → (new old : List ℕ) {left : List ℕ} → left ≡ new
     → (outcome_reply answer ≡ reply found []) × (left ≡ written found new old)
 done e d new old q = (ap outcome_reply e, result new old (sym e ∙ d) q)
 
-pub refused : {answer found : Outcome} {why : Refusal} → answer ≡ found → answer ≡ Refused why → (new old : List ℕ)
+pub refused : {answer found : Outcome} {why : Refusal} → answer ≡ found → answer ≡ Err why → (new old : List ℕ)
     → (outcome_reply answer ≡ reply found []) × (old ≡ written found new old)
 refused e d new old = (ap outcome_reply e, kept new old (sym e ∙ d))
 
 never-zero : (why : Refusal) → 0 ≡ number why → ⊥
 never-zero why e = omega (arith, number-range why)
 
-pub done-reply : (found : Outcome) (v values : List ℕ) → reply Done v ≡ reply found values → (found ≡ Done) × (v ≡ values)
-done-reply Done v values e = (refl, ap (λ r. r.values) e)
-done-reply (Refused why) v values e = absurd (never-zero why (ap (λ r. r.number) e))
+pub done-reply : (found : Outcome) (v values : List ℕ) → reply (Ok tt) v ≡ reply found values → (found ≡ Ok tt) × (v ≡ values)
+done-reply (Ok _) v values e = (refl, ap (λ r. r.values) e)
+done-reply (Err why) v values e = absurd (never-zero why (ap (λ r. r.number) e))
 
-pub refused-reply : (why : Refusal) (found : Outcome) (values : List ℕ) → reply (Refused why) [] ≡ reply found values
+pub refused-reply : (why : Refusal) (found : Outcome) (values : List ℕ) → reply (Err why) [] ≡ reply found values
     → (number why ≡ outcome_number found) × ((new old : List ℕ) → old ≡ written found new old)
-refused-reply why Done values e = absurd (never-zero why (sym (ap (λ r. r.number) e)))
-refused-reply why (Refused other) values e = (ap (λ r. r.number) e, λ new old. refl)
+refused-reply why (Ok _) values e = absurd (never-zero why (sym (ap (λ r. r.number) e)))
+refused-reply why (Err other) values e = (ap (λ r. r.number) e, λ new old. refl)

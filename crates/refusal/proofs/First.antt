@@ -16,19 +16,19 @@ use native.Mathlib.Nat.{le_trans}
 use lib.Dec.{T, leb, leb→le}
 use borrow.Author.Tests.{le-ltb}
 use mir.Facts.{and_yes, yes_and}
+use Rattle.refusal.specs.Refusal.{Outcome}
+use Rattle.std.specs.Prelude.{Ok, Err}
 use Rattle.refusal.specs.Rank.{rank}
 use Rattle.refusal.specs.Lowest.{Condition, lower, lowest}
 pub use Rattle.refusal.specs.Lowest.{or_else}
 use Rattle.refusal.specs.declared.Refusal.{Refusal}
-use Rattle.refusal.specs.declared.Outcome.{Outcome}
-use Rattle.refusal.specs.declared.Outcome.TheVariants.{Done, Refused}
 
 abbrev pub refuse : Bool → Refusal → Outcome → Outcome
-refuse true why next = Refused why
+refuse true why next = Err why
 refuse false why next = next
 
 abbrev pub first : List Condition → Outcome
-first [] = Done
+first [] = Ok tt
 first (c ∷ rows) = refuse c.applies c.why (first rows)
 
 abbrev pub ascending : List Condition → Bool
@@ -38,12 +38,12 @@ ascending (c ∷ d ∷ rows) = leb (rank c.why) (rank d.why) && ascending (d ∷
 
 -- every refusal that the outcome can be has at least the rank n
 abbrev AtLeast : ℕ → Outcome → Type 0
-AtLeast n Done = Unit {0}
-AtLeast n (Refused why) = n ≤ rank why
+AtLeast n (Ok _) = Unit {0}
+AtLeast n (Err why) = n ≤ rank why
 
 weaken : {m n : ℕ} (o : Outcome) → m ≤ n → AtLeast n o → AtLeast m o
-weaken Done l h = tt
-weaken (Refused why) l h = le_trans l h
+weaken (Ok _) l h = tt
+weaken (Err why) l h = le_trans l h
 
 later : (c : Condition) (rows : List Condition) → T (ascending (c ∷ rows)) → AtLeast (rank c.why) (first rows)
 later c [] t = tt
@@ -60,10 +60,10 @@ rest : (c : Condition) (rows : List Condition) → T (ascending (c ∷ rows)) �
 rest c [] t = tt
 rest c (d ∷ rows) t = (and_yes (leb (rank c.why) (rank d.why)) (ascending (d ∷ rows)) t).1
 
-lower-first : (why : Refusal) (o : Outcome) → AtLeast (rank why) o → lower why o ≡ Refused why
+lower-first : (why : Refusal) (o : Outcome) → AtLeast (rank why) o → lower why o ≡ Err why
 unfolding lower
-lower-first why Done h = refl
-lower-first why (Refused other) h = ap (λ b. cond b (Refused other) (Refused why)) (le-ltb _ _ h)
+lower-first why (Ok _) h = refl
+lower-first why (Err other) h = ap (λ b. cond b (Err other) (Err why)) (le-ltb _ _ h)
 
 one-row : (b : Bool) (why : Refusal) (o : Outcome) → AtLeast (rank why) o → cond b (lower why o) o ≡ refuse b why o
 one-row true why o h = lower-first why o h
@@ -100,13 +100,13 @@ first_then rows more t =
     ∙ ap (λ o. or_else o (first more)) (sym (first-is rows (left-ascending rows more t)))
 
 -- a call that completes: no test held
-pub refuse-done : (b : Bool) (why : Refusal) (next : Outcome) → refuse b why next ≡ Done → (b ≡ false) × (next ≡ Done)
+pub refuse-done : (b : Bool) (why : Refusal) (next : Outcome) → refuse b why next ≡ Ok tt → (b ≡ false) × (next ≡ Ok tt)
 refuse-done true why next e = (cc, cc)
 refuse-done false why next e = (refl, e)
 
-pub or-else-done : (o next : Outcome) → or_else o next ≡ Done → (o ≡ Done) × (next ≡ Done)
-or-else-done Done next e = (refl, e)
-or-else-done (Refused why) next e = (e, cc)
+pub or-else-done : (o next : Outcome) → or_else o next ≡ Ok tt → (o ≡ Ok tt) × (next ≡ Ok tt)
+or-else-done (Ok _) next e = (refl, e)
+or-else-done (Err why) next e = (e, cc)
 
 pub or-false : (a b : Bool) → (a || b) ≡ false → (a ≡ false) × (b ≡ false)
 or-false true b e = (e, cc)

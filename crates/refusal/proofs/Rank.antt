@@ -12,12 +12,12 @@ use Prim.Native.Nat.{ℕ, ◌+◌, ◌*◌, ◌-◌, ◌≤◌, min}
 use native.Mathlib.Decide.{dec_le}
 use native.Mathlib.Omega.{arith}
 use lib.Dec.{leb}
+use Rattle.std.specs.Prelude.{Err}
 use Rattle.refusal.specs.Refusal.{number}
 use Rattle.refusal.specs.Rank.{order, rank}
 use Rattle.refusal.specs.Lowest.{Condition, Applies, IsLowest}
 use Rattle.refusal.specs.declared.Refusal.{Refusal}
 use Rattle.refusal.specs.declared.Refusal.TheVariants.{Count, Contents, Index, Length, LooseWord, Over, Backwards, Vanishes, AllZero, Misfit, NoInverse, Line, Nesting}
-use Rattle.refusal.specs.declared.Outcome.TheVariants.{Refused}
 
 abbrev pub up_to : ℕ → List ℕ → List ℕ
 up_to most [] = []
@@ -64,5 +64,5 @@ rank-number a b h k l = go (dec_le (number a) (number b))
         absurd (omega (arith, placed a h, placed b k, above-grows 1 m, above-grows 2 m, above-grows 8 m))
 
 pub lowest-number : (rows : List Condition) → ((why : Refusal) → Applies why rows → number why ≤ 11)
-    → (why : Refusal) → IsLowest rows (Refused why) → (other : Refusal) → Applies other rows → number why ≤ number other
+    → (why : Refusal) → IsLowest rows (Err why) → (other : Refusal) → Applies other rows → number why ≤ number other
 lowest-number rows base why is other a = rank-number why other (base why is.0) (base other a) (is.1 other a)

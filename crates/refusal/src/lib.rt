@@ -4,6 +4,8 @@
 ghost use Rattle.std.specs.Prelude.{◌≡◌};
 ghost use Rattle.refusal.specs.Refusal.{number, outcome_number};
 
+use std::fmt;
+
 // The longest list.
 pub const MAX_DEGREE: usize = 1023;
 
@@ -21,7 +23,7 @@ pub const MAX_LINE: usize = 256;
 
 pub const MAX_OPEN: usize = 32;
 
-#[derive(Clone, Copy)]
+#[derive(Clone, Copy, Debug, PartialEq, Eq)]
 pub enum Refusal {
     Count,
     Contents,
@@ -38,40 +40,41 @@ pub enum Refusal {
     Nesting,
 }
 
-// The answer of a call that hands back no value.
-#[derive(Clone, Copy)]
-pub enum Outcome {
-    Done,
-    Refused(Refusal),
+// The number of a refusal.
+impl From<Refusal> for u8 {
+    ghost from_gives = { λ why n. n ≡ number why };
+
+    fn from(why: Refusal) -> u8 {
+        match why {
+            Refusal::Count => 1,
+            Refusal::Contents => 2,
+            Refusal::Index => 3,
+            Refusal::Length => 4,
+            Refusal::LooseWord => 5,
+            Refusal::Over => 6,
+            Refusal::Backwards => 7,
+            Refusal::Vanishes => 8,
+            Refusal::AllZero => 9,
+            Refusal::Misfit => 10,
+            Refusal::NoInverse => 11,
+            Refusal::Line => 12,
+            Refusal::Nesting => 13,
+        }
+    }
 }
 
-// The number of a refusal.
-pub fn number_of(why: Refusal) -> u8
-    ensures { result ≡ number why }
-{
-    match why {
-        Refusal::Count => 1,
-        Refusal::Contents => 2,
-        Refusal::Index => 3,
-        Refusal::Length => 4,
-        Refusal::LooseWord => 5,
-        Refusal::Over => 6,
-        Refusal::Backwards => 7,
-        Refusal::Vanishes => 8,
-        Refusal::AllZero => 9,
-        Refusal::Misfit => 10,
-        Refusal::NoInverse => 11,
-        Refusal::Line => 12,
-        Refusal::Nesting => 13,
+impl fmt::Display for Refusal {
+    fn fmt<W: fmt::Write>(&self, f: &mut fmt::Formatter<W>) -> fmt::Result {
+        write!(f, "refused {}", u8::from(*self))
     }
 }
 
 // The number of a refusal, or 0 where the call completes.
-pub fn outcome_number(outcome: Outcome) -> u8
+pub fn outcome_number(outcome: Result<(), Refusal>) -> u8
     ensures { result ≡ outcome_number outcome }
 {
     match outcome {
-        Outcome::Done => 0,
-        Outcome::Refused(why) => number_of(why),
+        Ok(()) => 0,
+        Err(why) => u8::from(why),
     }
 }

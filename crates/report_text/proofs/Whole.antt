@@ -6,14 +6,13 @@ use Prim.Native.Nat.{ℕ, ◌+◌, ◌*◌, ◌≤◌}
 use native.Mathlib.Omega.{arith}
 use lib.ListN.{length, get_or, take}
 use borrow.Author.Tests.{eq-eqb, ne_eqb}
+use Rattle.std.specs.Prelude.{Ok, Err, Result}
 use Rattle.algebra.specs.PrimeField.{PrimeField}
 use Rattle.refusal.specs.Limits.{max_lists, max_words}
-use Rattle.refusal.specs.Refusal.{reply, written}
+use Rattle.refusal.specs.Refusal.{reply, written, Outcome}
 use Rattle.refusal.specs.Lowest.{lower, lowest}
 use Rattle.refusal.specs.declared.Refusal.{Refusal}
 use Rattle.refusal.specs.declared.Refusal.TheVariants.{Misfit}
-use Rattle.refusal.specs.declared.Outcome.{Outcome}
-use Rattle.refusal.specs.declared.Outcome.TheVariants.{Done, Refused}
 use Rattle.lists.specs.Padded.{padded}
 use Rattle.lists.proofs.Padded.{padded-inside}
 use Rattle.album_layout.specs.Layout.{count, lists_of}
@@ -24,8 +23,6 @@ use Rattle.album_layout.proofs.Passed.{passed-obeys, passed-each}
 use Rattle.report_text.specs.Text.{decimal, line}
 use Rattle.report_text.specs.Report.{⟨lists⟩, list_lines, refused_line, sound_report, report_of}
 use Rattle.report_text.specs.Calls.{max_text, report_rows, text_reply}
-use Rattle.report_text.specs.declared.Text.{Text}
-use Rattle.report_text.specs.declared.Text.TheVariants as T
 use Rattle.report_text.specs.Internal.{Room, Put, max_answer, answer_lines}
 use Rattle.report_text.proofs.Puts.{put_is, put_then}
 use Rattle.report_text.proofs.Fits.{named-fits, lines_fit}
@@ -66,7 +63,7 @@ put-whole-report F s x y z =
     (put_then x (put_then y z))
 
 module _ (p : ℕ) (F : PrimeField) (s : List ℕ) where
-  pub report-refused : {why : Refusal} → lowest (album_refusals p s) ≡ Refused why → refused_line why ≡ report_of p F s
+  pub report-refused : {why : Refusal} → lowest (album_refusals p s) ≡ Err why → refused_line why ≡ report_of p F s
   unfolding report_of
   report-refused e = sym (rw e)
 
@@ -75,35 +72,35 @@ module _ (p : ℕ) (F : PrimeField) (s : List ℕ) where
   report-sound e = sym (rw e)
 
 module _ (out : List ℕ) where
-  report-misfit : ¬ (length out ≡ max_text) → lowest (report_rows out) ≡ Refused Misfit
+  report-misfit : ¬ (length out ≡ max_text) → lowest (report_rows out) ≡ Err Misfit
   unfolding report_rows lowest lower
   report-misfit f = rw (ne_eqb (length out) max_text f)
 
-  report-done : length out ≡ max_text → lowest (report_rows out) ≡ Done
+  report-done : length out ≡ max_text → lowest (report_rows out) ≡ Ok tt
   unfolding report_rows lowest lower
   report-done e = rw (eq-eqb (length out) max_text e)
 
 -- what the call answers and leaves: nothing where the slice does not fit
 pub misfit : (t a : List ℕ) → ¬ (length a ≡ max_text)
-    → (text_reply (T.Refused Misfit) ≡ reply (lowest (report_rows a)) (length t ∷ [])) × (a ≡ written (lowest (report_rows a)) (padded max_text t) a)
+    → (text_reply (Err Misfit) ≡ reply (lowest (report_rows a)) (length t ∷ [])) × (a ≡ written (lowest (report_rows a)) (padded max_text t) a)
 misfit t a f = rw (report-misfit a f) (refl, refl)
 
 -- and where zeros follow the text t
 pub cleared : {t a b c : List ℕ} {r : ℕ} → length a ≡ max_text → Put t 0 a b r → c ≡ padded (length b) (take r b)
-    → (text_reply (T.Done r) ≡ reply (lowest (report_rows a)) (length t ∷ [])) × (c ≡ written (lowest (report_rows a)) (padded max_text t) a)
+    → (text_reply (Ok r) ≡ reply (lowest (report_rows a)) (length t ∷ [])) × (c ≡ written (lowest (report_rows a)) (padded max_text t) a)
 cleared {t} {a} {b} {c} {r} q x z =
     let n : r ≡ length t = omega (arith, x.next) in
-    rw (report-done a q) (ap (λ k. text_reply (T.Done k)) n, z ∙ ap₂ padded (x.same ∙ q) x.bytes)
+    rw (report-done a q) (ap (λ k. text_reply (Ok k)) n, z ∙ ap₂ padded (x.same ∙ q) x.bytes)
 
 -- for a caller: the text that an answer names lies in the slice
-inside-so : (t a : List ℕ) (o : Outcome) {c : List ℕ} {k : ℕ} → text_reply (T.Done k) ≡ reply o (length t ∷ [])
+inside-so : (t a : List ℕ) (o : Outcome) {c : List ℕ} {k : ℕ} → text_reply (Ok k) ≡ reply o (length t ∷ [])
     → c ≡ written o (padded max_text t) a → k ≤ length c
-inside-so t a Done {c} {k} e z =
+inside-so t a (Ok _) {c} {k} e z =
     let n : k ≡ length t = ap (λ v. get_or v.values 0 0) e in
     omega (arith, ap length z, padded-inside max_text t)
-inside-so t a (Refused why) {c} {k} e z =
+inside-so t a (Err why) {c} {k} e z =
     absurd (let n = ap (λ v. length v.values) e in omega arith)
 
-pub text-inside : (t a : List ℕ) {c : List ℕ} {k : ℕ} {r : Text} → r ≡ T.Done k → text_reply r ≡ reply (lowest (report_rows a)) (length t ∷ [])
+pub text-inside : (t a : List ℕ) {c : List ℕ} {k : ℕ} {r : (Result ℕ Refusal)} → r ≡ Ok k → text_reply r ≡ reply (lowest (report_rows a)) (length t ∷ [])
     → c ≡ written (lowest (report_rows a)) (padded max_text t) a → k ≤ length c
 text-inside t a i e z = inside-so t a (lowest (report_rows a)) (ap text_reply (sym i) ∙ e) z

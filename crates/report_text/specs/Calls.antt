@@ -6,7 +6,8 @@
 --     report_written k     the report, zeros after it
 --     text_reply           what the answer says: the number of bytes of the text
 -- Assumes nothing.
-use Rattle.std.specs.Prelude.{not, List, [], ◌∷◌, ℕ, ◌*◌, eqb, length}
+use Rattle.refusal.specs.declared.Refusal.{Refusal}
+use Rattle.std.specs.Prelude.{not, List, [], ◌∷◌, ℕ, ◌*◌, eqb, length, Ok, Err, Result}
 use Rattle.refusal.specs.Limits.{max_words}
 use Rattle.refusal.specs.Refusal.{Reply, number, reply, written}
 use Rattle.refusal.specs.Lowest.{Condition, ◌given-when◌, lowest}
@@ -14,8 +15,6 @@ use Rattle.refusal.specs.declared.Refusal.TheVariants.{Misfit}
 use Rattle.field.specs.Fields.{modulus, field_at}
 use Rattle.lists.specs.Padded.{padded}
 use Rattle.report_text.specs.Report.{report_of}
-use Rattle.report_text.specs.declared.Text.{Text}
-use Rattle.report_text.specs.declared.Text.TheVariants.{Done, Refused}
 
 abbrev pub max_text : ℕ
 max_text = 8 * max_words
@@ -29,6 +28,6 @@ report_answer k s out = reply (lowest (report_rows out)) (length (report_of (mod
 abbrev pub report_written : (k : ℕ) → (s out : List ℕ) → List ℕ
 report_written k s out = written (lowest (report_rows out)) (padded max_text (report_of (modulus k) (field_at k) s)) out
 
-abbrev pub text_reply : Text → Reply
-text_reply (Done n) = record { number = 0; values = n ∷ [] }
-text_reply (Refused why) = record { number = number why; values = [] }
+abbrev pub text_reply : (Result ℕ Refusal) → Reply
+text_reply (Ok n) = record { number = 0; values = n ∷ [] }
+text_reply (Err why) = record { number = number why; values = [] }

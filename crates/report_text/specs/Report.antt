@@ -14,14 +14,12 @@
 --     gcd-degree-most                it is at most w + c (Degrees)
 --     of-document-01, of-order-4     the reports on document 01's album and on order 4's, by computation (Examples)
 -- Assumes nothing.
-use Rattle.std.specs.Prelude.{cond, List, [], ◌∷◌, ◌++◌, map, ℕ, suc, ◌+◌, eqb, length}
+use Rattle.std.specs.Prelude.{cond, List, [], ◌∷◌, ◌++◌, map, ℕ, suc, ◌+◌, eqb, length, Ok, Err}
 use Rattle.algebra.specs.PrimeField.{PrimeField}
-use Rattle.refusal.specs.Refusal.{number}
+use Rattle.refusal.specs.Refusal.{number, Outcome}
 use Rattle.refusal.specs.Lowest.{lowest}
 use Rattle.refusal.specs.declared.Refusal.{Refusal}
 use Rattle.refusal.specs.declared.Refusal.TheVariants.{AllZero}
-use Rattle.refusal.specs.declared.Outcome.{Outcome}
-use Rattle.refusal.specs.declared.Outcome.TheVariants.{Done, Refused}
 use Rattle.lists.specs.Degrees.{naive_degree, significant, extent, power}
 use Rattle.euclid_theory.specs.Gcd.{common_power}
 use Rattle.ordinary_theory.specs.InT.{degree_in_t}
@@ -70,8 +68,8 @@ sound_report F lists =
 
 -- of what the album is refused with, if it is
 abbrev pub report_for : Outcome → PrimeField → List (List ℕ) → List ℕ
-report_for Done F lists = sound_report F lists
-report_for (Refused why) F lists = refused_line why
+report_for (Ok _) F lists = sound_report F lists
+report_for (Err why) F lists = refused_line why
 
 unfoldable pub report_of : ℕ → PrimeField → List ℕ → List ℕ
 report_of p F s = report_for (lowest (album_refusals p s)) F (lists_of s)

@@ -12,12 +12,11 @@ use mathlib.Core.Path.{◌≡◌, refl, sym, ◌∙◌, ap}
 use mathlib.Core.List.{List, [], ◌∷◌}
 use Prim.Native.Nat.{ℕ}
 use lib.ListN.{length}
+use Rattle.std.specs.Prelude.{Ok, Err}
 use Rattle.refusal.specs.Limits.{max_lists}
-use Rattle.refusal.specs.Refusal.{outcome_number, Reply, reply, outcome_reply, written}
+use Rattle.refusal.specs.Refusal.{outcome_number, Reply, reply, outcome_reply, written, Outcome}
 use Rattle.refusal.specs.Lowest.{Condition, IsLowest, lowest, or_else}
 use Rattle.refusal.proofs.Lowest.{lowest-is}
-use Rattle.refusal.specs.declared.Outcome.{Outcome}
-use Rattle.refusal.specs.declared.Outcome.TheVariants.{Done, Refused}
 use Rattle.refusal.proofs.Answers.{number_is}
 use Rattle.field.specs.Fields.{p}
 use Rattle.album_contents.specs.Calls.{contents_rows, records_from, filled, contents_answer, contents_written}
@@ -27,13 +26,13 @@ use Rattle.statement.specs.Demand1.{Slice, slice_of, Demand1After, Demand1, Empt
 -- by cases on what `lowest` is, and on the late refusal
 by-outcome : (rows : List Condition) (o late : Outcome) → IsLowest rows o
     → (answer : ℕ) (slices : List Slice) → answer ≡ outcome_number (or_else o late) → Left (or_else o late) slices → Demand1After rows late answer slices
-by-outcome rows Done late none answer slices e l =
+by-outcome rows (Ok _) late none answer slices e l =
     record {
       refused = λ some a. absurd (none some a);
       refused_late = λ _ why q. (e ∙ ap outcome_number q, l.unchanged why q);
       completes = λ _ q. e ∙ ap outcome_number q;
     }
-by-outcome rows (Refused low) late is answer slices e l =
+by-outcome rows (Err low) late is answer slices e l =
     record {
       refused = λ some a. (low, is, e, l.unchanged low refl);
       refused_late = λ none. absurd (none low is.0);
@@ -50,14 +49,14 @@ replies-after {rows} late values {r} {slices} e l =
     demand1-after rows late r.number slices (number_is (or_else (lowest rows) late) values e) l
 
 -- nothing comes late
-or-done : (o : Outcome) → or_else o Done ≡ o
-or-done Done = refl
-or-done (Refused why) = refl
+or-done : (o : Outcome) → or_else o (Ok tt) ≡ o
+or-done (Ok _) = refl
+or-done (Err why) = refl
 
 pub demand1 : (rows : List Condition) (answer : ℕ) (slices : List Slice) → answer ≡ outcome_number (lowest rows) → Left (lowest rows) slices
     → Demand1 rows answer slices
 demand1 rows answer slices e l =
-    demand1-after rows Done answer slices (e ∙ ap outcome_number (sym (or-done (lowest rows)))) (rw (or-done (lowest rows)) l)
+    demand1-after rows (Ok tt) answer slices (e ∙ ap outcome_number (sym (or-done (lowest rows)))) (rw (or-done (lowest rows)) l)
 
 pub replies : {rows : List Condition} (values : List ℕ) {r : Reply} {slices : List Slice} → r ≡ reply (lowest rows) values
     → Left (lowest rows) slices → Demand1 rows r.number slices
@@ -72,8 +71,8 @@ and-slice new {old} e l = record { unchanged = λ why r. (e ∙ ap (λ a. writte
 
 empty-by-outcome : (rows : List Condition) (o : Outcome) → IsLowest rows o
     → (new part : List ℕ) → part ≡ written o new [] → EmptyRefused rows part
-empty-by-outcome rows Done none new part e = λ why a. absurd (none why a)
-empty-by-outcome rows (Refused low) is new part e = λ why a. e
+empty-by-outcome rows (Ok _) none new part e = λ why a. absurd (none why a)
+empty-by-outcome rows (Err low) is new part e = λ why a. e
 
 pub empty-refused : (rows : List Condition) (new part : List ℕ) → part ≡ written (lowest rows) new [] → EmptyRefused rows part
 empty-refused rows new part e = empty-by-outcome rows (lowest rows) (lowest-is rows) new part e

@@ -10,6 +10,7 @@ use native.Mathlib.Omega.{arith}
 use lib.Dec.{eqb}
 use lib.ListN.{length}
 use borrow.Author.Tests.{eqb-false}
+use Rattle.std.specs.Prelude.{Ok}
 use Rattle.algebra.specs.Evaluation.{ValueAt, eval}
 use Rattle.algebra.proofs.Evaluation.{eval-more}
 use Rattle.algebra.specs.PrimeField.{PrimeField, positive, scalars, residue, value}
@@ -18,7 +19,6 @@ use Rattle.field.specs.Fields.{longest, F65521}
 use Rattle.field.proofs.Fields.{longest-in}
 use Rattle.refusal.specs.Limits.{max_words}
 use Rattle.refusal.specs.Lowest.{lowest}
-use Rattle.refusal.specs.declared.Outcome.TheVariants.{Done}
 use Rattle.refusal.proofs.First.{first_then, refuse-done, or-else-done}
 use Rattle.field.proofs.Field.{residue-sum, residue-difference, residue-product, sum_lt, difference-lt, product_lt, inverse-is}
 use Rattle.lists.proofs.Bytes.{words-of-bytes, bytes-words}
@@ -83,7 +83,7 @@ module _ (F : PrimeField) where
     the-list n s c e g m =
         record { coefficients = g; words = e; means = m; only = λ d h l q. meaning-injective F d c h g (l ∙ sym e) (q ∙ sym m) }
 
-    product_is : (f g out : List ℕ) → lowest (product_rows F.p max_words f g out) ≡ Done
+    product_is : (f g out : List ℕ) → lowest (product_rows F.p max_words f g out) ≡ Ok tt
         → TheList F (suc (naive_degree f + naive_degree g)) (meaning F f *ˢ meaning F g) (product F f g)
     product_is f g out e =
         the-list _ _ _ (length-product F f g) (coefficients-product F f g small) (product-meaning F f g small)
@@ -95,7 +95,7 @@ module _ (F : PrimeField) where
             let b = length-naive g h.second in
             omega arith
 
-    raise-is : (f : List ℕ) (n : ℕ) (out : List ℕ) → lowest (raise_rows F.p max_words f n out) ≡ Done → TheList F (suc n) (meaning F f) (raise F n f)
+    raise-is : (f : List ℕ) (n : ℕ) (out : List ℕ) → lowest (raise_rows F.p max_words f n out) ≡ Ok tt → TheList F (suc n) (meaning F f) (raise F n f)
     unfolding naive_degree
     raise-is f n out e =
         let h = raise-fits F.p max_words (positive F) f n out (sym e) in
@@ -105,7 +105,7 @@ module _ (F : PrimeField) where
         let target = h.1 in
         the-list _ _ _ (length-raise F n f) (coefficients-raise F n f (omega arith)) (raise-meaning F n f (omega arith) (omega arith))
 
-    larger-small : (f g out : List ℕ) → lowest (sum_rows F.p max_words f g out) ≡ Done → larger_degree F f g < F.p
+    larger-small : (f g out : List ℕ) → lowest (sum_rows F.p max_words f g out) ≡ Ok tt → larger_degree F f g < F.p
     unfolding larger_degree
     larger-small f g out e =
         let h = sum_fits F.p max_words (positive F) f g out (sym e) in
@@ -115,21 +115,21 @@ module _ (F : PrimeField) where
         let d = h.second.short in
         omega arith
 
-    sum_is : (f g out : List ℕ) → lowest (sum_rows F.p max_words f g out) ≡ Done
+    sum_is : (f g out : List ℕ) → lowest (sum_rows F.p max_words f g out) ≡ Ok tt
         → TheList F (suc (max (naive_degree f) (naive_degree g))) (meaning F f +ˢ meaning F g) (sum_of F f g)
     unfolding larger_degree
     sum_is f g out e =
         let l = larger-small f g out e in
         the-list _ _ _ (length-sum F f g) (coefficients-sum F f g l) (sum-meaning F f g l)
 
-    difference-is : (f g out : List ℕ) → lowest (sum_rows F.p max_words f g out) ≡ Done
+    difference-is : (f g out : List ℕ) → lowest (sum_rows F.p max_words f g out) ≡ Ok tt
         → TheList F (suc (max (naive_degree f) (naive_degree g))) (meaning F f +ˢ -ˢ meaning F g) (difference_of F f g)
     unfolding larger_degree
     difference-is f g out e =
         let l = larger-small f g out e in
         the-list _ _ _ (length-difference F f g) (coefficients-difference F f g l) (difference-meaning F f g l)
 
-    trim-is : (f out : List ℕ) → lowest (trim_rows F.p max_words f out) ≡ Done → TheTrim F f (trim F f)
+    trim-is : (f out : List ℕ) → lowest (trim_rows F.p max_words f out) ≡ Ok tt → TheTrim F f (trim F f)
     unfolding trim_rows list_refusals
     trim-is f out e =
         let d = or-else-done _ _ (sym (first_then (list_refusals F.p max_words (f ∷ [])) _ tt) ∙ e) in
@@ -141,7 +141,7 @@ module _ (F : PrimeField) where
         record { coefficients = g; words = n; same = same; only = λ c i l q. scaled-injective F c (trim F f) i g (l ∙ sym n) (q ∙ sym same) }
 
     -- the list that a derivative is handed
-    derivative-listed : (f out : List ℕ) → lowest (derivative_rows F.p max_words f out) ≡ Done → Coefficients F f
+    derivative-listed : (f out : List ℕ) → lowest (derivative_rows F.p max_words f out) ≡ Ok tt → Coefficients F f
     unfolding derivative_rows list_refusals
     derivative-listed f out e =
         coefficients-listed F wide

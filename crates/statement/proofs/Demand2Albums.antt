@@ -13,10 +13,10 @@ use native.Mathlib.Omega.{arith}
 use lib.Dec.{leb}
 use lib.ListN.{length, get_or, take, drop, get_or-eq_default}
 use borrow.Author.Tests.{leb-false, eq-eqb}
+use Rattle.std.specs.Prelude.{Ok}
 use Rattle.refusal.specs.Limits.{max_lists, max_words}
 use Rattle.refusal.specs.Refusal.{Reply, reply, written}
 use Rattle.refusal.specs.Lowest.{lowest}
-use Rattle.refusal.specs.declared.Outcome.TheVariants.{Done}
 use Rattle.refusal.proofs.First.{first-is, first_then, refuse-done, or-else-done}
 use Rattle.field.specs.Fields.{p, F65521, field_at, longest}
 use Rattle.field.proofs.Fields.{modulus-high, modulus-some}
@@ -54,7 +54,7 @@ pub fine-passes : (s : List ℕ) → Fine s → Passed p s
 unfolding lowest album_refusals
 fine-passes s f = simp (f.counted, f.laid, f.tight)
 
-pub checked-fine : (s : List ℕ) (i : ℕ) → lowest (check_refusals p s i) ≡ Done → Fine s × (i < count s)
+pub checked-fine : (s : List ℕ) (i : ℕ) → lowest (check_refusals p s i) ≡ Ok tt → Fine s × (i < count s)
 unfolding check_refusals
 checked-fine s i e =
     let a = refuse-done (wrong_count max_lists s) _ _ (sym (first-is (check_refusals p s i) tt) ∙ e) in
@@ -63,7 +63,7 @@ checked-fine s i e =
     let d = refuse-done (any_of (has_loose p) (lists_of s)) _ _ c.1 in
     (record { counted = a.0; laid = b.0; tight = d.0 }, leb-false (count s) i c.0)
 
-read-checked : (s : List ℕ) (i : ℕ) (old : List ℕ) → lowest (read_rows p max_words s i old) ≡ Done → lowest (check_refusals p s i) ≡ Done
+read-checked : (s : List ℕ) (i : ℕ) (old : List ℕ) → lowest (read_rows p max_words s i old) ≡ Ok tt → lowest (check_refusals p s i) ≡ Ok tt
 unfolding read_rows check_refusals
 read-checked s i old d = (or-else-done _ _ (sym (first_then (check_refusals p s i) _ tt) ∙ d)).0
 
@@ -99,7 +99,7 @@ module _ (s : List ℕ) (bytes : Bytes s) (fine : Fine s) where
 
   module _ (i : ℕ) (old : List ℕ) {out : List ℕ} {r : Reply} (e : r ≡ reply (lowest (read_rows p max_words s i old)) (degree_at s i ∷ []))
       (w : out ≡ written (lowest (read_rows p max_words s i old)) (padded max_words (nth_list s i)) old) where
-    handed : lowest (read_rows p max_words s i old) ≡ Done → i < count s → Handed F65521 (lists_of s) i out r
+    handed : lowest (read_rows p max_words s i old) ≡ Ok tt → i < count s → Handed F65521 (lists_of s) i out r
     handed d l =
         record {
           inside = omega (arith, length-lists s);
@@ -165,7 +165,7 @@ entries s bytes fine =
       zeros = λ i l m. c.zeros i (omega arith) m;
     }
 
-contents-done : (s : List ℕ) (old : List Entry) → Fine s → length old ≡ max_lists → lowest (contents_rows p s (length old)) ≡ Done
+contents-done : (s : List ℕ) (old : List Entry) → Fine s → length old ≡ max_lists → lowest (contents_rows p s (length old)) ≡ Ok tt
 unfolding lowest contents_rows album_refusals
 contents-done s old f q = simp (f.counted, f.laid, f.tight, eq-eqb (length old) max_lists q)
 

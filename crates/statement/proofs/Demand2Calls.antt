@@ -11,10 +11,9 @@ use native.Mathlib.Omega.{arith}
 use lib.Dec.{leb, eqb}
 use lib.ListN.{get_or, length}
 use borrow.Author.Tests.{eqb-true, eqb-false, leb-false}
-use Rattle.refusal.specs.Refusal.{Reply, reply, written}
+use Rattle.std.specs.Prelude.{Ok}
+use Rattle.refusal.specs.Refusal.{Reply, reply, written, Outcome}
 use Rattle.refusal.specs.Lowest.{lowest}
-use Rattle.refusal.specs.declared.Outcome.{Outcome}
-use Rattle.refusal.specs.declared.Outcome.TheVariants.{Done}
 use Rattle.field.specs.Fields.{p, F65521, field_at, longest}
 use Rattle.refusal.proofs.First.{first-is, refuse-done, or-false}
 use Rattle.field.specs.Field as field
@@ -32,11 +31,11 @@ use Rattle.refusal.proofs.Answers.{done-reply}
 use Rattle.statement.specs.Demand2Calls.{Answers, ProductSo, RaiseSo, SumSo, DifferenceSo, TrimSo, DerivativeSo, ExtentSo, ValueSo, WordSumSo, WordDifferenceSo, WordProductSo, InverseSo}
 
 pub slice-holds : (P : List ℕ → Type 0) (o : Outcome) (new old : List ℕ) {out : List ℕ} {r : Reply} → r ≡ reply o [] → out ≡ written o new old
-    → (o ≡ Done → P new) → Answers r [] → P out
+    → (o ≡ Ok tt → P new) → Answers r [] → P out
 slice-holds P o new old e w h a =
     let d = (done-reply o [] [] (sym a ∙ e)).0 in subst P (sym (w ∙ ap (λ o. written o new old) d)) (h d)
 
-pub word-is : (P : ℕ → Type 0) (o : Outcome) (v : ℕ) {r : Reply} → r ≡ reply o (v ∷ []) → (o ≡ Done → P v) → (w : ℕ) → Answers r (w ∷ []) → P w
+pub word-is : (P : ℕ → Type 0) (o : Outcome) (v : ℕ) {r : Reply} → r ≡ reply o (v ∷ []) → (o ≡ Ok tt → P v) → (w : ℕ) → Answers r (w ∷ []) → P w
 word-is P o v e h w a =
     let d = done-reply o (w ∷ []) (v ∷ []) (sym a ∙ e) in subst P (sym (ap (λ l. get_or l 0 0) d.1)) (h d.0)
 
@@ -71,7 +70,7 @@ unfolding field_at longest
 derivative-so f old e w = slice-holds (TheList F65521 _ _) _ _ old e w (of-engine.of_derivative f old)
 
 -- the operands of a call that completes are coefficients
-operands : (a b : ℕ) → lowest (operand_refusals p a b) ≡ Done → (a < p) × (b < p)
+operands : (a b : ℕ) → lowest (operand_refusals p a b) ≡ Ok tt → (a < p) × (b < p)
 operands a b e =
     let l = (refuse-done _ _ _ (sym (first-is (operand_refusals p a b) tt) ∙ e)).0 in
     let t = or-false (leb p a) (leb p b) l in

@@ -9,10 +9,10 @@ use Prim.Native.Nat.{ℕ, zero, suc, ◌≤◌, ◌<◌}
 use native.Mathlib.Omega.{arith}
 use lib.ListN.{length, get_or, take, drop, length-map}
 use lib.Seq.{take_at, drop_at}
+use Rattle.std.specs.Prelude.{Ok}
 use Rattle.refusal.specs.Limits.{max_bytes}
 use Rattle.refusal.specs.Refusal.{Reply, reply, written}
 use Rattle.refusal.specs.Lowest.{lowest}
-use Rattle.refusal.specs.declared.Outcome.TheVariants.{Done}
 use Rattle.refusal.proofs.First.{or-false}
 use Rattle.refusal.proofs.Answers.{done-reply}
 use Rattle.field.specs.Fields.{p, F65521, field_at}
@@ -82,7 +82,7 @@ module _ (words degrees old : List ℕ) where
   -- ---- the call
   module _ {out : List ℕ} {r : Reply} (e : r ≡ write_answer 0 words degrees old) (w : out ≡ write_written 0 words degrees old) where
     pub written-again : (s : List ℕ) (lists : List (List ℕ)) → Holds F65521 s lists → words ≡ joined lists → degrees ≡ map naive_degree lists
-        → max_bytes ≤ length old → (r ≡ reply Done (length s ∷ [])) × (out ≡ over_front s old)
+        → max_bytes ≤ length old → (r ≡ reply (Ok tt) (length s ∷ [])) × (out ≡ over_front s old)
     written-again s lists h ew ed room =
         let d = taken-done p words degrees old (accepted s lists h ew ed room) in
         let is = same s lists h ew ed room in (
@@ -90,7 +90,7 @@ module _ (words degrees old : List ℕ) where
           w ∙ ap₂ (λ o l. written o (over_front l old) old) d is,
         )
 
-    album-written : (n : ℕ) → r ≡ reply Done (n ∷ []) → AlbumWritten F65521 words degrees old out n
+    album-written : (n : ℕ) → r ≡ reply (Ok tt) (n ∷ []) → AlbumWritten F65521 words degrees old out n
     album-written n a =
         let d = done-reply (lowest (write_rows p words degrees old)) (n ∷ []) (length (album_of (cut_by degrees words)) ∷ []) (sym a ∙ e) in
         let t = taken p words degrees old d.0 in

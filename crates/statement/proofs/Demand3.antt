@@ -7,12 +7,12 @@ use mathlib.Core.List.{List, []}
 use Prim.Native.Nat.{ℕ, ◌≤◌, ◌<◌}
 use native.Mathlib.Omega.{arith}
 use lib.ListN.{get_or}
+use Rattle.std.specs.Prelude.{Ok}
 use Rattle.algebra.specs.PrimeField.{PrimeField}
 use Rattle.field.specs.Fields.{longest, F65521}
 use Rattle.field.proofs.Fields.{longest-in}
 use Rattle.refusal.specs.Limits.{max_words}
 use Rattle.refusal.specs.Lowest.{lowest}
-use Rattle.refusal.specs.declared.Outcome.TheVariants.{Done}
 use Rattle.lists.specs.Degrees.{significant}
 use Rattle.lists.specs.Lists.{Coefficients}
 use Rattle.euclid_theory.proofs.Division.{meaning-at-1}
@@ -41,7 +41,7 @@ module _ (F : PrimeField) where
     index : ℕ
     some : 0 < significant (get_or lists index [])
 
-  album-ready : max_words ≤ F.p → (s h : List ℕ) → lowest (album_gcd_rows F.p max_words s h) ≡ Done → Ready (lists_of s)
+  album-ready : max_words ≤ F.p → (s h : List ℕ) → lowest (album_gcd_rows F.p max_words s h) ≡ Ok tt → Ready (lists_of s)
   album-ready wide s h e =
       let j = judged-fine F.p max_words s h e in
       let one = nonzero (lists_of s) j.1 in

@@ -8,10 +8,10 @@ use mathlib.Core.List.{List, [], ◌∷◌, map}
 use Prim.Native.Nat.{ℕ, zero, suc, ◌≤◌, ◌<◌}
 use native.Mathlib.Omega.{arith}
 use lib.ListN.{length, get_or, take}
+use Rattle.std.specs.Prelude.{Ok}
 use Rattle.refusal.specs.Limits.{max_words, max_bytes}
 use Rattle.refusal.specs.Refusal.{reply, written}
 use Rattle.refusal.specs.Lowest.{lowest}
-use Rattle.refusal.specs.declared.Outcome.TheVariants.{Done}
 use Rattle.refusal.proofs.Answers.{done-reply}
 use Rattle.field.specs.Fields.{p, F65521, field_at, longest}
 use Rattle.lists.specs.Bytes.{Bytes}
@@ -50,7 +50,7 @@ module _ (words degrees s : List ℕ) (h : Holds F65521 s (cut_by degrees words)
     inside : i < count s
     inside = omega (arith, number)
 
-    checked : lowest (check_refusals p s i) ≡ Done
+    checked : lowest (check_refusals p s i) ≡ Ok tt
     unfolding field_at
     checked = held.passes i inside
 
@@ -74,14 +74,14 @@ module _ (words degrees s : List ℕ) (h : Holds F65521 s (cut_by degrees words)
         whole = e;
       }
 
-pub written-then-read : (words degrees out : List ℕ) (n : ℕ) → write_answer 0 words degrees out ≡ reply Done (n ∷ [])
+pub written-then-read : (words degrees out : List ℕ) (n : ℕ) → write_answer 0 words degrees out ≡ reply (Ok tt) (n ∷ [])
     → ReadBack words degrees (take n (write_written 0 words degrees out)) n
 written-then-read words degrees out n e =
     let w = (write-so words degrees out refl refl).writes n e in
     read_back words degrees _ w.album w.all_degrees n (sym (ap length w.album.album) ∙ sym w.size)
 
 -- ---- read, then written
-pub read-then-written : (s out : List ℕ) (i : ℕ) → Bytes s → check_answer 0 s i ≡ reply Done [] → max_bytes ≤ length out → WrittenAgain s out
+pub read-then-written : (s out : List ℕ) (i : ℕ) → Bytes s → check_answer 0 s i ≡ reply (Ok tt) [] → max_bytes ≤ length out → WrittenAgain s out
 read-then-written s out i bytes e room =
     let d = (done-reply (lowest (check_refusals p s i)) [] [] (sym e)).0 in
     let f = (checked-fine s i d).0 in

@@ -4,11 +4,10 @@
 --     Contained    check on list i is done, read_list gives its words and naive degree, body its bytes, contents the place of its bytes and
 --                  its naive degree
 -- Assumes nothing.
-use Rattle.std.specs.Prelude.{◌≡◌, List, [], ℕ, ◌+◌, ◌*◌, ◌≤◌, ◌<◌, length, get_or, take, drop}
+use Rattle.std.specs.Prelude.{◌≡◌, List, [], ℕ, ◌+◌, ◌*◌, ◌≤◌, ◌<◌, length, get_or, take, drop, Ok}
 use Rattle.algebra.specs.PrimeField.{PrimeField}
 use Rattle.refusal.specs.Limits.{max_lists}
 use Rattle.refusal.specs.Lowest.{lowest}
-use Rattle.refusal.specs.declared.Outcome.TheVariants.{Done}
 use Rattle.lists.specs.Bytes.{bytes_of}
 use Rattle.lists.specs.Degrees.{naive_degree}
 use Rattle.album_layout.specs.Layout.{count, degree_at, start_at, nth_list}
@@ -25,7 +24,7 @@ entry_of s i = get_or (records_from s 0 max_lists) i none
 module _ (F : PrimeField) where
   pub record Contained (s : List ℕ) (lists : List (List ℕ)) : Type 0 where
     pub number : length lists ≡ count s
-    pub passes : (i : ℕ) → i < count s → lowest (check_refusals F.p s i) ≡ Done
+    pub passes : (i : ℕ) → i < count s → lowest (check_refusals F.p s i) ≡ Ok tt
     pub words : (i : ℕ) → i < count s → nth_list s i ≡ get_or lists i []
     pub degree : (i : ℕ) → i < count s → degree_at s i ≡ naive_degree (get_or lists i [])
     -- the bytes that body hands back, from the place where it does

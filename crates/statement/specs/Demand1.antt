@@ -12,12 +12,10 @@
 --     EmptyRefused   of a call that hands back a part and no number: where a refusal applies, the part is empty
 --     Left           what the contracts say of the slices: refused, every slice is unchanged
 -- Assumes nothing.
-use Rattle.std.specs.Prelude.{◌≡◌, List, [], ◌∷◌, ℕ}
-use Rattle.refusal.specs.Refusal.{number}
+use Rattle.std.specs.Prelude.{◌≡◌, List, [], ◌∷◌, ℕ, Ok, Err}
+use Rattle.refusal.specs.Refusal.{number, Outcome}
 use Rattle.refusal.specs.Lowest.{Condition, Applies, IsLowest}
 use Rattle.refusal.specs.declared.Refusal.{Refusal}
-use Rattle.refusal.specs.declared.Outcome.{Outcome}
-use Rattle.refusal.specs.declared.Outcome.TheVariants.{Done, Refused}
 
 pub record Slice : Type 1 where
   pub Element : Type 0
@@ -35,15 +33,15 @@ abbrev pub NoneApplies : List Condition → Type 0
 NoneApplies rows = (why : Refusal) → Applies why rows → ⊥
 
 pub record Demand1After (rows : List Condition) (late : Outcome) (answer : ℕ) (slices : List Slice) : Type 0 where
-  pub refused : (some : Refusal) → Applies some rows → (why : Refusal) × IsLowest rows (Refused why) × (answer ≡ number why) × Unchanged slices
-  pub refused_late : NoneApplies rows → (why : Refusal) → late ≡ Refused why → (answer ≡ number why) × Unchanged slices
-  pub completes : NoneApplies rows → late ≡ Done → answer ≡ 0
+  pub refused : (some : Refusal) → Applies some rows → (why : Refusal) × IsLowest rows (Err why) × (answer ≡ number why) × Unchanged slices
+  pub refused_late : NoneApplies rows → (why : Refusal) → late ≡ Err why → (answer ≡ number why) × Unchanged slices
+  pub completes : NoneApplies rows → late ≡ Ok tt → answer ≡ 0
 
 abbrev pub Demand1 : List Condition → ℕ → List Slice → Type 0
-Demand1 rows answer slices = Demand1After rows Done answer slices
+Demand1 rows answer slices = Demand1After rows (Ok tt) answer slices
 
 abbrev pub EmptyRefused : List Condition → List ℕ → Type 0
 EmptyRefused rows part = (why : Refusal) → Applies why rows → part ≡ []
 
 pub record Left (outcome : Outcome) (slices : List Slice) : Type 0 where
-  pub unchanged : (why : Refusal) → outcome ≡ Refused why → Unchanged slices
+  pub unchanged : (why : Refusal) → outcome ≡ Err why → Unchanged slices

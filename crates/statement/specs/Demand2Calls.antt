@@ -20,12 +20,11 @@
 --                          one list of its naive degree, which is answered, that means its polynomial, and zeros after it
 --     HostProductSo        the bytes at exit are those of a list, and it is the one that means the product of the lists whose bytes were given
 -- Assumes nothing.
-use Rattle.std.specs.Prelude.{◌≡◌, false, List, [], ◌∷◌, map, ℕ, suc, ◌+◌, ◌-◌, ◌≤◌, ◌<◌, max, length, get_or, take, drop}
+use Rattle.std.specs.Prelude.{◌≡◌, false, List, [], ◌∷◌, map, ℕ, suc, ◌+◌, ◌-◌, ◌≤◌, ◌<◌, max, length, get_or, take, drop, Ok}
 use Rattle.algebra.specs.Derivative as D
 use Rattle.algebra.specs.PrimeField.{PrimeField, scalars, residue}
 use Rattle.refusal.specs.Limits.{max_lists, max_words, max_bytes}
 use Rattle.refusal.specs.Refusal.{Reply, reply}
-use Rattle.refusal.specs.declared.Outcome.TheVariants.{Done}
 use Rattle.field.specs.Field.{IsInverse}
 use Rattle.lists.specs.Bytes.{words_of, bytes_of}
 use Rattle.lists.specs.Degrees.{naive_degree}
@@ -42,7 +41,7 @@ use Rattle.statement.specs.Meant.{TheWord, TheValue, TheList, TheTrim, IsExtent}
 use Rattle.statement.specs.Contained.{none}
 
 abbrev pub Answers : Reply → List ℕ → Type 0
-Answers r values = r ≡ reply Done values
+Answers r values = r ≡ reply (Ok tt) values
 
 pub record ExtentSo (f : List ℕ) (r : Reply) : Type 0 where
   pub extent : (e : ℕ) → Answers r (e ∷ []) → IsExtent f e

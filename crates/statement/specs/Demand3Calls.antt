@@ -8,11 +8,10 @@
 --     HostDivisionSo       the bytes of q and r at exit are those of two lists, and these divide so
 --     HostGreatestSo       the bytes of the answer are those of w, c and rounds, and the words of h have the property of the GCD
 -- Assumes nothing.
-use Rattle.std.specs.Prelude.{◌≡◌, List, [], ◌∷◌, ℕ, suc, ◌+◌, ◌<◌, max, length, take}
+use Rattle.std.specs.Prelude.{◌≡◌, List, [], ◌∷◌, ℕ, suc, ◌+◌, ◌<◌, max, length, take, Ok}
 use Rattle.algebra.specs.OneMinusT.{⟨1-t⟩^}
 use Rattle.algebra.specs.PrimeField.{PrimeField}
 use Rattle.refusal.specs.Refusal.{Reply, reply}
-use Rattle.refusal.specs.declared.Outcome.TheVariants.{Done}
 use Rattle.lists.specs.Bytes.{words_of, bytes_of}
 use Rattle.lists.specs.Degrees.{naive_degree, significant, extent}
 use Rattle.lists.specs.Lists.{Coefficients, meaning}
@@ -44,7 +43,7 @@ module _ (F : PrimeField) where
     pub only : (a' b' : List ℕ) → Meet f g h w a' b' → (a' ≡ a) × (b' ≡ b)
 
   abbrev pub CofactorsOf : (f g slice a b : List ℕ) → Reply → Type 0
-  CofactorsOf f g slice a b r = (w c rounds : ℕ) → r ≡ reply Done (w ∷ c ∷ rounds ∷ []) → Fixed f g (take (suc w) slice) w a b
+  CofactorsOf f g slice a b r = (w c rounds : ℕ) → r ≡ reply (Ok tt) (w ∷ c ∷ rounds ∷ []) → Fixed f g (take (suc w) slice) w a b
 
   -- n is the number that a host is answered
   abbrev pub HostDivisionSo : (g f q r : List ℕ) → ℕ → Type 0

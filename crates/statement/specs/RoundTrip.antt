@@ -7,10 +7,9 @@
 --     written-then-read     what `write_album` writes is read back
 --     read-then-written     an album that the reader accepts is written again, byte for byte
 -- Assumes nothing.
-use Rattle.std.specs.Prelude.{◌≡◌, List, [], ◌∷◌, map, ℕ, ◌<◌, length, get_or}
+use Rattle.std.specs.Prelude.{◌≡◌, List, [], ◌∷◌, map, ℕ, ◌<◌, length, get_or, Ok}
 use Rattle.refusal.specs.Limits.{max_words}
 use Rattle.refusal.specs.Refusal.{reply}
-use Rattle.refusal.specs.declared.Outcome.TheVariants.{Done}
 use Rattle.lists.specs.Degrees.{naive_degree}
 use Rattle.lists.specs.Padded.{padded}
 use Rattle.album_layout.specs.Layout.{count, lists_of}
@@ -22,12 +21,12 @@ use Rattle.album_writer.specs.Calls.{over_front, write_answer, write_written}
 pub record ReadBack (words degrees s : List ℕ) (size : ℕ) : Type 0 where
   pub lists : lists_of s ≡ cut_by degrees words
   pub number : count s ≡ length degrees
-  pub checked : (i : ℕ) → i < length degrees → check_answer 0 s i ≡ reply Done []
-  pub degree : (i : ℕ) → i < length degrees → (out : List ℕ) → length out ≡ max_words → read_answer 0 s i out ≡ reply Done (get_or degrees i 0 ∷ [])
+  pub checked : (i : ℕ) → i < length degrees → check_answer 0 s i ≡ reply (Ok tt) []
+  pub degree : (i : ℕ) → i < length degrees → (out : List ℕ) → length out ≡ max_words → read_answer 0 s i out ≡ reply (Ok tt) (get_or degrees i 0 ∷ [])
   pub read : (i : ℕ) → i < length degrees → (out : List ℕ) → length out ≡ max_words
       → read_written 0 s i out ≡ padded max_words (get_or (cut_by degrees words) i [])
   pub whole : length s ≡ size
 
 pub record WrittenAgain (s out : List ℕ) : Type 0 where
-  pub answer : write_answer 0 (joined (lists_of s)) (map naive_degree (lists_of s)) out ≡ reply Done (length s ∷ [])
+  pub answer : write_answer 0 (joined (lists_of s)) (map naive_degree (lists_of s)) out ≡ reply (Ok tt) (length s ∷ [])
   pub bytes : write_written 0 (joined (lists_of s)) (map naive_degree (lists_of s)) out ≡ over_front s out

@@ -13,8 +13,7 @@ use Prim.Native.Nat.{ℕ}
 use native.Mathlib.Omega.{arith}
 use lib.ListN.{length, set}
 use borrow.Author.Tests.{eq-eqb, ne_eqb}
-use Rattle.refusal.specs.Refusal.{outcome_number, Reply, outcome_reply}
-use Rattle.refusal.specs.declared.Outcome.{Outcome}
+use Rattle.refusal.specs.Refusal.{outcome_number, Reply, outcome_reply, Outcome}
 use Rattle.refusal.proofs.Answers.{number_is}
 use Rattle.test_calls.specs.Lent.{fitted}
 

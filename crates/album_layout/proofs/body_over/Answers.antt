@@ -3,14 +3,14 @@
 use mathlib.Core.Path.{◌≡◌, refl, sym, ◌∙◌, ap}
 use native.Mathlib.Omega.{arith}
 use lib.ListN.{length}
+use Rattle.std.specs.Prelude.{Ok, Err}
 use Rattle.album_layout.proofs.Judged.{call-fine}
 use Rattle.album_layout.proofs.Bodies.{body-some, body-done, body_refused}
 use Prim.Native.Nat.{ℕ, ◌+◌}
 use Rattle.refusal.specs.declared.Refusal.{Refusal}
-use Rattle.refusal.specs.declared.Outcome.TheVariants.{Done, Refused}
 use Rattle.album_layout.proofs.body_over.Goals as goal
 
-refused-not : {why : Refusal} → Refused why ≡ Done → ⊥
+refused-not : {why : Refusal} → Err why ≡ Ok tt → ⊥
 refused-not e = let z : ◌≡◌ {A = ℕ} 0 1 = cc in omega arith
 
 pub returns-in-Done : goal.returns-in-Done

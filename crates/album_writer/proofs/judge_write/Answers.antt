@@ -8,11 +8,11 @@ use native.Mathlib.Omega.{arith}
 use lib.Dec.{eqb, ltb}
 use lib.ListN.{length}
 use borrow.Author.Tests.{eq-eqb, ne_eqb, lt-ltb, le-ltb}
+use Rattle.refusal.specs.Refusal.{Outcome}
+use Rattle.std.specs.Prelude.{Ok}
 use Rattle.refusal.specs.Limits.{max_degree, max_bytes}
 use Rattle.refusal.specs.Lowest.{lowest}
 use Rattle.refusal.specs.declared.Refusal.TheVariants.{Length, LooseWord, Misfit}
-use Rattle.refusal.specs.declared.Outcome.{Outcome}
-use Rattle.refusal.specs.declared.Outcome.TheVariants.{Done}
 use Rattle.refusal.proofs.First.{refuse}
 use Rattle.field.specs.Fields.{modulus}
 use Rattle.lists.specs.Refused.{has_loose}
@@ -23,7 +23,7 @@ use Rattle.album_writer.proofs.judge_write.Goals as goal
 
 -- what the last two tests refuse
 abbrev later : (field : ℕ) → (words out : List ℕ) → Outcome
-later field words out = refuse (has_loose (modulus field) words) LooseWord (refuse (ltb (length out) max_bytes) Misfit Done)
+later field words out = refuse (has_loose (modulus field) words) LooseWord (refuse (ltb (length out) max_bytes) Misfit (Ok tt))
 
 -- number and degrees are right
 degreed :

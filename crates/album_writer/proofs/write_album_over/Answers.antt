@@ -5,9 +5,9 @@ use mathlib.Core.List.{List, [], ◌∷◌, ◌++◌}
 use Prim.Native.Nat.{ℕ, ◌*◌, ◌≤◌}
 use native.Mathlib.Omega.{arith}
 use lib.ListN.{length, drop, length-take}
+use Rattle.std.specs.Prelude.{Ok}
 use Rattle.refusal.specs.Limits.{max_lists, max_words}
 use Rattle.refusal.specs.Refusal.{reply}
-use Rattle.refusal.specs.declared.Outcome.TheVariants.{Done}
 use Rattle.refusal.proofs.Answers.{result, kept}
 use Rattle.field.specs.Fields.{modulus}
 use Rattle.album_layout.specs.Written.{album_of}
@@ -66,7 +66,7 @@ returns-in-Done c =
     let is = album-is args.degrees.now args.words.now t.size in
     let size = sym (length-album_by args.words.now args.degrees.now) ∙ ap length is in
     record {
-      answer = ap (λ n. reply Done (n ∷ [])) size ∙ sym (ap (λ o. reply o (length album ∷ [])) found);
+      answer = ap (λ n. reply (Ok tt) (n ∷ [])) size ∙ sym (ap (λ o. reply o (length album ∷ [])) found);
       writes = result (over_front album args.out.now) args.out.now found (ap₂ (λ l n. l ++ drop n args.out.now) (c.write_parts.ensures ∙ is) size);
     }
 

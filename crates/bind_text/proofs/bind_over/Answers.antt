@@ -5,8 +5,8 @@ use mathlib.Core.Path.{◌≡◌, sym, ◌∙◌}
 use Prim.Native.Nat.{◌≤◌}
 use native.Mathlib.Omega.{arith}
 use lib.Seq.{length-take-le}
+use Rattle.std.specs.Prelude.{Ok}
 use Rattle.refusal.specs.Lowest.{lowest}
-use Rattle.refusal.specs.declared.Outcome.TheVariants.{Done}
 use Rattle.field.specs.Fields.{modulus}
 use Rattle.field.proofs.Fields.{modulus-high}
 use Rattle.bind_text.specs.Calls.{text_refusals}
@@ -23,7 +23,7 @@ returns-in-Refused c =
 
 pub read_lines-n-requires : goal.read_lines-n-requires
 read_lines-n-requires c =
-    let fine : lowest (text_refusals c.args.text.now) ≡ Done = sym c.judge_text.ensures ∙ c.in_default.is in
+    let fine : lowest (text_refusals c.args.text.now) ≡ Ok tt = sym c.judge_text.ensures ∙ c.in_default.is in
     record { sound = text-sound _ fine; words_len = (search rules, search rules) }
 
 pub slice_bounds-words-end : goal.slice_bounds-words-end
@@ -42,7 +42,7 @@ slice_bounds-write_album_over-end-2 c =
 
 pub returns : goal.returns
 returns c =
-    let fine : lowest (text_refusals c.args.text.now) ≡ Done = sym c.judge_text.ensures ∙ c.in_default.is in
+    let fine : lowest (text_refusals c.args.text.now) ≡ Ok tt = sym c.judge_text.ensures ∙ c.in_default.is in
     let args = c.args in
     let small : modulus args.field ≤ 65535 = omega (arith, modulus-high args.field) in
     let loaded = c.read_lines-n.ensures in

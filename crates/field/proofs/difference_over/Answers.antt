@@ -3,8 +3,8 @@
 use mathlib.Core.Path.{ap, sym, ◌∙◌}
 use mathlib.Core.List.{[], ◌∷◌}
 use Prim.Native.Nat.{ℕ}
+use Rattle.std.specs.Prelude.{Ok}
 use Rattle.refusal.specs.Refusal.{reply}
-use Rattle.refusal.specs.declared.Outcome.TheVariants.{Done}
 use Rattle.field.specs.Fields.{modulus}
 use Rattle.field.proofs.Answers.{reduced}
 use Rattle.field.proofs.difference_over.Goals as goal
@@ -13,4 +13,4 @@ pub returns-in-Refused : goal.returns-in-Refused
 returns-in-Refused c = record { answer = rw (sym c.judge_operands.ensures ∙ c.in-Refused.is) }
 
 pub returns : goal.returns
-returns c = let found = sym c.judge_operands.ensures ∙ c.in_default.is in record { answer = rw found (ap (λ (x : ℕ). reply Done (x ∷ [])) (c.sub.ensures ∙ reduced (modulus c.args.field) c.args.a c.args.b found)) }
+returns c = let found = sym c.judge_operands.ensures ∙ c.in_default.is in record { answer = rw found (ap (λ (x : ℕ). reply (Ok tt) (x ∷ [])) (c.sub.ensures ∙ reduced (modulus c.args.field) c.args.a c.args.b found)) }

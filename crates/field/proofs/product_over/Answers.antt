@@ -3,12 +3,12 @@
 use mathlib.Core.Path.{ap, sym, ◌∙◌}
 use mathlib.Core.List.{[], ◌∷◌}
 use Prim.Native.Nat.{ℕ}
+use Rattle.std.specs.Prelude.{Ok}
 use Rattle.refusal.specs.Refusal.{reply}
-use Rattle.refusal.specs.declared.Outcome.TheVariants.{Done}
 use Rattle.field.proofs.product_over.Goals as goal
 
 pub returns-in-Refused : goal.returns-in-Refused
 returns-in-Refused c = record { answer = rw (sym c.judge_operands.ensures ∙ c.in-Refused.is) }
 
 pub returns : goal.returns
-returns c = let found = sym c.judge_operands.ensures ∙ c.in_default.is in record { answer = rw found (ap (λ (x : ℕ). reply Done (x ∷ [])) c.mul.ensures) }
+returns c = let found = sym c.judge_operands.ensures ∙ c.in_default.is in record { answer = rw found (ap (λ (x : ℕ). reply (Ok tt) (x ∷ [])) c.mul.ensures) }

@@ -5,8 +5,8 @@
 use mathlib.Core.Path.{◌≡◌, sym, ◌∙◌, ap}
 use native.Mathlib.Omega.{arith}
 use lib.ListN.{length-take}
+use Rattle.std.specs.Prelude.{Ok}
 use Rattle.refusal.specs.Lowest.{lowest}
-use Rattle.refusal.specs.declared.Outcome.TheVariants.{Done}
 use Rattle.album_layout.specs.Internal.{layout_refusals}
 use Rattle.lines.specs.Lines.{line_refusals, judged_outcome}
 use Rattle.line_values.proofs.Judging.{judged-layout, judged-line, judged-index, judged-album, judged-misfit, judged-done, read_found, lacks-found}
@@ -21,7 +21,7 @@ returns-in-Refused c = record { result_value = judged-layout _ _ _ _ _ (sym c.ju
 -- the line is refused
 pub returns-in_default-read : goal.returns-in_default-read
 returns-in_default-read c =
-    let laid : lowest (layout_refusals c.args.album.now) ≡ Done = sym c.judge_layout.ensures ∙ c.in_default.is in
+    let laid : lowest (layout_refusals c.args.album.now) ≡ Ok tt = sym c.judge_layout.ensures ∙ c.in_default.is in
     let e = c.in_default-read.is in
     let found = read_found c.args.line.now c.args.code.now c.requires (rw e at c.read_line-read.ensures.refusal) in
     result_value_and_program_of (rw e (judged-line _ _ _ _ _ laid (sym found), tt))
@@ -39,8 +39,8 @@ slice_bounds-lacks_list-end-2 c =
 pub returns-then-lacks_list : goal.returns-then-lacks_list
 returns-then-lacks_list c =
     let program = rw c.in-Program.is at c.read_line-read.ensures.program in
-    let laid : lowest (layout_refusals c.args.album.now) ≡ Done = sym c.judge_layout.ensures ∙ c.in_default.is in
-    let fine : lowest (line_refusals c.args.line.now) ≡ Done =
+    let laid : lowest (layout_refusals c.args.album.now) ≡ Ok tt = sym c.judge_layout.ensures ∙ c.in_default.is in
+    let fine : lowest (line_refusals c.args.line.now) ≡ Ok tt =
     sym (read_found c.args.line.now c.args.code.now c.requires c.read_line-read.ensures.refusal) ∙ ap judged_outcome c.in-Program.is in
     let has = lacks-found c.args.album.now c.args.line.now _ program c.byte_at.ensures.0 c.lacks_list.ensures c.if-lacks_list.true in
     record { result_value = judged-index _ _ _ _ _ laid fine has; program_of = tt }
@@ -48,8 +48,8 @@ returns-then-lacks_list c =
 pub returns-in-Refused-judge_album : goal.returns-in-Refused-judge_album
 returns-in-Refused-judge_album c =
     let program = rw c.in-Program.is at c.read_line-read.ensures.program in
-    let laid : lowest (layout_refusals c.args.album.now) ≡ Done = sym c.judge_layout.ensures ∙ c.in_default.is in
-    let fine : lowest (line_refusals c.args.line.now) ≡ Done =
+    let laid : lowest (layout_refusals c.args.album.now) ≡ Ok tt = sym c.judge_layout.ensures ∙ c.in_default.is in
+    let fine : lowest (line_refusals c.args.line.now) ≡ Ok tt =
     sym (read_found c.args.line.now c.args.code.now c.requires c.read_line-read.ensures.refusal) ∙ ap judged_outcome c.in-Program.is in
     let refused = sym c.judge_album.ensures ∙ c.in-Refused-judge_album.is in
     let has = lacks-found c.args.album.now c.args.line.now _ program c.byte_at.ensures.0 c.lacks_list.ensures c.if-lacks_list.false in
@@ -58,8 +58,8 @@ returns-in-Refused-judge_album c =
 pub returns-then-out-longest_of : goal.returns-then-out-longest_of
 returns-then-out-longest_of c =
     let program = rw c.in-Program.is at c.read_line-read.ensures.program in
-    let laid : lowest (layout_refusals c.args.album.now) ≡ Done = sym c.judge_layout.ensures ∙ c.in_default.is in
-    let fine : lowest (line_refusals c.args.line.now) ≡ Done =
+    let laid : lowest (layout_refusals c.args.album.now) ≡ Ok tt = sym c.judge_layout.ensures ∙ c.in_default.is in
+    let fine : lowest (line_refusals c.args.line.now) ≡ Ok tt =
     sym (read_found c.args.line.now c.args.code.now c.requires c.read_line-read.ensures.refusal) ∙ ap judged_outcome c.in-Program.is in
     let passed = sym c.judge_album.ensures ∙ c.in_default-judge_album.is in
     let has = lacks-found c.args.album.now c.args.line.now _ program c.byte_at.ensures.0 c.lacks_list.ensures c.if-lacks_list.false in
@@ -68,8 +68,8 @@ returns-then-out-longest_of c =
 pub returns : goal.returns
 returns c =
     let program = rw c.in-Program.is at c.read_line-read.ensures.program in
-    let laid : lowest (layout_refusals c.args.album.now) ≡ Done = sym c.judge_layout.ensures ∙ c.in_default.is in
-    let fine : lowest (line_refusals c.args.line.now) ≡ Done =
+    let laid : lowest (layout_refusals c.args.album.now) ≡ Ok tt = sym c.judge_layout.ensures ∙ c.in_default.is in
+    let fine : lowest (line_refusals c.args.line.now) ≡ Ok tt =
     sym (read_found c.args.line.now c.args.code.now c.requires c.read_line-read.ensures.refusal) ∙ ap judged_outcome c.in-Program.is in
     let passed = sym c.judge_album.ensures ∙ c.in_default-judge_album.is in
     let has = lacks-found c.args.album.now c.args.line.now _ program c.byte_at.ensures.0 c.lacks_list.ensures c.if-lacks_list.false in

@@ -3,9 +3,9 @@
 use mathlib.Core.List.{List}
 use mathlib.Core.Path.{◌≡◌, sym, ◌∙◌}
 use Prim.Native.Nat.{ℕ}
+use Rattle.std.specs.Prelude.{Ok}
 use Rattle.field.specs.Fields.{modulus, field_at, longest}
 use Rattle.field.proofs.Fields.{longest-in}
-use Rattle.refusal.specs.declared.Outcome.TheVariants.{Done}
 use Rattle.refusal.specs.Lowest.{lowest}
 use Rattle.euclid_theory.specs.Gcd.{cofactor_a, cofactor_b}
 use Rattle.list_gcd.specs.Internal.{Ready}
@@ -20,7 +20,7 @@ use Rattle.list_cofactors.proofs.cofactors_over.Goals as goal
 ready_and_slices : {A B : Type 0} → A × B → record { ready : A; slices : B }
 ready_and_slices (a, b) = record { ready = a; slices = b }
 
-found-ready : (k : ℕ) (f g h a b : List ℕ) → lowest (cofactor_rows (modulus k) (longest k) f g h a b) ≡ Done
+found-ready : (k : ℕ) (f g h a b : List ℕ) → lowest (cofactor_rows (modulus k) (longest k) f g h a b) ≡ Ok tt
     → Ready (field_at k) (longest k) f g × Slices (longest k) f g h a b
 unfolding field_at
 found-ready k f g h a b e = cofactors-ready (field_at k) (longest k) (longest-in k) f g h a b e

@@ -3,17 +3,17 @@
 use mathlib.Core.Path.{◌≡◌, sym, ◌∙◌}
 use mathlib.Core.List.{List}
 use Prim.Native.Nat.{ℕ}
+use Rattle.std.specs.Prelude.{Ok}
 use Rattle.field.specs.Fields.{modulus, field_at, longest}
 use Rattle.field.proofs.Fields.{longest-in}
 use Rattle.refusal.specs.Lowest.{lowest}
-use Rattle.refusal.specs.declared.Outcome.TheVariants.{Done}
 use Rattle.list_division.specs.Calls.{divide_rows}
 use Rattle.list_division.specs.Internal.{DivideFits}
 use Rattle.list_division.proofs.Judged.{divide-fits}
 use Rattle.list_division.proofs.Answers.{done, refused}
 use Rattle.list_division.proofs.divide_over.Goals as goal
 
-found-fits : (k : ℕ) (g f q r : List ℕ) → Done ≡ lowest (divide_rows (modulus k) (longest k) g f q r) → DivideFits (field_at k) (longest k) g f q r
+found-fits : (k : ℕ) (g f q r : List ℕ) → Ok tt ≡ lowest (divide_rows (modulus k) (longest k) g f q r) → DivideFits (field_at k) (longest k) g f q r
 unfolding field_at
 found-fits k g f q r e = divide-fits (field_at k) (longest k) (longest-in k) g f q r e
 

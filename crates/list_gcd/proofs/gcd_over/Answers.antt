@@ -4,10 +4,10 @@ use mathlib.Core.Path.{◌≡◌, sym, ◌∙◌}
 use mathlib.Core.List.{List}
 use Prim.Native.Nat.{ℕ}
 use lib.ListN.{length}
+use Rattle.std.specs.Prelude.{Ok}
 use Rattle.field.specs.Fields.{modulus, field_at, longest}
 use Rattle.field.proofs.Fields.{longest-in}
 use Rattle.refusal.specs.Lowest.{lowest}
-use Rattle.refusal.specs.declared.Outcome.TheVariants.{Done}
 use Rattle.list_gcd.specs.Calls.{gcd_rows}
 use Rattle.list_gcd.specs.Internal.{Ready}
 use Rattle.list_gcd.proofs.Ready.{gcd-ready}
@@ -17,7 +17,7 @@ use Rattle.list_gcd.proofs.gcd_over.Goals as goal
 ready_and_h_len : {A B : Type 0} → A × B → record { ready : A; h_len : B }
 ready_and_h_len (a, b) = record { ready = a; h_len = b }
 
-found-ready : (k : ℕ) (f g h : List ℕ) → lowest (gcd_rows (modulus k) (longest k) f g h) ≡ Done → Ready (field_at k) (longest k) f g × (length h ≡ longest k)
+found-ready : (k : ℕ) (f g h : List ℕ) → lowest (gcd_rows (modulus k) (longest k) f g h) ≡ Ok tt → Ready (field_at k) (longest k) f g × (length h ≡ longest k)
 unfolding field_at
 found-ready k f g h e = gcd-ready (field_at k) (longest k) (longest-in k) f g h e
 

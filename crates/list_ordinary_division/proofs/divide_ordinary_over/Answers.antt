@@ -4,11 +4,11 @@ use mathlib.Core.Path.{◌≡◌, sym, ◌∙◌, ap}
 use mathlib.Core.List.{List}
 use Prim.Native.Nat.{ℕ}
 use native.Mathlib.Omega.{arith}
+use Rattle.std.specs.Prelude.{Ok}
 use Rattle.field.specs.Fields.{modulus, field_at, longest}
 use Rattle.field.proofs.Fields.{longest-in}
 use Rattle.refusal.specs.Refusal.{outcome_reply}
 use Rattle.refusal.specs.Lowest.{lowest}
-use Rattle.refusal.specs.declared.Outcome.TheVariants.{Done}
 use Rattle.refusal.proofs.Answers.{result, kept}
 use Rattle.ordinary_theory.proofs.Ordinary.{ordinary-so}
 use Rattle.list_ordinary_division.specs.Calls.{ordinary_rows}
@@ -16,7 +16,7 @@ use Rattle.list_ordinary_division.specs.Internal.{OrdinaryFits}
 use Rattle.list_ordinary_division.proofs.Judged.{ordinary-fits}
 use Rattle.list_ordinary_division.proofs.divide_ordinary_over.Goals as goal
 
-found-fits : (k : ℕ) (g f q r : List ℕ) → Done ≡ lowest (ordinary_rows (modulus k) (longest k) g f q r) → OrdinaryFits (field_at k) (longest k) g f q r
+found-fits : (k : ℕ) (g f q r : List ℕ) → Ok tt ≡ lowest (ordinary_rows (modulus k) (longest k) g f q r) → OrdinaryFits (field_at k) (longest k) g f q r
 unfolding field_at
 found-fits k g f q r e = ordinary-fits (field_at k) (longest k) (longest-in k) g f q r e
 

@@ -3,9 +3,9 @@
 use mathlib.Core.Path.{sym, ap, ◌∙◌}
 use mathlib.Core.List.{[], ◌∷◌}
 use Prim.Native.Nat.{ℕ}
+use Rattle.std.specs.Prelude.{Ok}
 use Rattle.field.proofs.Fields.{modulus-some}
 use Rattle.refusal.specs.Refusal.{reply}
-use Rattle.refusal.specs.declared.Outcome.TheVariants.{Done}
 use Rattle.list_value.proofs.Judged.{evaluate-listed}
 use Rattle.list_value.proofs.evaluate_over.Goals as goal
 
@@ -16,4 +16,4 @@ pub value_at-requires : goal.value_at-requires
 value_at-requires c = evaluate-listed _ _ _ _ (modulus-some _) (sym c.in_default.is ∙ c.judge_evaluate.ensures)
 
 pub returns : goal.returns
-returns c = record { answer = simp (sym c.judge_evaluate.ensures ∙ c.in_default.is) (ap (λ (w : ℕ). reply Done (w ∷ [])) c.value_at.ensures) }
+returns c = record { answer = simp (sym c.judge_evaluate.ensures ∙ c.in_default.is) (ap (λ (w : ℕ). reply (Ok tt) (w ∷ [])) c.value_at.ensures) }

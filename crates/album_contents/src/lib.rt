@@ -8,7 +8,7 @@ ghost use Rattle.field.specs.Fields.{modulus};
 ghost use Rattle.album_contents.specs.Calls.{record_at, contents_rows, contents_answer, contents_written};
 ghost use Rattle.album_contents.specs.Internal.{records_due};
 
-use refusal::{Outcome, Refusal};
+use refusal::Refusal;
 
 // Where a list's body starts in the album, and the list's naive degree.
 #[repr(C)]
@@ -19,7 +19,7 @@ pub struct Entry {
 }
 
 // The records of the album's lists, zeros after the last, in a slice of MAX_LISTS records.
-pub fn contents(album: &[u8], out: &mut [Entry]) -> Outcome
+pub fn contents(album: &[u8], out: &mut [Entry]) -> Result<(), Refusal>
     ensures answer { outcome_reply result ≡ contents_answer 0 album.now out.old }
     ensures writes { out.new ≡ contents_written 0 album.now out.old }
 {
@@ -34,25 +34,23 @@ pub fn contents(album: &[u8], out: &mut [Entry]) -> Outcome
 }
 
 // What a call over a field refuses that is lent n records.
-fn judge_contents(field: u8, album: &[u8], n: usize) -> Outcome
+fn judge_contents(field: u8, album: &[u8], n: usize) -> Result<(), Refusal>
     ensures { result ≡ lowest (contents_rows (modulus field) album.now n) }
 {
-    if let Outcome::Refused(why) = album_layout::judge_album(field, album) {
-        return Outcome::Refused(why);
-    }
+    album_layout::judge_album(field, album)?;
     if n != refusal::MAX_LISTS {
-        return Outcome::Refused(Refusal::Misfit);
+        return Err(Refusal::Misfit);
     }
-    Outcome::Done
+    Ok(())
 }
 
 // How many records a call with this answer writes: a refused call none.
-fn records_due(answer: Outcome) -> usize
+fn records_due(answer: Result<(), Refusal>) -> usize
     ensures { result ≡ records_due answer }
 {
     match answer {
-        Outcome::Done => refusal::MAX_LISTS,
-        Outcome::Refused(_) => 0,
+        Ok(()) => refusal::MAX_LISTS,
+        Err(_) => 0,
     }
 }
 

@@ -22,7 +22,6 @@ use Rattle.album_theory.specs.Albums.{album_gcd}
 use Rattle.album_theory.proofs.Albums.{coefficients-none}
 use Rattle.album_theory.proofs.Greatest.{album-length, album-ends, album-is-greatest}
 use Rattle.album_layout.specs.Layout.{lists_of}
-use Rattle.list_gcd.specs.declared.Gcd.TheVariants as G
 use Rattle.list_gcd.specs.Calls.{gcd_reply}
 use Rattle.album_gcd.specs.Calls.{album_gcd_rows, album_gcd_values, AlbumGreatestSo}
 use Rattle.album_gcd.specs.Internal.{zero_start, fold_gcd, Folded, Answered}
@@ -30,7 +29,7 @@ use Rattle.album_gcd.proofs.Folds.{fold-album}
 use Rattle.album_gcd.proofs.Zeros.{Nonzero}
 
 pub refused : (F : PrimeField) (most : ℕ) (s h : List ℕ) {why : Refusal} → lowest (album_gcd_rows F.p most s h) ≡ Err why
-    → Answered F most s h h (G.Refused why)
+    → Answered F most s h h (Err why)
 refused F most s h e =
     record {
       answer = sym (ap (λ o. reply o (album_gcd_values F (lists_of s))) e);
@@ -74,7 +73,7 @@ module _ (F : PrimeField) (most : ℕ) (big : most ≤ F.p) (lists : List (List 
     unfolding naive_degree
     degree = ap (λ m. m - 1) (f.held.words ∙ ap (λ r. length r.list) (sym whole))
 
-    answer : gcd_reply (G.Done (record { 0 = n - 1 }) (record { 0 = c }) (record { 0 = k }))
+    answer : gcd_reply (Ok (record { degree = record { 0 = n - 1 }; power = record { 0 = c }; rounds = record { 0 = k } }))
         ≡ record { number = 0; values = album_gcd_values F lists }
     unfolding album_gcd_values
     answer =
@@ -85,7 +84,7 @@ module _ (F : PrimeField) (most : ℕ) (big : most ≤ F.p) (lists : List (List 
 module _ (F : PrimeField) (most : ℕ) (big : most ≤ F.p) (s h : List ℕ)
     (listed : (i : ℕ) → i < length (lists_of s) → IsList F.p most (get_or (lists_of s) i [])) (one : Nonzero (lists_of s)) where
   pub answered : {x : List ℕ} {n k c : ℕ} → Ok tt ≡ lowest (album_gcd_rows F.p most s h) → Folded F most (lists_of s) x n k c
-      → c ≡ common_power (lists_of s) → Answered F most s h x (G.Done (record { 0 = n - 1 }) (record { 0 = c }) (record { 0 = k }))
+      → c ≡ common_power (lists_of s) → Answered F most s h x (Ok (record { degree = record { 0 = n - 1 }; power = record { 0 = c }; rounds = record { 0 = k } }))
   answered {x} {n} {k} {c} e f ec =
       let a = answer F most big (lists_of s) listed one f ec in
       let b = slice F most big (lists_of s) listed one f ec in

@@ -8,7 +8,7 @@ use native.Mathlib.Omega.{arith}
 use lib.Dec.{eqb}
 use lib.ListN.{get_or, length}
 use borrow.Author.Tests.{eq-eqb, ne_eqb, le-ltb, lt-leb}
-use Rattle.std.specs.Prelude.{Ok}
+use Rattle.std.specs.Prelude.{Ok, Err}
 use Rattle.algebra.specs.PrimeField.{PrimeField}
 use Rattle.refusal.specs.Refusal.{reply, written}
 use Rattle.refusal.specs.Lowest.{lowest}
@@ -23,7 +23,6 @@ use Rattle.lists.proofs.Judged.{judged}
 use Rattle.euclid_theory.specs.Gcd.{gcd_of, rounds_of}
 use Rattle.lists.specs.Padded.{padded}
 use Rattle.euclid_theory.proofs.Gcd.{gcd-rounds}
-use Rattle.list_gcd.specs.declared.Gcd.TheVariants as G
 use Rattle.list_gcd.specs.declared.Rounds.{Rounds}
 use Rattle.list_gcd.specs.Calls.{gcd_reply, gcd_values, gcd_rows}
 use Rattle.list_gcd.proofs.Ready.{judged-done}
@@ -75,12 +74,12 @@ module _ (F : PrimeField) (most : ℕ) (big : most ≤ F.p) where
       pass : lowest (gcd_rows F.p most f c x) ≡ Ok tt
       pass = gcd-pass F.p most f c h.listed lc x some (held-length h)
 
-      pub join-never : (why : Refusal) → gcd_reply (G.Refused why) ≡ reply (lowest (gcd_rows F.p most f c x)) (gcd_values F f c) → ⊥
+      pub join-never : (why : Refusal) → gcd_reply (Err why) ≡ reply (lowest (gcd_rows F.p most f c x)) (gcd_values F f c) → ⊥
       unfolding gcd_values
       join-never why e = let z = ap (λ z. length z.values) (e ∙ ap (λ o. reply o (gcd_values F f c)) pass) in omega arith
 
       module _ (w : NaiveDegree) (c' : Power) (k : Rounds)
-          (e : gcd_reply (G.Done w c' k) ≡ reply (lowest (gcd_rows F.p most f c x)) (gcd_values F f c)) where
+          (e : gcd_reply (Ok (record { degree = w; power = c'; rounds = k })) ≡ reply (lowest (gcd_rows F.p most f c x)) (gcd_values F f c)) where
         value : (i : ℕ) → get_or (w.0 ∷ c'.0 ∷ k.0 ∷ []) i 0 ≡ get_or (gcd_values F f c) i 0
         value i = ap (λ z. get_or z.values i 0) (e ∙ ap (λ o. reply o (gcd_values F f c)) pass)
 

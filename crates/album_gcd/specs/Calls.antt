@@ -8,7 +8,8 @@
 --     AlbumGreatestSo         (1-t)^c·h divides the polynomial of each list, and every polynomial over the field, of any degree, that divides
 --                           them all divides it, h being the first w + 1 words of the slice; the slice holds 1 at w and 0 after it
 -- Assumes nothing.
-use Rattle.std.specs.Prelude.{◌≡◌, Bool, true, not, ◌&&◌, List, [], ◌∷◌, ◌++◌, ℕ, suc, ◌<◌, eqb, get_or, length, take}
+use Rattle.refusal.specs.declared.Refusal.{Refusal}
+use Rattle.std.specs.Prelude.{◌≡◌, Bool, true, not, ◌&&◌, List, [], ◌∷◌, ◌++◌, ℕ, suc, ◌<◌, eqb, get_or, length, take, Ok, Err, Result}
 use Rattle.algebra.specs.OneMinusT.{⟨1-t⟩^}
 use Rattle.algebra.specs.PrimeField.{PrimeField}
 use Rattle.refusal.specs.Refusal.{Reply, reply, written}
@@ -24,7 +25,6 @@ use Rattle.album_theory.specs.Greatest.{IsGreatestOf}
 use Rattle.album_layout.specs.Layout.{lists_of}
 use Rattle.album_layout.specs.Calls.{album_refusals}
 use Rattle.list_gcd.specs.declared.Gcd.{Gcd}
-use Rattle.list_gcd.specs.declared.Gcd.TheVariants.{Done, Refused}
 
 unfoldable pub all_zero : List (List ℕ) → Bool
 all_zero [] = true
@@ -53,6 +53,6 @@ pub record AlbumGreatestSo (F : PrimeField) (lists : List (List ℕ)) (slice : L
   pub greatest : IsGreatestOf F lists (F.series.ring.mul (⟨1-t⟩^ F.series c) (meaning F (take (suc w) slice)))
 
 -- of an answer that is no refusal
-abbrev pub AlbumGreatest : PrimeField → List (List ℕ) → List ℕ → Gcd → Type 0
-AlbumGreatest F lists slice (Done w c rounds) = AlbumGreatestSo F lists slice w.0 c.0
-AlbumGreatest F lists slice (Refused why) = Unit {0}
+abbrev pub AlbumGreatest : PrimeField → List (List ℕ) → List ℕ → Result Gcd Refusal → Type 0
+AlbumGreatest F lists slice (Ok gcd) = AlbumGreatestSo F lists slice gcd.degree.0 gcd.power.0
+AlbumGreatest F lists slice (Err why) = Unit {0}

@@ -9,7 +9,8 @@
 --     Answered       what the call answers, leaves in the slice of h and promises
 -- Theorem: fold-album, where not every list is zero, fold_gcd from zero_start is the GCD of the album.
 -- Assumes nothing.
-use Rattle.std.specs.Prelude.{◌≡◌, true, false, cond, List, [], ◌∷◌, ℕ, min, ◌+◌, ◌≤◌, eqb}
+use Rattle.refusal.specs.declared.Refusal.{Refusal}
+use Rattle.std.specs.Prelude.{◌≡◌, true, false, cond, List, [], ◌∷◌, ℕ, min, ◌+◌, ◌≤◌, eqb, Result}
 use Rattle.algebra.specs.PrimeField.{PrimeField}
 use Rattle.refusal.specs.Refusal.{reply, written}
 use Rattle.refusal.specs.Lowest.{lowest}
@@ -51,7 +52,7 @@ module _ (F : PrimeField) (most : ℕ) where
     pub none : a ≡ most → all_zero lists ≡ true
     pub some : ¬ (a ≡ most) → (all_zero lists ≡ false) × (a ≡ common_power lists)
 
-  pub record Answered (s h h' : List ℕ) (r : Gcd) : Type 0 where
+  pub record Answered (s h h' : List ℕ) (r : Result Gcd Refusal) : Type 0 where
     pub answer : gcd_reply r ≡ reply (lowest (album_gcd_rows F.p most s h)) (album_gcd_values F (lists_of s))
     pub writes : h' ≡ written (lowest (album_gcd_rows F.p most s h)) (padded most (album_gcd F (lists_of s)).list) h
     pub greatest : AlbumGreatest F (lists_of s) h' r

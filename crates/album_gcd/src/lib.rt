@@ -14,22 +14,20 @@ ghost use Rattle.album_gcd.specs.Internal.{Joined, Folded, Answered};
 
 use list_gcd::{Gcd, Rounds};
 use lists::{NaiveDegree, Power};
-use refusal::{Outcome, Refusal};
+use refusal::Refusal;
 
 // The GCD of the album's lists: h goes to a slice of as many words as the longest list has, zeros after word w.
-pub fn album_gcd_over(field: u8, album: &[u8], h: &mut [u16]) -> Gcd
+pub fn album_gcd_over(field: u8, album: &[u8], h: &mut [u16]) -> Result<Gcd, Refusal>
     ensures answer { gcd_reply result ≡ album_gcd_answer field album.now h.old }
     ensures writes { h.new ≡ album_gcd_written field album.now h.old }
     ensures greatest { AlbumGreatest (field_at field) (lists_of album.now) h.new result }
 {
-    match album_layout::judge_album(field, album) {
-        Outcome::Refused(why) => Gcd::Refused(why),
-        Outcome::Done => gcd_into(field, album, h),
-    }
+    album_layout::judge_album(field, album)?;
+    gcd_into(field, album, h)
 }
 
 // The GCD of an album that passed: it lends arrays of zeros.
-fn gcd_into(field: u8, album: &[u8], h: &mut [u16]) -> Gcd
+fn gcd_into(field: u8, album: &[u8], h: &mut [u16]) -> Result<Gcd, Refusal>
     requires { Passed (modulus field) album.now }
     ensures { Answered (field_at field) (longest field) album.now h.old h.new result }
 {
@@ -47,7 +45,7 @@ fn gcd_between(
     last: &mut [u16],
     res: &mut [u16],
     h: &mut [u16],
-) -> Gcd
+) -> Result<Gcd, Refusal>
     requires passed { Passed (modulus field) album.now }
     requires list_len { (length list.old ≡ max_words) × (length last.old ≡ max_words) × (length res.old ≡ max_words) }
     requires by_index { (k : ℕ) → get_or res.old k 0 ≡ 0 }
@@ -73,7 +71,7 @@ fn gcd_in(
     last: &mut [u16],
     res: &mut [u16],
     h: &mut [u16],
-) -> Gcd
+) -> Result<Gcd, Refusal>
     requires passed { Passed (modulus field) album.now }
     requires list_len { (length list.old ≡ longest field) × (length last.old ≡ longest field)
         × (length res.old ≡ longest field) }
@@ -83,13 +81,13 @@ fn gcd_in(
     let n = field::longest_of(field);
     let found = join_lists(field, album, list, last, res);
     if found.least == n {
-        return Gcd::Refused(Refusal::AllZero);
+        return Err(Refusal::AllZero);
     }
     if h.len() != n {
-        return Gcd::Refused(Refusal::Misfit);
+        return Err(Refusal::Misfit);
     }
     words::copy(res, h);
-    Gcd::Done(
+    Ok(
         NaiveDegree(found.words - 1),
         Power(found.least),
         Rounds(found.rounds),
@@ -160,12 +158,12 @@ fn join_list(
     let power = lists::power_in(list);
     words::copy(res, last);
     match list_gcd::gcd_over(field, &last[..used], list, res) {
-        Gcd::Done(w, _, more) => SoFar {
+        Ok(w, _, more) => SoFar {
             words: w.0 + 1,
             rounds: rounds + more.0,
             least: words::smaller(least, power.0),
         },
-        Gcd::Refused(_) => SoFar {
+        Err(_) => SoFar {
             words: used,
             rounds,
             least,

@@ -1,49 +1,44 @@
 // The layout of an album: what a call on it refuses, and a list's bytes as a part of the album itself.
 #![tactic(auto)]
 
-ghost use Rattle.std.specs.Prelude.{◌≡◌, ◌<◌, length};
+ghost use Rattle.std.specs.Prelude.{Ok, ◌≡◌, ◌<◌, length};
 ghost use Rattle.refusal.specs.Refusal.{outcome_reply};
 ghost use Rattle.refusal.specs.Lowest.{lowest};
-ghost use Rattle.refusal.specs.declared.Outcome.TheVariants.{Done};
 ghost use Rattle.field.specs.Fields.{modulus};
 ghost use Rattle.lists.specs.Refused.{has_loose, any_of};
 ghost use Rattle.album_layout.specs.Layout.{lists_of};
 ghost use Rattle.album_layout.specs.Calls.{album_refusals, check_refusals, check_answer, body_of, body_place, PartFrom};
 ghost use Rattle.album_layout.specs.Internal.{layout_refusals, Obeys, body_at, place_at};
 
-use refusal::{Outcome, Refusal};
+use refusal::Refusal;
 
 // What every call on the album refuses.
-pub fn judge_album(field: u8, album: &[u8]) -> Outcome
+pub fn judge_album(field: u8, album: &[u8]) -> Result<(), Refusal>
     ensures { result ≡ lowest (album_refusals (modulus field) album.now) }
 {
-    if let Outcome::Refused(why) = judge_layout(album) {
-        return Outcome::Refused(why);
-    }
+    judge_layout(album)?;
     if has_loose_word(field, album) {
-        return Outcome::Refused(Refusal::LooseWord);
+        return Err(Refusal::LooseWord);
     }
-    Outcome::Done
+    Ok(())
 }
 
 // What a call on list i refuses.
-pub fn judge_call(field: u8, album: &[u8], i: usize) -> Outcome
+pub fn judge_call(field: u8, album: &[u8], i: usize) -> Result<(), Refusal>
     ensures { result ≡ lowest (check_refusals (modulus field) album.now i) }
 {
-    if let Outcome::Refused(why) = judge_layout(album) {
-        return Outcome::Refused(why);
-    }
+    judge_layout(album)?;
     if words::byte_at(album, 0) <= i {
-        return Outcome::Refused(Refusal::Index);
+        return Err(Refusal::Index);
     }
     if has_loose_word(field, album) {
-        return Outcome::Refused(Refusal::LooseWord);
+        return Err(Refusal::LooseWord);
     }
-    Outcome::Done
+    Ok(())
 }
 
 // The refusal that applies to a call on list i.
-pub fn check_over(field: u8, album: &[u8], i: usize) -> Outcome
+pub fn check_over(field: u8, album: &[u8], i: usize) -> Result<(), Refusal>
     ensures answer { outcome_reply result ≡ check_answer field album.now i }
 {
     judge_call(field, album, i)
@@ -53,11 +48,11 @@ pub fn check_over(field: u8, album: &[u8], i: usize) -> Outcome
 pub fn body_over(field: u8, album: &[u8], i: usize) -> &[u8]
     ensures part { result.now ≡ body_of field album.now i }
     ensures place { PartFrom album.entry (body_place field album.now i) result }
-    ensures some { lowest (check_refusals (modulus field) album.now i) ≡ Done → 0 < length result.now }
+    ensures some { lowest (check_refusals (modulus field) album.now i) ≡ Ok tt → 0 < length result.now }
 {
     match judge_call(field, album, i) {
-        Outcome::Done => body_at(album, i),
-        Outcome::Refused(_) => &album[0..0],
+        Ok(()) => body_at(album, i),
+        Err(_) => &album[0..0],
     }
 }
 
@@ -81,40 +76,40 @@ pub fn body_at(album: &[u8], i: usize) -> &[u8]
 }
 
 // What the layout of an album refuses: `at` is where the next body has to start.
-pub fn judge_layout(album: &[u8]) -> Outcome
+pub fn judge_layout(album: &[u8]) -> Result<(), Refusal>
     ensures { result ≡ lowest (layout_refusals album.now) }
 {
     if album.len() == 0 {
-        return Outcome::Refused(Refusal::Count);
+        return Err(Refusal::Count);
     }
     let n = words::byte_at(album, 0);
     if n == 0 {
-        return Outcome::Refused(Refusal::Count);
+        return Err(Refusal::Count);
     }
     if refusal::MAX_LISTS < n {
-        return Outcome::Refused(Refusal::Count);
+        return Err(Refusal::Count);
     }
     let mut at = 1 + refusal::ENTRY_BYTES * n;
     if album.len() < at {
-        return Outcome::Refused(Refusal::Contents);
+        return Err(Refusal::Contents);
     }
     let mut k = 0;
     while k < n {
         let e = 1 + refusal::ENTRY_BYTES * k;
         let degree = words::word_at(album, e);
         if refusal::MAX_DEGREE < degree {
-            return Outcome::Refused(Refusal::Contents);
+            return Err(Refusal::Contents);
         }
         if words::word_at(album, e + 2) != at {
-            return Outcome::Refused(Refusal::Contents);
+            return Err(Refusal::Contents);
         }
         at += 2 * (degree + 1);
         k += 1;
     }
     if album.len() != at {
-        return Outcome::Refused(Refusal::Contents);
+        return Err(Refusal::Contents);
     }
-    Outcome::Done
+    Ok(())
 }
 
 // Whether a list of the album has a loose word: the bodies' words stand one after the other up to the end.

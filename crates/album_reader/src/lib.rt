@@ -6,27 +6,18 @@ ghost use Rattle.album_reader.specs.Calls.{listed_reply, read_answer, read_writt
 ghost use Rattle.album_reader.specs.Internal.{words_read, left_at};
 
 use lists::NaiveDegree;
-use refusal::{Outcome, Refusal};
-
-// The answer of reading a list: its naive degree.
-#[derive(Clone, Copy)]
-pub enum Listed {
-    Done(NaiveDegree),
-    Refused(Refusal),
-}
+use refusal::Refusal;
 
 // The words of list i, in a slice of as many words as the longest list has, zeros after them.
-pub fn read_list_over(field: u8, album: &[u8], i: usize, out: &mut [u16]) -> Listed
+pub fn read_list_over(field: u8, album: &[u8], i: usize, out: &mut [u16]) -> Result<NaiveDegree, Refusal>
     ensures answer { listed_reply result ≡ read_answer field album.now i out.old }
     ensures writes { out.new ≡ read_written field album.now i out.old }
 {
-    if let Outcome::Refused(why) = album_layout::judge_call(field, album, i) {
-        return Listed::Refused(why);
-    }
+    album_layout::judge_call(field, album, i)?;
     if out.len() != field::longest_of(field) {
-        return Listed::Refused(Refusal::Misfit);
+        return Err(Refusal::Misfit);
     }
-    Listed::Done(NaiveDegree(read_at(album, i, out) - 1))
+    Ok(NaiveDegree(read_at(album, i, out) - 1))
 }
 
 // The words that entry i names, zeros after them, and their number; nothing and 0 where the slice is too short. Nothing is judged.

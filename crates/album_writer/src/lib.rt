@@ -10,50 +10,43 @@ ghost use Rattle.album_writer.specs.Cut.{words_for};
 ghost use Rattle.album_writer.specs.Calls.{wrong_lists, has_high, write_rows, write_answer, write_written, written_reply};
 ghost use Rattle.album_writer.specs.Internal.{entries_by, album_by, Low, Room};
 
-use refusal::{Outcome, Refusal};
-
-// The answer of writing an album: the number of its bytes.
-#[derive(Clone, Copy)]
-pub enum Written {
-    Done(usize),
-    Refused(Refusal),
-}
+use refusal::Refusal;
 
 // The album of the lists that the degrees cut from the words. The bytes of the target after the album stay as they are.
-pub fn write_album_over(field: u8, words: &[u16], degrees: &[u16], out: &mut [u8]) -> Written
+pub fn write_album_over(field: u8, words: &[u16], degrees: &[u16], out: &mut [u8]) -> Result<usize, Refusal>
     ensures answer { written_reply result ≡ write_answer field words.now degrees.now out.old }
     ensures writes { out.new ≡ write_written field words.now degrees.now out.old }
 {
     match judge_write(field, words, degrees, out) {
-        Outcome::Done => {
+        Ok(()) => {
             let size = 1 + refusal::ENTRY_BYTES * degrees.len() + 2 * words.len();
             write_parts(words, degrees, &mut out[..size]);
-            Written::Done(size)
+            Ok(size)
         }
-        Outcome::Refused(why) => Written::Refused(why),
+        Err(why) => Err(why),
     }
 }
 
 // What writing an album refuses.
-fn judge_write(field: u8, words: &[u16], degrees: &[u16], out: &[u8]) -> Outcome
+fn judge_write(field: u8, words: &[u16], degrees: &[u16], out: &[u8]) -> Result<(), Refusal>
     ensures { result ≡ lowest (write_rows (modulus field) words.now degrees.now out.now) }
 {
     if wrong_lists(degrees) {
-        return Outcome::Refused(Refusal::Count);
+        return Err(Refusal::Count);
     }
     if has_high(degrees) {
-        return Outcome::Refused(Refusal::Contents);
+        return Err(Refusal::Contents);
     }
     if words.len() != words_for(degrees) {
-        return Outcome::Refused(Refusal::Length);
+        return Err(Refusal::Length);
     }
     if lists::has_loose(field, words) {
-        return Outcome::Refused(Refusal::LooseWord);
+        return Err(Refusal::LooseWord);
     }
     if out.len() < refusal::MAX_BYTES {
-        return Outcome::Refused(Refusal::Misfit);
+        return Err(Refusal::Misfit);
     }
-    Outcome::Done
+    Ok(())
 }
 
 // Whether no album has so many lists.

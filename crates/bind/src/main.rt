@@ -2,7 +2,6 @@
 // run. Messages go to standard error, so that nothing but an album is on standard output.
 #![tactic(auto)]
 
-use album_writer::Written;
 use refusal::Refusal;
 
 // One byte more than the longest text: a longer input is read as longer, and so refused.
@@ -17,8 +16,8 @@ fn main(rt: HostRuntime) {
     let mut album = [0u8; refusal::MAX_BYTES];
     let n = streams::read_full(&mut rt.stdin(), &mut text);
     match bind_text::bind_over(0, &text[..n], &mut album) {
-        Written::Done(k) => deliver(&rt, &album[..k]),
-        Written::Refused(why) => refuse(&rt, why),
+        Ok(k) => deliver(&rt, &album[..k]),
+        Err(why) => refuse(&rt, why),
     }
 }
 
@@ -31,7 +30,7 @@ fn deliver(rt: &(impl Print + Eprint), album: &[u8]) {
 
 // Says what the text is refused with: `refused` and the number.
 fn refuse(rt: &impl Eprint, why: Refusal) {
-    let n = refusal::number_of(why);
+    let n = u8::from(why);
     let _ = eprintln!(rt; "refused {n}");
 }
 

@@ -10,8 +10,7 @@ ghost use Rattle.bind_text.specs.Text.{lines_of, list_of, lists_in, value_of, is
 ghost use Rattle.bind_text.specs.Calls.{text_refusals, bind_answer, bind_written};
 ghost use Rattle.bind_text.specs.Internal.{PartEnd, capped, Sound, Loaded};
 
-use album_writer::Written;
-use refusal::{Outcome, Refusal};
+use refusal::Refusal;
 
 // The most bytes of a text: 16 for each word of the largest album, where five digits and a space would do.
 pub const MAX_INPUT: usize = 16 * (refusal::MAX_LISTS * refusal::MAX_WORDS);
@@ -27,13 +26,11 @@ const SPACE: u8 = 32;
 const MOST_WORD: usize = 65535;
 
 // The album of the lists that a text says, at the front of the target; the program's is that over field 0.
-pub fn bind_over(field: u8, text: &[u8], out: &mut [u8]) -> Written
+pub fn bind_over(field: u8, text: &[u8], out: &mut [u8]) -> Result<usize, Refusal>
     ensures answer { written_reply result ≡ bind_answer field text.now out.old }
     ensures writes { out.new ≡ bind_written field text.now out.old }
 {
-    if let Outcome::Refused(why) = judge_text(text) {
-        return Written::Refused(why);
-    }
+    judge_text(text)?;
     let mut words = [0u16; ALL_WORDS];
     let mut degrees = [0u16; refusal::MAX_LISTS];
     let n = read_lines(text, &mut words, &mut degrees);
@@ -42,26 +39,26 @@ pub fn bind_over(field: u8, text: &[u8], out: &mut [u8]) -> Written
 }
 
 // What a text is refused with before its numbers are read.
-fn judge_text(text: &[u8]) -> Outcome
+fn judge_text(text: &[u8]) -> Result<(), Refusal>
     ensures { result ≡ lowest (text_refusals text.now) }
 {
     let lists = count_lines(text);
     if lists == 0 {
-        return Outcome::Refused(Refusal::Count);
+        return Err(Refusal::Count);
     }
     if refusal::MAX_LISTS < lists {
-        return Outcome::Refused(Refusal::Count);
+        return Err(Refusal::Count);
     }
     if MAX_INPUT < text.len() {
-        return Outcome::Refused(Refusal::Contents);
+        return Err(Refusal::Contents);
     }
     if has_other(text) {
-        return Outcome::Refused(Refusal::Contents);
+        return Err(Refusal::Contents);
     }
     if has_wrong_line(text) {
-        return Outcome::Refused(Refusal::Length);
+        return Err(Refusal::Length);
     }
-    Outcome::Done
+    Ok(())
 }
 
 // Whether no text has such a byte.

@@ -7,55 +7,39 @@ ghost use Rattle.field.specs.Field.{word_reply, operand_refusals};
 ghost use Rattle.field.specs.Calls.{word_sum_answer, word_difference_answer, word_product_answer};
 ghost use Rattle.field.specs.Fields.{modulus, longest, word_inverse, square, fourth};
 
-use refusal::{Outcome, Refusal};
-
-// The answer of a call that hands back one word.
-#[derive(Clone, Copy)]
-pub enum Word {
-    Done(u16),
-    Refused(Refusal),
-}
+use refusal::Refusal;
 
 // Sum, difference and product of two coefficients.
-pub fn sum_over(field: u8, a: u16, b: u16) -> Word
+pub fn sum_over(field: u8, a: u16, b: u16) -> Result<u16, Refusal>
     ensures answer { word_reply result ≡ word_sum_answer field a b }
 {
-    if let Outcome::Refused(why) = judge_operands(field, a, b) {
-        return Word::Refused(why);
-    }
-    Word::Done(add(field, a, b))
+    judge_operands(field, a, b)?;
+    Ok(add(field, a, b))
 }
 
-pub fn difference_over(field: u8, a: u16, b: u16) -> Word
+pub fn difference_over(field: u8, a: u16, b: u16) -> Result<u16, Refusal>
     ensures answer { word_reply result ≡ word_difference_answer field a b }
 {
-    if let Outcome::Refused(why) = judge_operands(field, a, b) {
-        return Word::Refused(why);
-    }
-    Word::Done(sub(field, a, b))
+    judge_operands(field, a, b)?;
+    Ok(sub(field, a, b))
 }
 
-pub fn product_over(field: u8, a: u16, b: u16) -> Word
+pub fn product_over(field: u8, a: u16, b: u16) -> Result<u16, Refusal>
     ensures answer { word_reply result ≡ word_product_answer field a b }
 {
-    if let Outcome::Refused(why) = judge_operands(field, a, b) {
-        return Word::Refused(why);
-    }
-    Word::Done(mul(field, a, b))
+    judge_operands(field, a, b)?;
+    Ok(mul(field, a, b))
 }
 
 // What a call on two operands refuses.
-fn judge_operands(field: u8, a: u16, b: u16) -> Outcome
+fn judge_operands(field: u8, a: u16, b: u16) -> Result<(), Refusal>
     ensures { result ≡ lowest (operand_refusals (modulus field) a b) }
 {
     let p = modulus_of(field);
-    if p <= a {
-        return Outcome::Refused(Refusal::LooseWord);
+    if p <= a || p <= b {
+        return Err(Refusal::LooseWord);
     }
-    if p <= b {
-        return Outcome::Refused(Refusal::LooseWord);
-    }
-    Outcome::Done
+    Ok(())
 }
 
 // p of a field.

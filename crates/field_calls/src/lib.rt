@@ -10,10 +10,9 @@ ghost use Rattle.field_inverse.specs.Calls.{inverse_answer};
 ghost use Rattle.statement.specs.Demand1.{Demand1};
 ghost use Rattle.statement.specs.Demand2Calls.{WordSumSo, WordDifferenceSo, WordProductSo, InverseSo};
 
-use field::Word;
 
 // The sum of two coefficients.
-pub fn sum(a: u16, b: u16) -> Word
+pub fn sum(a: u16, b: u16) -> Result<u16, Refusal>
     ensures answer { word_reply result ≡ word_sum_answer 0 a b }
     ensures demand1 { Demand1 (operand_refusals p a b) (word_reply result).number [] }
     ensures demand2 { WordSumSo F65521 a b (word_reply result) }
@@ -22,7 +21,7 @@ pub fn sum(a: u16, b: u16) -> Word
 }
 
 // a less b.
-pub fn difference(a: u16, b: u16) -> Word
+pub fn difference(a: u16, b: u16) -> Result<u16, Refusal>
     ensures answer { word_reply result ≡ word_difference_answer 0 a b }
     ensures demand1 { Demand1 (operand_refusals p a b) (word_reply result).number [] }
     ensures demand2 { WordDifferenceSo F65521 a b (word_reply result) }
@@ -31,7 +30,7 @@ pub fn difference(a: u16, b: u16) -> Word
 }
 
 // The product of two coefficients.
-pub fn product(a: u16, b: u16) -> Word
+pub fn product(a: u16, b: u16) -> Result<u16, Refusal>
     ensures answer { word_reply result ≡ word_product_answer 0 a b }
     ensures demand1 { Demand1 (operand_refusals p a b) (word_reply result).number [] }
     ensures demand2 { WordProductSo F65521 a b (word_reply result) }
@@ -40,7 +39,7 @@ pub fn product(a: u16, b: u16) -> Word
 }
 
 // The inverse of a coefficient that is not 0.
-pub fn inverse(a: u16) -> Word
+pub fn inverse(a: u16) -> Result<u16, Refusal>
     ensures answer { word_reply result ≡ inverse_answer 0 a }
     ensures demand1 { Demand1 (inverse_refusals p a) (word_reply result).number [] }
     ensures demand2 { InverseSo F65521 a (word_reply result) }

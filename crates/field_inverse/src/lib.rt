@@ -7,26 +7,25 @@ ghost use Rattle.field.specs.Fields.{modulus, field_at};
 ghost use Rattle.field_inverse.specs.Calls.{inverse_answer, Inverts};
 ghost use Rattle.field_inverse.specs.Internal.{residue_of, Leaves};
 
-use field::Word;
 use refusal::Refusal;
 
 // The inverse of a coefficient over a field. The table of inverses saves steps; the answer does not depend on it.
-pub fn inverse_over(field: u8, inverses: &[u16], a: u16) -> Word
+pub fn inverse_over(field: u8, inverses: &[u16], a: u16) -> Result<u16, Refusal>
     ensures answer { word_reply result ≡ inverse_answer field a }
     ensures inverts { Inverts (modulus field) a result }
 {
     if field::modulus_of(field) <= a {
-        return Word::Refused(Refusal::LooseWord);
+        return Err(Refusal::LooseWord);
     }
     if a == 0 {
-        return Word::Refused(Refusal::AllZero);
+        return Err(Refusal::AllZero);
     }
     let b = find(field, inverses, a);
     // The modulus is prime, so every coefficient but 0 has an inverse.
     if b == 0 {
-        return Word::Refused(Refusal::NoInverse);
+        return Err(Refusal::NoInverse);
     }
-    Word::Done(b)
+    Ok(b)
 }
 
 // The inverse of a coefficient that is not 0; else 0.
@@ -34,8 +33,8 @@ pub fn inverse_or_zero(field: u8, inverses: &[u16], a: u16) -> u16
     ensures { result ≡ inverse_or_zero (field_at field) a }
 {
     match inverse_over(field, inverses, a) {
-        Word::Done(b) => b,
-        Word::Refused(_) => 0,
+        Ok(b) => b,
+        Err(_) => 0,
     }
 }
 

@@ -2,7 +2,6 @@
 // arguments: given any, it says how it is run. Messages go to standard error, so that nothing but a text is on standard output.
 #![tactic(auto)]
 
-use report_text::Text;
 
 // One byte more than the longest line, the byte 0A after it and the largest album have: a longer album is read as longer, and so refused.
 const ROOM: usize = refusal::MAX_LINE + 1 + refusal::MAX_BYTES + 1;
@@ -15,7 +14,7 @@ fn main(rt: HostRuntime) {
     let mut input = [0u8; ROOM];
     let mut text = [0u8; report_text::MAX_TEXT];
     let n = streams::read_full(&mut rt.stdin(), &mut input);
-    if let Text::Done(k) = line_text::line_text_over(0, &input[..n], &mut text) {
+    if let Ok(k) = line_text::line_text_over(0, &input[..n], &mut text) {
         deliver(&rt, &text[..k]);
     }
 }

@@ -9,24 +9,22 @@ ghost use Rattle.report_text.specs.Calls.{max_text, text_reply};
 ghost use Rattle.report_text.specs.Internal.{Put};
 ghost use Rattle.line_text.specs.Calls.{line_of, value_text, line_text, line_text_answer, line_text_written};
 
-use album_reader::Listed;
 use refusal::Refusal;
-use report_text::Text;
 
 const LINE_END: u8 = 10;
 
 // The text of a line's value, zeros after it; the program's is that over field 0.
-pub fn line_text_over(field: u8, input: &[u8], out: &mut [u8]) -> Text
+pub fn line_text_over(field: u8, input: &[u8], out: &mut [u8]) -> Result<usize, Refusal>
     ensures answer { text_reply result ≡ line_text_answer field input.now out.old }
     ensures writes { out.new ≡ line_text_written field input.now out.old }
 {
     if out.len() != report_text::MAX_TEXT {
-        return Text::Refused(Refusal::Misfit);
+        return Err(Refusal::Misfit);
     }
     let mut list = [0u16; refusal::MAX_WORDS];
     let n = put_text(field, input, &mut list, out);
     report_text::clear(n, out);
-    Text::Done(n)
+    Ok(n)
 }
 
 // The text by way of as much of an array as the longest list takes.
@@ -70,7 +68,7 @@ fn put_value(field: u8, album: &[u8], line: &[u8], list: &mut [u16], out: &mut [
     ensures { Put (value_text field album.now line.now) 0 out.old out.new result }
 {
     match line_values::line_value_over(field, album, line, list) {
-        Listed::Done(n) => report_text::put_words(&list[..n.0 + 1], 0, out),
-        Listed::Refused(why) => report_text::put_refused(why, 0, out),
+        Ok(n) => report_text::put_words(&list[..n.0 + 1], 0, out),
+        Err(why) => report_text::put_refused(why, 0, out),
     }
 }

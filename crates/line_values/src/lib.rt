@@ -17,64 +17,44 @@ ghost use Rattle.line_values.specs.Calls.{line_rows, line_answer, line_written};
 ghost use Rattle.line_values.specs.Internal.{max_height, operation, unary, binary, Ready, Lying, Came, StepSo, RunSo, lacks_one, lacks_byte, Runs, ValueSo};
 ghost use Rattle.line_values.specs.Internal as machine;
 
-use album_reader::Listed;
-use lines::Judged;
 use lists::NaiveDegree;
-use refusal::{Outcome, Refusal};
+use refusal::Refusal;
 
 // The most lists on the stack: three, and two for each parenthesis that is open.
 const MAX_HEIGHT: usize = 2 * refusal::MAX_OPEN + 3;
 
 const STACK_WORDS: usize = MAX_HEIGHT * refusal::MAX_WORDS;
 
-// What an operation comes to: the number of words of its result, or its refusal.
-#[derive(Clone, Copy)]
-enum Sized {
-    Words(usize),
-    Refused(Refusal),
-}
-
-// What a byte of the program makes of the stack: its number of lists and of words, or the refusal of an operation.
-#[derive(Clone, Copy)]
-enum Stepped {
-    To(usize, usize),
-    Refused(Refusal),
-}
-
 // The value of a line over an album, zeros after it; the call is that over field 0.
-pub fn line_value_over(field: u8, album: &[u8], line: &[u8], out: &mut [u16]) -> Listed
+pub fn line_value_over(field: u8, album: &[u8], line: &[u8], out: &mut [u16]) -> Result<NaiveDegree, Refusal>
     ensures answer { listed_reply result ≡ line_answer field album.now line.now out.old }
     ensures writes { out.new ≡ line_written field album.now line.now out.old }
 {
     let mut code = [0u8; refusal::MAX_LINE];
     match judge(field, album, line, out, &mut code) {
-        Judged::Program(n) => value_into(field, album, &code[..n], out),
-        Judged::Refused(why) => Listed::Refused(why),
+        Ok(n) => value_into(field, album, &code[..n], out),
+        Err(why) => Err(why),
     }
 }
 
 // What the call refuses by its inputs alone; the line's program goes to `code`. 12, 13 and 3 go between an album's 2 and its 5, so that the
 // layout is judged first, and the album with its words after the line.
-fn judge(field: u8, album: &[u8], line: &[u8], out: &[u16], code: &mut [u8]) -> Judged
+fn judge(field: u8, album: &[u8], line: &[u8], out: &[u16], code: &mut [u8]) -> Result<usize, Refusal>
     requires { max_line ≤ length code.old }
     ensures result_value { judged_outcome result ≡ lowest (line_rows (modulus field) (longest field) album.now line.now out.now) }
     ensures program_of { ProgramOf line.now code.new result }
 {
-    if let Outcome::Refused(why) = album_layout::judge_layout(album) {
-        return Judged::Refused(why);
-    }
+    album_layout::judge_layout(album)?;
     let read = lines::read_line(line, code);
-    let Judged::Program(n) = read else {
+    let Ok(n) = read else {
         return read;
     };
     if lacks_list(words::byte_at(album, 0), &code[..n]) {
-        return Judged::Refused(Refusal::Index);
+        return Err(Refusal::Index);
     }
-    if let Outcome::Refused(why) = album_layout::judge_album(field, album) {
-        return Judged::Refused(why);
-    }
+    album_layout::judge_album(field, album)?;
     if out.len() != field::longest_of(field) {
-        return Judged::Refused(Refusal::Misfit);
+        return Err(Refusal::Misfit);
     }
     read
 }
@@ -104,7 +84,7 @@ fn lacks_list(lists: usize, code: &[u8]) -> bool
 }
 
 // The value of the program's tree, zeros after it.
-fn value_into(field: u8, album: &[u8], code: &[u8], out: &mut [u16]) -> Listed
+fn value_into(field: u8, album: &[u8], code: &[u8], out: &mut [u16]) -> Result<NaiveDegree, Refusal>
     requires { (Passed (modulus field) album.now) × (Runs album.now code.now) × (length out.old ≡ longest field) }
     ensures { ValueSo field album.now code.now out.old out.new (listed_reply result) }
 {
@@ -112,11 +92,11 @@ fn value_into(field: u8, album: &[u8], code: &[u8], out: &mut [u16]) -> Listed
     let mut sizes = [0usize; MAX_HEIGHT];
     let mut room = [0u16; refusal::MAX_WORDS];
     match run(field, album, code, &mut stack, &mut sizes, &mut room) {
-        Sized::Words(n) => {
+        Ok(n) => {
             pad(&stack[..n], out);
-            Listed::Done(NaiveDegree(n - 1))
+            Ok(NaiveDegree(n - 1))
         }
-        Sized::Refused(why) => Listed::Refused(why),
+        Err(why) => Err(why),
     }
 }
 
@@ -147,7 +127,7 @@ fn run(
     stack: &mut [u16],
     sizes: &mut [usize],
     room: &mut [u16],
-) -> Sized
+) -> Result<usize, Refusal>
     requires passed { (Passed (modulus field) album.now) × (Runs album.now code.now) }
     requires stack_len { (length stack.old ≡ max_height * max_words) × (length sizes.old ≡ max_height) × (length room.old ≡ max_words) }
     ensures { RunSo (modulus field) (longest field) (machine.run (field_at field) (longest field) (lists_of album.now) code.now []) stack.new result }
@@ -157,15 +137,15 @@ fn run(
     let mut i = 0;
     while i < code.len() {
         match step(field, album, code[i], stack, sizes, top, filled, room) {
-            Stepped::To(lists, words) => {
+            Ok(lists, words) => {
                 top = lists;
                 filled = words;
             }
-            Stepped::Refused(why) => return Sized::Refused(why),
+            Err(why) => return Err(why),
         }
         i += 1;
     }
-    Sized::Words(filled)
+    Ok(filled)
 }
 
 // One byte of the program.
@@ -178,7 +158,7 @@ fn step(
     top: usize,
     filled: usize,
     room: &mut [u16],
-) -> Stepped
+) -> Result<(usize, usize), Refusal>
     requires { Ready (modulus field) (longest field) album.now x stack.old sizes.old top filled room.old }
     ensures { StepSo (modulus field) (longest field) (machine.step (field_at field) (longest field) (lists_of album.now) x) stack.old sizes.old top filled stack.new sizes.new result }
 {
@@ -189,7 +169,7 @@ fn step(
             &mut stack[filled..filled + refusal::MAX_WORDS],
         );
         sizes[top] = n;
-        return Stepped::To(top + 1, filled + n);
+        return Ok(top + 1, filled + n);
     }
     if x == lines::DERIVE {
         return derive_top(field, stack, sizes, top, filled, room);
@@ -205,7 +185,7 @@ fn derive_top(
     top: usize,
     filled: usize,
     room: &mut [u16],
-) -> Stepped
+) -> Result<(usize, usize), Refusal>
     requires { Lying (modulus field) (longest field) stack.old sizes.old top filled room.old × (1 ≤ top) }
     ensures { StepSo (modulus field) (longest field) (unary (derived (field_at field) (longest field))) stack.old sizes.old top filled stack.new sizes.new result }
 {
@@ -215,7 +195,7 @@ fn derive_top(
     list_derivative::derivative_over(field, &stack[from..filled], &mut room[..n]);
     words::copy(&room[..n], &mut stack[from..from + n]);
     sizes[top - 1] = n;
-    Stepped::To(top, from + n)
+    Ok(top, from + n)
 }
 
 // What an operator makes of the two lists on top takes their place.
@@ -227,7 +207,7 @@ fn join_top(
     top: usize,
     filled: usize,
     room: &mut [u16],
-) -> Stepped
+) -> Result<(usize, usize), Refusal>
     requires { Lying (modulus field) (longest field) stack.old sizes.old top filled room.old × (2 ≤ top) }
     ensures { StepSo (modulus field) (longest field) (binary (operation (field_at field) (longest field) x)) stack.old sizes.old top filled stack.new sizes.new result }
 {
@@ -240,41 +220,41 @@ fn join_top(
         &stack[between..filled],
         room,
     ) {
-        Sized::Words(n) => {
+        Ok(n) => {
             words::copy(&room[..n], &mut stack[from..from + n]);
             sizes[top - 2] = n;
-            Stepped::To(top - 1, from + n)
+            Ok(top - 1, from + n)
         }
-        Sized::Refused(why) => Stepped::Refused(why),
+        Err(why) => Err(why),
     }
 }
 
 // a and b by an operator, in front of `room`.
-fn operate(field: u8, x: u8, a: &[u16], b: &[u16], room: &mut [u16]) -> Sized
+fn operate(field: u8, x: u8, a: &[u16], b: &[u16], room: &mut [u16]) -> Result<usize, Refusal>
     requires { (IsList (modulus field) (longest field) a.now) × (IsList (modulus field) (longest field) b.now) × (length room.old ≡ max_words) }
     ensures { Came (modulus field) (longest field) (operation (field_at field) (longest field) x a.now b.now) room.new result }
 {
     let n = words::larger(a.len(), b.len());
     if x == lines::ADD {
         list_sum::sum_over(field, a, b, &mut room[..n]);
-        return Sized::Words(n);
+        return Ok(n);
     }
     if x == lines::SUBTRACT {
         list_sum::difference_over(field, a, b, &mut room[..n]);
-        return Sized::Words(n);
+        return Ok(n);
     }
     multiply(field, a, b, room)
 }
 
 // The product of a and b, in front of `room`.
-fn multiply(field: u8, a: &[u16], b: &[u16], room: &mut [u16]) -> Sized
+fn multiply(field: u8, a: &[u16], b: &[u16], room: &mut [u16]) -> Result<usize, Refusal>
     requires { (IsList (modulus field) (longest field) a.now) × (IsList (modulus field) (longest field) b.now) × (length room.old ≡ max_words) }
     ensures { Came (modulus field) (longest field) (multiplied (field_at field) (longest field) a.now b.now) room.new result }
 {
     let n = a.len() + b.len() - 1;
     if field::longest_of(field) < n {
-        return Sized::Refused(Refusal::Over);
+        return Err(Refusal::Over);
     }
     list_product::product_over(field, a, b, &mut room[..n]);
-    Sized::Words(n)
+    Ok(n)
 }

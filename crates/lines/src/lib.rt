@@ -24,13 +24,6 @@ pub const MULTIPLY: u8 = 102;
 
 pub const DERIVE: u8 = 103;
 
-// What a line is found to be: the number of bytes of its program, or why it is refused.
-#[derive(Clone, Copy)]
-pub enum Judged {
-    Program(usize),
-    Refused(Refusal),
-}
-
 // A token of a line. A byte that the grammar has no use for is a token of its own.
 #[derive(Clone, Copy)]
 pub enum Token {
@@ -67,35 +60,35 @@ enum Parsed {
 
 // Reads a line. Its program goes to the start of `code`; what follows there, and all of it where the line is refused, is scratch. A slice
 // of fewer bytes than the longest line has is refused first.
-pub fn read_line(line: &[u8], code: &mut [u8]) -> Judged
+pub fn read_line(line: &[u8], code: &mut [u8]) -> Result<usize, Refusal>
     ensures refusal { judged_outcome result ≡ read_outcome line.now code.old }
     ensures program { ProgramOf line.now code.new result }
 {
     if code.len() < refusal::MAX_LINE {
-        return Judged::Refused(Refusal::Misfit);
+        return Err(Refusal::Misfit);
     }
     read_into(line, code)
 }
 
 // The same where there is room for every program.
-fn read_into(line: &[u8], code: &mut [u8]) -> Judged
+fn read_into(line: &[u8], code: &mut [u8]) -> Result<usize, Refusal>
     requires { max_line ≤ length code.old }
     ensures refusal { judged_outcome result ≡ lowest (line_refusals line.now) }
     ensures program { ProgramOf line.now code.new result }
 {
     if refusal::MAX_LINE < line.len() {
-        return Judged::Refused(Refusal::Line);
+        return Err(Refusal::Line);
     }
     let Parsed::Read(end, n) = expression(line, 0, code, 0) else {
-        return Judged::Refused(Refusal::Line);
+        return Err(Refusal::Line);
     };
     let Next::End = token_at(line, end) else {
-        return Judged::Refused(Refusal::Line);
+        return Err(Refusal::Line);
     };
     if refusal::MAX_OPEN < nesting(line) {
-        return Judged::Refused(Refusal::Nesting);
+        return Err(Refusal::Nesting);
     }
-    Judged::Program(n)
+    Ok(n)
 }
 
 // How many parentheses are open behind a byte, of so many open before it.

@@ -8,7 +8,7 @@ use mathlib.Core.List.{List, [], ◌∷◌}
 use Prim.Native.Nat.{ℕ, ◌+◌, ◌*◌, ◌≤◌, ◌<◌}
 use native.Mathlib.Omega.{arith}
 use lib.ListN.{length}
-use Rattle.std.specs.Prelude.{Ok, Err}
+use Rattle.std.specs.Prelude.{Ok, Err, Result}
 use Rattle.algebra.specs.PrimeField.{PrimeField}
 use Rattle.refusal.specs.Limits.{max_words}
 use Rattle.refusal.specs.Refusal.{number, outcome_number, reply, outcome_reply, written, Outcome}
@@ -24,7 +24,6 @@ use Rattle.lists.specs.Padded.{padded}
 use Rattle.list_product.specs.Calls as P
 use Rattle.list_division.specs.Calls as D
 use Rattle.list_gcd.specs.declared.Gcd.{Gcd}
-use Rattle.list_gcd.specs.declared.Gcd.TheVariants as G
 use Rattle.list_gcd.specs.declared.Rounds.{Rounds}
 use Rattle.list_gcd.specs.Calls as E
 use Rattle.list_gcd.specs.Calls.{gcd_reply, gcd_values, Greatest}
@@ -54,7 +53,7 @@ module _ (most : ℕ) where
     pub room-r : length d ≡ room_of most most r
     pub says : outcome_reply answer ≡ reply (lowest (D.divide_rows p most a b c d)) []
 
-  pub record GcdCall (F : PrimeField) (p : ℕ) (f g h answer a b c : List ℕ) (found : Gcd) : Type 0 where
+  pub record GcdCall (F : PrimeField) (p : ℕ) (f g h answer a b c : List ℕ) (found : Result Gcd Refusal) : Type 0 where
     pub good-f : bad_list most f ≡ false
     pub good-g : bad_list most g ≡ false
     pub words-f : a ≡ words_of f
@@ -133,13 +132,13 @@ module _ {most : ℕ} where
           (h.1 new-q q ∙ ap (λ o. written o new-q q) division-same, h.1 new-r r ∙ ap (λ o. written o new-r r) division-same),
         )
 
-  module _ (some : 0 < most) (room : most ≤ max_words) {F : PrimeField} {p : ℕ} {f g h answer a b c : List ℕ} {found : Gcd} (call : GcdCall most F p f g h answer a b c found) where
+  module _ (some : 0 < most) (room : most ≤ max_words) {F : PrimeField} {p : ℕ} {f g h answer a b c : List ℕ} {found : Result Gcd Refusal} (call : GcdCall most F p f g h answer a b c found) where
     gcd-same : lowest (E.gcd_rows p most a b c) ≡ lowest (host_gcd_rows p most f g h answer)
     gcd-same =
         ap₂ (λ x y. lowest (E.gcd_rows p most x y c)) call.words-f call.words-g
         ∙ gcd-rows most p f g h answer some c call.good-f call.good-g call.room
 
-    module _ {w : NaiveDegree} {power : Power} {rounds : Rounds} (d : found ≡ G.Done w power rounds) where
+    module _ {w : NaiveDegree} {power : Power} {rounds : Rounds} (d : found ≡ Ok (record { degree = w; power = power; rounds = rounds })) where
       told : (lowest (E.gcd_rows p most a b c) ≡ Ok tt) × (w.0 ∷ power.0 ∷ rounds.0 ∷ [] ≡ gcd_values F a b)
       told = done-reply (lowest (E.gcd_rows p most a b c)) (w.0 ∷ power.0 ∷ rounds.0 ∷ []) (gcd_values F a b) (sym (ap gcd_reply d) ∙ call.says)
 
@@ -175,7 +174,7 @@ module _ {most : ℕ} where
         ),
       )
 
-    pub gcd-refused : {why : Refusal} → found ≡ G.Refused why → {n : ℕ} → n ≡ number why → (new-h new-answer : List ℕ)
+    pub gcd-refused : {why : Refusal} → found ≡ Err why → {n : ℕ} → n ≡ number why → (new-h new-answer : List ℕ)
         → (n ≡ outcome_number (lowest (host_gcd_rows p most f g h answer))) × ((h ≡ written (lowest (host_gcd_rows p most f g h answer)) new-h h)
         × (answer ≡ written (lowest (host_gcd_rows p most f g h answer)) new-answer answer))
     gcd-refused {why} w e new-h new-answer =

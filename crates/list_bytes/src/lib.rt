@@ -14,7 +14,7 @@ ghost use Rattle.list_bytes.specs.Internal.{bad_list, room_of, gcd_room};
 
 use list_gcd::{Gcd, Rounds};
 use lists::{NaiveDegree, Power};
-use refusal::{Outcome, Refusal};
+use refusal::Refusal;
 
 // What a call returns that completes.
 const COMPLETED: u8 = 0;
@@ -28,10 +28,10 @@ pub fn product_over(field: u8, f: &[u8], g: &[u8], out: &mut [u8]) -> u8
     ensures writes { out.new ≡ host_product_written field f.now g.now out.old }
 {
     if bad_list(field, f) {
-        return refusal::number_of(Refusal::Length);
+        return u8::from(Refusal::Length);
     }
     if bad_list(field, g) {
-        return refusal::number_of(Refusal::Length);
+        return u8::from(Refusal::Length);
     }
     product_lists(field, f, g, out)
 }
@@ -43,10 +43,10 @@ pub fn divide_over(field: u8, g: &[u8], f: &[u8], q: &mut [u8], r: &mut [u8]) ->
     ensures remainder { r.new ≡ host_remainder_written field g.now f.now q.old r.old }
 {
     if bad_list(field, g) {
-        return refusal::number_of(Refusal::Length);
+        return u8::from(Refusal::Length);
     }
     if bad_list(field, f) {
-        return refusal::number_of(Refusal::Length);
+        return u8::from(Refusal::Length);
     }
     divide_lists(field, g, f, q, r)
 }
@@ -58,10 +58,10 @@ pub fn gcd_over(field: u8, f: &[u8], g: &[u8], h: &mut [u8], answer: &mut [u8]) 
     ensures values { answer.new ≡ host_values_written field f.now g.now h.old answer.old }
 {
     if bad_list(field, f) {
-        return refusal::number_of(Refusal::Length);
+        return u8::from(Refusal::Length);
     }
     if bad_list(field, g) {
-        return refusal::number_of(Refusal::Length);
+        return u8::from(Refusal::Length);
     }
     gcd_lists(field, f, g, h, answer)
 }
@@ -127,11 +127,11 @@ fn product_in(
     words::read_words(g, b);
     let answer = list_product::product_over(field, a, b, c);
     match answer {
-        Outcome::Done => {
+        Ok(()) => {
             words::write_words(c, out);
             COMPLETED
         }
-        Outcome::Refused(why) => refusal::number_of(why),
+        Err(why) => u8::from(why),
     }
 }
 
@@ -202,12 +202,12 @@ fn divide_in(
     words::read_words(f, b);
     let answer = list_division::divide_over(field, a, b, c, d);
     match answer {
-        Outcome::Done => {
+        Ok(()) => {
             words::write_words(c, q);
             words::write_words(d, r);
             COMPLETED
         }
-        Outcome::Refused(why) => refusal::number_of(why),
+        Err(why) => u8::from(why),
     }
 }
 
@@ -314,12 +314,12 @@ fn gcd_in(
     words::read_words(g, b);
     let found = list_gcd::gcd_over(field, a, b, c);
     match found {
-        Gcd::Done(w, power, rounds) => {
+        Ok(w, power, rounds) => {
             words::write_words(c, h);
             write_three(w, power, rounds, answer);
             COMPLETED
         }
-        Gcd::Refused(why) => refusal::number_of(why),
+        Err(why) => u8::from(why),
     }
 }
 

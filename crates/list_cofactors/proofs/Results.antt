@@ -10,7 +10,8 @@ use mathlib.Core.List.{List}
 use Prim.Native.Nat.{ℕ, ◌-◌, ◌≤◌, ◌<◌}
 use native.Mathlib.Omega.{arith}
 use lib.ListN.{length}
-use Rattle.std.specs.Prelude.{Ok}
+use Rattle.refusal.specs.declared.Refusal.{Refusal}
+use Rattle.std.specs.Prelude.{Ok, Result}
 use Rattle.algebra.specs.Series.{C}
 use Rattle.algebra.proofs.Series.{coeff-C-mul}
 use Rattle.algebra.specs.PrimeField.{PrimeField, scalars, value, residue, inverse}
@@ -24,7 +25,6 @@ use Rattle.euclid_theory.specs.Gcd.{euclid_of, gcd_of, cofactor_a, cofactor_b}
 use Rattle.lists.specs.Padded.{padded}
 use Rattle.euclid_theory.proofs.Cofactors.{cofactors-are, cofactors-only}
 use Rattle.list_gcd.specs.declared.Gcd.{Gcd}
-use Rattle.list_gcd.specs.declared.Gcd.TheVariants as G
 use Rattle.list_gcd.specs.Calls.{gcd_reply, gcd_values, Greatest}
 use Rattle.list_gcd.specs.Internal.{Ready, TrailOf, Numbers, gcd_done}
 use Rattle.list_gcd.proofs.Finish.{gcd-done, answered}
@@ -54,11 +54,11 @@ module _ (F : PrimeField) where
       coeff-C-mul F.series m (series_of F form) k
       ∙ ap (λ c. m ⊗ c) (coeff-series_of F form k ∙ low.at k (omega arith)) ∙ sym (coeff-C-mul F.series m s k)
 
-  pub results : (n most : ℕ) → 1 < n → (f g h a b words s t : List ℕ) (first : Bool) (w c rounds m : ℕ) {h' a' b' : List ℕ} {r : Gcd}
+  pub results : (n most : ℕ) → 1 < n → (f g h a b words s t : List ℕ) (first : Bool) (w c rounds m : ℕ) {h' a' b' : List ℕ} {r : Result Gcd Refusal}
       → Ready F n f g → Slices most f g h a b → Numbers F f g w c rounds m → h' ≡ padded most (gcd_of F f g) → TrailOf F n f g words
       → {i : ℕ} → i ≡ n → Substituted F i words (cond first s t) (cond first t s)
       → (a' ≡ times_list F (length a) (residue F m) (cond first t s)) × (b' ≡ times_list F (length b) (residue F m) (cond first s t))
-      → r ≡ G.Done (record { 0 = w }) (record { 0 = c }) (record { 0 = rounds }) → Results F most f g r h' a' b'
+      → r ≡ Ok (record { degree = record { 0 = w }; power = record { 0 = c }; rounds = record { 0 = rounds } }) → Results F most f g r h' a' b'
   results n most more f g h a b words s t first w c rounds m ready sl found eh trail ei back o er =
       record {
         answer = er ∙ gcd-done F f g _ _ _ found.degree-is found.power-is found.rounds_are;
@@ -81,7 +81,7 @@ module _ (F : PrimeField) where
       (omega (arith, sl.size_a), omega (arith, sl.size_b))
 
   -- what a call answers, and what it leaves in the slices
-  pub cofactors-answered : (n : ℕ) (f g h a b : List ℕ) {found : Outcome} {r : Gcd} {h' a' b' : List ℕ} → found ≡ Ok tt → Ready F n f g
+  pub cofactors-answered : (n : ℕ) (f g h a b : List ℕ) {found : Outcome} {r : Result Gcd Refusal} {h' a' b' : List ℕ} → found ≡ Ok tt → Ready F n f g
       → Results F n f g r h' a' b'
       → (gcd_reply r ≡ reply found (gcd_values F f g)) × (h' ≡ written found (padded n (gcd_of F f g)) h)
       × (a' ≡ written found (cofactor_a F f g) a) × (b' ≡ written found (cofactor_b F f g) b) × Greatest F f g h' r × Cofactors F f g a' b' r

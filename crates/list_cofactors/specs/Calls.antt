@@ -8,7 +8,8 @@
 --                           that meets them is this pair
 --     Cofactors             the same of an answer that is no refusal
 -- Assumes nothing.
-use Rattle.std.specs.Prelude.{◌≡◌, not, List, [], ◌∷◌, ◌++◌, ℕ, suc, ◌-◌, eqb, length}
+use Rattle.refusal.specs.declared.Refusal.{Refusal}
+use Rattle.std.specs.Prelude.{◌≡◌, not, List, [], ◌∷◌, ◌++◌, ℕ, suc, ◌-◌, eqb, length, Ok, Err, Result}
 use Rattle.algebra.specs.PrimeField.{PrimeField}
 use Rattle.refusal.specs.Refusal.{Reply, reply, written}
 use Rattle.refusal.specs.Lowest.{Condition, ◌given-when◌, lowest}
@@ -20,7 +21,6 @@ use Rattle.euclid_theory.specs.Gcd.{identity_degree, gcd_of, cofactor_a, cofacto
 use Rattle.euclid_theory.specs.Cofactors.{AreCofactors}
 use Rattle.list_gcd.specs.Calls.{gcd_values, gcd_rows}
 use Rattle.list_gcd.specs.declared.Gcd.{Gcd}
-use Rattle.list_gcd.specs.declared.Gcd.TheVariants.{Done, Refused}
 
 unfoldable pub cofactor_rows : (p most : ℕ) → (f g h a b : List ℕ) → List Condition
 cofactor_rows p most f g h a b =
@@ -49,6 +49,6 @@ pub record CofactorsSo (F : PrimeField) (f g a b : List ℕ) : Type 0 where
   pub meet : AreCofactors F f g a b
   pub only : (a' b' : List ℕ) → AreCofactors F f g a' b' → (a' ≡ a) × (b' ≡ b)
 
-abbrev pub Cofactors : PrimeField → (f g a b : List ℕ) → Gcd → Type 0
-Cofactors F f g a b (Done w c rounds) = CofactorsSo F f g a b
-Cofactors F f g a b (Refused why) = Unit {0}
+abbrev pub Cofactors : PrimeField → (f g a b : List ℕ) → Result Gcd Refusal → Type 0
+Cofactors F f g a b (Ok gcd) = CofactorsSo F f g a b
+Cofactors F f g a b (Err why) = Unit {0}

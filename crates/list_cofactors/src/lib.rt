@@ -18,7 +18,7 @@ ghost use Rattle.list_cofactors.specs.Calls.{cofactor_rows, cofactor_answer, cof
 ghost use Rattle.list_cofactors.specs.Internal.{Slices, ZeroPair, last_count, last_quotient, Substituted, times_list, Results};
 
 use list_gcd::Gcd;
-use refusal::{Outcome, Refusal};
+use refusal::Refusal;
 
 // The GCD of f and g over a field with its cofactors: a·f + b·g = (1-t)^(m-w)·h. h goes to a slice of as many words as the longest list has.
 pub fn cofactors_over(
@@ -28,7 +28,7 @@ pub fn cofactors_over(
     h: &mut [u16],
     a: &mut [u16],
     b: &mut [u16],
-) -> Gcd
+) -> Result<Gcd, Refusal>
     ensures answer { gcd_reply result ≡ cofactor_answer field f.now g.now h.old a.old b.old }
     ensures gcd { h.new ≡ cofactor_gcd field f.now g.now h.old a.old b.old }
     ensures cofactor_a { a.new ≡ cofactors_written_a field f.now g.now h.old a.old b.old }
@@ -36,11 +36,8 @@ pub fn cofactors_over(
     ensures greatest { Greatest (field_at field) f.now g.now h.new result }
     ensures identity { Cofactors (field_at field) f.now g.now a.new b.new result }
 {
-    let answer = judge_cofactors(field, f, g, h, a, b);
-    match answer {
-        Outcome::Refused(why) => Gcd::Refused(why),
-        Outcome::Done => cofactors_into(field, f, g, h, a, b),
-    }
+    judge_cofactors(field, f, g, h, a, b)?;
+    cofactors_into(field, f, g, h, a, b)
 }
 
 // The number of words of the cofactor of a list: m less its naive degree, plus 1.
@@ -60,19 +57,17 @@ fn cofactor_words(list: &[u16], other: &[u16]) -> usize
 }
 
 // What the call refuses: what the GCD does, and slices for a and b of other lengths.
-fn judge_cofactors(field: u8, f: &[u16], g: &[u16], h: &[u16], a: &[u16], b: &[u16]) -> Outcome
+fn judge_cofactors(field: u8, f: &[u16], g: &[u16], h: &[u16], a: &[u16], b: &[u16]) -> Result<(), Refusal>
     ensures { result ≡ lowest (cofactor_rows (modulus field) (longest field) f.now g.now h.now a.now b.now) }
 {
-    if let Outcome::Refused(why) = list_gcd::judge_gcd(field, f, g, h) {
-        return Outcome::Refused(why);
-    }
+    list_gcd::judge_gcd(field, f, g, h)?;
     if a.len() != cofactor_words(f, g) {
-        return Outcome::Refused(Refusal::Misfit);
+        return Err(Refusal::Misfit);
     }
     if b.len() != cofactor_words(g, f) {
-        return Outcome::Refused(Refusal::Misfit);
+        return Err(Refusal::Misfit);
     }
-    Outcome::Done
+    Ok(())
 }
 
 // The cofactors of a pair come from those of the pair after the next round: where these are s and t and the round's quotient is q, they are t and
@@ -201,7 +196,7 @@ fn cofactors_in(
     h: &mut [u16],
     a: &mut [u16],
     b: &mut [u16],
-) -> Gcd
+) -> Result<Gcd, Refusal>
     requires in_bounds { (1 < length x.old) × (length x.old ≤ longest field) }
     requires tables { Tables (field_at field) (length x.old) whole.now part.now }
     requires ready { Ready (field_at field) (length x.old) f.now g.now }
@@ -225,7 +220,7 @@ fn cofactors_few(
     h: &mut [u16],
     a: &mut [u16],
     b: &mut [u16],
-) -> Gcd
+) -> Result<Gcd, Refusal>
     requires ready { Ready (field_at field) n f.now g.now × (1 < n) × (n ≤ few_words) }
     requires slices { Slices (longest field) f.now g.now h.old a.old b.old }
     ensures { Results (field_at field) (longest field) f.now g.now result h.new a.new b.new }
@@ -265,7 +260,7 @@ fn cofactors_many(
     h: &mut [u16],
     a: &mut [u16],
     b: &mut [u16],
-) -> Gcd
+) -> Result<Gcd, Refusal>
     requires ready { Ready (field_at field) n f.now g.now × (1 < n) × (n ≤ longest field) }
     requires slices { Slices (longest field) f.now g.now h.old a.old b.old }
     ensures { Results (field_at field) (longest field) f.now g.now result h.new a.new b.new }
@@ -304,7 +299,7 @@ fn cofactors_into(
     h: &mut [u16],
     a: &mut [u16],
     b: &mut [u16],
-) -> Gcd
+) -> Result<Gcd, Refusal>
     requires ready { Ready (field_at field) (longest field) f.now g.now }
     requires slices { Slices (longest field) f.now g.now h.old a.old b.old }
     ensures { Results (field_at field) (longest field) f.now g.now result h.new a.new b.new }

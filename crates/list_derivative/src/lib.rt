@@ -9,31 +9,27 @@ ghost use Rattle.lists.specs.Operations as of;
 ghost use Rattle.list_derivative.specs.Calls.{derivative_rows, derivative_answer, derivative_written};
 ghost use Rattle.list_derivative.specs.Internal.{DerivativeFits};
 
-use refusal::{Outcome, Refusal};
+use refusal::Refusal;
 
 // The same over a field.
-pub fn derivative_over(field: u8, f: &[u16], out: &mut [u16]) -> Outcome
+pub fn derivative_over(field: u8, f: &[u16], out: &mut [u16]) -> Result<(), Refusal>
     ensures answer { outcome_reply result ≡ derivative_answer field f.now out.old }
     ensures writes { out.new ≡ derivative_written field f.now out.old }
 {
-    let answer = judge_derivative(field, f, out);
-    if let Outcome::Done = answer {
-        derivative_into(field, f, out);
-    }
-    answer
+    judge_derivative(field, f, out)?;
+    derivative_into(field, f, out);
+    Ok(())
 }
 
 // What a derivative refuses.
-fn judge_derivative(field: u8, f: &[u16], out: &[u16]) -> Outcome
+fn judge_derivative(field: u8, f: &[u16], out: &[u16]) -> Result<(), Refusal>
     ensures { result ≡ lowest (derivative_rows (modulus field) (longest field) f.now out.now) }
 {
-    if let Outcome::Refused(why) = lists::judge_list(field, f) {
-        return Outcome::Refused(why);
-    }
+    lists::judge_list(field, f)?;
     if out.len() != words::larger(f.len() - 1, 1) {
-        return Outcome::Refused(Refusal::Misfit);
+        return Err(Refusal::Misfit);
     }
-    Outcome::Done
+    Ok(())
 }
 
 // n times the difference of each word of f to the next.

@@ -1,7 +1,7 @@
 // Division of lists.
 #![tactic(auto)]
 
-ghost use Rattle.std.specs.Prelude.{◌≡◌, ◌≤◌, length};
+ghost use Rattle.std.specs.Prelude.{Ok, ◌≡◌, ◌≤◌, length};
 ghost use Rattle.field.specs.Fields.{modulus, field_at, longest};
 ghost use Rattle.refusal.specs.Refusal.{outcome_reply};
 ghost use Rattle.refusal.specs.Lowest.{lowest};
@@ -10,45 +10,38 @@ ghost use Rattle.field_tables.specs.Factorials.{few_words, TablesFor};
 ghost use Rattle.list_division.specs.Calls.{divide_rows, divide_answer, quotient_written, remainder_written, DividesSo};
 ghost use Rattle.list_division.specs.Internal.{DivideFits};
 
-use refusal::{Outcome, Refusal};
+use refusal::Refusal;
 
 // g divided by f over a field: the quotient goes to q, the remainder to r.
-pub fn divide_over(field: u8, g: &[u16], f: &[u16], q: &mut [u16], r: &mut [u16]) -> Outcome
+pub fn divide_over(field: u8, g: &[u16], f: &[u16], q: &mut [u16], r: &mut [u16]) -> Result<(), Refusal>
     ensures answer { outcome_reply result ≡ divide_answer field g.now f.now q.old r.old }
     ensures quotient { q.new ≡ quotient_written field g.now f.now q.old r.old }
     ensures remainder { r.new ≡ remainder_written field g.now f.now q.old r.old }
-    ensures property { result ≡ Outcome.Done → DividesSo (field_at field) g.now f.now q.new r.new }
+    ensures property { result ≡ Ok tt → DividesSo (field_at field) g.now f.now q.new r.new }
 {
-    let answer = judge_divide(field, g, f, q, r);
-    match answer {
-        Outcome::Done => {
-            divide_into(field, g, f, q, r);
-        }
-        Outcome::Refused(_) => {}
-    }
-    answer
+    judge_divide(field, g, f, q, r)?;
+    divide_into(field, g, f, q, r);
+    Ok(())
 }
 
 // What a division refuses.
-fn judge_divide(field: u8, g: &[u16], f: &[u16], q: &[u16], r: &[u16]) -> Outcome
+fn judge_divide(field: u8, g: &[u16], f: &[u16], q: &[u16], r: &[u16]) -> Result<(), Refusal>
     ensures { result ≡ lowest (divide_rows (modulus field) (longest field) g.now f.now q.now r.now) }
 {
-    if let Outcome::Refused(why) = lists::judge_lists(field, g, f) {
-        return Outcome::Refused(why);
-    }
+    lists::judge_lists(field, g, f)?;
     if g.len() < f.len() {
-        return Outcome::Refused(Refusal::Backwards);
+        return Err(Refusal::Backwards);
     }
     if f[f.len() - 1] == 0 {
-        return Outcome::Refused(Refusal::Vanishes);
+        return Err(Refusal::Vanishes);
     }
     if q.len() != g.len() - f.len() + 1 {
-        return Outcome::Refused(Refusal::Misfit);
+        return Err(Refusal::Misfit);
     }
     if r.len() != f.len() - 1 {
-        return Outcome::Refused(Refusal::Misfit);
+        return Err(Refusal::Misfit);
     }
-    Outcome::Done
+    Ok(())
 }
 
 // The scaled forms of g and f in x and y, the quotient of them in k and the remainder in x, and back into q and r.

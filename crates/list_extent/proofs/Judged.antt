@@ -7,7 +7,7 @@ use Prim.Native.Nat.{ℕ, ◌-◌, ◌<◌}
 use lib.Dec.{eqb}
 use lib.ListN.{length}
 use borrow.Author.Tests.{eqb-true, not-false, eq-eqb, ne_eqb}
-use Rattle.std.specs.Prelude.{Ok, Err}
+use Rattle.std.specs.Prelude.{Some, None, Result, Ok, Err}
 use Rattle.refusal.specs.Refusal.{reply}
 use Rattle.refusal.specs.Lowest.{lowest}
 use Rattle.refusal.specs.declared.Refusal.{Refusal}
@@ -18,26 +18,25 @@ use Rattle.lists.specs.Refused.{list_refusals}
 use Rattle.lists.proofs.Judged.{one-listed}
 use Rattle.list_extent.specs.Calls.{extent_reply, searched_reply, extent_values, extent_rows, trim_rows}
 use Rattle.list_extent.specs.Internal.{TrimFits}
-use Rattle.list_extent.specs.declared.Found.{Found}
-use Rattle.list_extent.specs.declared.Found.TheVariants as found
+use Rattle.list_extent.specs.declared.Search.{Search}
 
 module _ (p most : ℕ) (f : List ℕ) where
   -- both replies of an answer are those of the list
-  abbrev Answers : Found → Type 0
+  abbrev Answers : Result Search Refusal → Type 0
   Answers r =
       (extent_reply r ≡ reply (lowest (extent_rows p most f)) (extent_values f))
       × (searched_reply r ≡ reply (lowest (extent_rows p most f)) (searched f ∷ []))
 
-  pub extent-refused : {why : Refusal} → lowest (list_refusals p most (f ∷ [])) ≡ Err why → Answers (found.Refused why)
+  pub extent-refused : {why : Refusal} → lowest (list_refusals p most (f ∷ [])) ≡ Err why → Answers (Err why)
   unfolding extent_rows
   extent-refused e = (simp e, simp e)
 
   module _ {n r : ℕ} (e : lowest (list_refusals p most (f ∷ [])) ≡ Ok tt) (w : n ≡ significant f) (s : r ≡ searched f) where
-    pub extent-zero : n ≡ 0 → Answers (found.Zero (record { 0 = r }))
+    pub extent-zero : n ≡ 0 → Answers (Ok (record { extent = None; read = record { 0 = r } }))
     unfolding extent_rows extent_values
     extent-zero z = (simp (e, eq-eqb (significant f) 0 (sym w ∙ z)), simp (e, s))
 
-    pub extent-found : ¬ (n ≡ 0) → Answers (found.At (record { 0 = n - 1 }) (record { 0 = r }))
+    pub extent-found : ¬ (n ≡ 0) → Answers (Ok (record { extent = Some (record { 0 = n - 1 }); read = record { 0 = r } }))
     unfolding extent_rows extent_values extent
     extent-found h = (simp (e, ne_eqb (significant f) 0 (λ z. h (w ∙ z)), w), simp (e, s))
 

@@ -9,26 +9,24 @@
 --     searched_answer                  what it answers of the words that it read: `searched`, the power plus 1, or n+1 for a zero list
 --     trim_answer, trim_written        what a trim answers, and what its slice holds at the end
 -- Assumes nothing.
-use Rattle.std.specs.Prelude.{cond, not, List, [], ◌∷◌, ◌++◌, ℕ, eqb, length}
+use Rattle.std.specs.Prelude.{Result, Ok, Err, option_map, option_to_list, cond, not, List, [], ◌∷◌, ◌++◌, ℕ, eqb, length}
 use Rattle.refusal.specs.Refusal.{Reply, number, reply, written}
 use Rattle.field.specs.Fields.{modulus, field_at, longest}
 use Rattle.lists.specs.Operations.{trim}
 use Rattle.refusal.specs.Lowest.{Condition, ◌given-when◌, lowest}
+use Rattle.refusal.specs.declared.Refusal.{Refusal}
 use Rattle.refusal.specs.declared.Refusal.TheVariants.{AllZero, Misfit}
 use Rattle.lists.specs.Degrees.{significant, extent, searched}
 use Rattle.lists.specs.Refused.{list_refusals}
-use Rattle.list_extent.specs.declared.Found.{Found}
-use Rattle.list_extent.specs.declared.Found.TheVariants.{At, Zero, Refused}
+use Rattle.list_extent.specs.declared.Search.{Search}
 
-abbrev pub extent_reply : Found → Reply
-extent_reply (At e n) = record { number = 0; values = e.0 ∷ [] }
-extent_reply (Zero n) = record { number = 0; values = [] }
-extent_reply (Refused why) = record { number = number why; values = [] }
+abbrev pub extent_reply : Result Search Refusal → Reply
+extent_reply (Ok search) = record { number = 0; values = option_to_list (option_map (λ e. e.0) search.extent) }
+extent_reply (Err why) = record { number = number why; values = [] }
 
-abbrev pub searched_reply : Found → Reply
-searched_reply (At e n) = record { number = 0; values = n.0 ∷ [] }
-searched_reply (Zero n) = record { number = 0; values = n.0 ∷ [] }
-searched_reply (Refused why) = record { number = number why; values = [] }
+abbrev pub searched_reply : Result Search Refusal → Reply
+searched_reply (Ok search) = record { number = 0; values = search.read.0 ∷ [] }
+searched_reply (Err why) = record { number = number why; values = [] }
 
 unfoldable pub extent_values : List ℕ → List ℕ
 extent_values f = cond (eqb (significant f) 0) [] (extent f ∷ [])

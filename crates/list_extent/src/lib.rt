@@ -11,28 +11,18 @@ ghost use Rattle.list_extent.specs.Calls.{extent_reply, searched_reply, trim_row
 ghost use Rattle.list_extent.specs.Internal.{TrimFits};
 
 use lists::Extent;
-use refusal::{Outcome, Refusal};
+use refusal::Refusal;
 
 // The number of words that a search has read.
 #[derive(Clone, Copy)]
 pub struct Searched(pub usize);
 
-// The answer of a search for the extent, with how many words it read: a zero list has no extent.
-#[derive(Clone, Copy)]
-pub enum Found {
-    At(Extent, Searched),
-    Zero(Searched),
-    Refused(Refusal),
-}
-
 // The same over a field.
-pub fn extent_over(field: u8, f: &[u16]) -> Found
+pub fn extent_over(field: u8, f: &[u16]) -> Result<Search, Refusal>
     ensures answer { extent_reply result ≡ extent_answer field f.now }
     ensures read { searched_reply result ≡ searched_answer field f.now }
 {
-    if let Outcome::Refused(why) = lists::judge_list(field, f) {
-        return Found::Refused(why);
-    }
+    lists::judge_list(field, f)?;
     let search = lists::search_from_top(f);
     if search.words == 0 {
         return Found::Zero(Searched(search.read));
@@ -42,32 +32,28 @@ pub fn extent_over(field: u8, f: &[u16]) -> Found
 }
 
 // The same over a field.
-pub fn trim_over(field: u8, f: &[u16], out: &mut [u16]) -> Outcome
+pub fn trim_over(field: u8, f: &[u16], out: &mut [u16]) -> Result<(), Refusal>
     ensures answer { outcome_reply result ≡ trim_answer field f.now out.old }
     ensures writes { out.new ≡ trim_written field f.now out.old }
 {
-    let answer = judge_trim(field, f, out);
-    if let Outcome::Done = answer {
-        trim_into(field, f, out);
-    }
-    answer
+    judge_trim(field, f, out)?;
+    trim_into(field, f, out);
+    Ok(())
 }
 
 // What a trim refuses.
-fn judge_trim(field: u8, f: &[u16], out: &[u16]) -> Outcome
+fn judge_trim(field: u8, f: &[u16], out: &[u16]) -> Result<(), Refusal>
     ensures { result ≡ lowest (trim_rows (modulus field) (longest field) f.now out.now) }
 {
-    if let Outcome::Refused(why) = lists::judge_list(field, f) {
-        return Outcome::Refused(why);
-    }
+    lists::judge_list(field, f)?;
     let n = lists::significant_words(f);
     if n == 0 {
-        return Outcome::Refused(Refusal::AllZero);
+        return Err(Refusal::AllZero);
     }
     if out.len() != n {
-        return Outcome::Refused(Refusal::Misfit);
+        return Err(Refusal::Misfit);
     }
-    Outcome::Done
+    Ok(())
 }
 
 // The scaled form of f in s, and the list of as many of its words as out has.

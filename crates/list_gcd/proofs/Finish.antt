@@ -7,7 +7,7 @@ use Prim.Native.Nat.{ℕ, suc, ◌-◌, ◌≤◌, ◌<◌}
 use native.Mathlib.Omega.{arith}
 use lib.ListN.{get_or, length, take, get_or-eq_default}
 use lib.Seq.{take_at}
-use Rattle.std.specs.Prelude.{Ok, Err}
+use Rattle.std.specs.Prelude.{Ok, Err, Result}
 use Rattle.algebra.specs.Series.{C}
 use Rattle.algebra.specs.Degree.{size}
 use Rattle.algebra.specs.Euclid.{done, euclid}
@@ -39,7 +39,6 @@ use Rattle.euclid_round.proofs.Significant.{significant-series}
 use Rattle.euclid_round.proofs.Written.{write-is}
 use Rattle.list_gcd.specs.declared.Gcd.{Gcd}
 use Rattle.list_gcd.specs.declared.Rounds.{Rounds}
-use Rattle.list_gcd.specs.declared.Gcd.TheVariants as G
 use Rattle.list_gcd.specs.Calls.{gcd_reply, gcd_values, GreatestSo, Greatest}
 use Rattle.list_gcd.specs.Quotients.{Trail}
 use Rattle.list_gcd.specs.Internal.{Ready, Buffer, Holds, euclid_on, Ends, monic_list, monic_words, LastOf, TrailOf, gcd_done}
@@ -50,11 +49,11 @@ module _ (F : PrimeField) where
 
   infixl 70 ◌*ˢ◌
   pub gcd-done : (f g : List ℕ) (w : NaiveDegree) (c : Power) (rounds : Rounds) → w.0 ≡ naive_degree (gcd_of F f g)
-      → c.0 ≡ common_power (f ∷ g ∷ []) → rounds.0 ≡ rounds_of F f g → G.Done w c rounds ≡ gcd_done F f g
+      → c.0 ≡ common_power (f ∷ g ∷ []) → rounds.0 ≡ rounds_of F f g → Ok (record { degree = w; power = c; rounds = rounds }) ≡ gcd_done F f g
   unfolding gcd_done
   gcd-done f g w c rounds ew ec er =
-      ap (λ n. G.Done (record { 0 = n }) c rounds) ew
-      ∙ ap₂ (λ n m. G.Done (record { 0 = naive_degree (gcd_of F f g) }) (record { 0 = n }) (record { 0 = m })) ec er
+      ap (λ n. Ok (record { degree = record { 0 = n }; power = c; rounds = rounds })) ew
+      ∙ ap₂ (λ n m. Ok (record { degree = record { 0 = naive_degree (gcd_of F f g) }; power = record { 0 = n }; rounds = record { 0 = m } })) ec er
 
   module _ (n : ℕ) (f g : List ℕ) (r : Ready F n f g) where
     -- the answer has the promised property
@@ -186,13 +185,13 @@ module _ (F : PrimeField) where
 
 -- what a call answers, and what it leaves in the slice of h
 pub refused : (F : PrimeField) (n : ℕ) (f g h : List ℕ) {found : Outcome} {why : Refusal} → found ≡ Err why
-    → (gcd_reply (G.Refused why) ≡ reply found (gcd_values F f g)) × (h ≡ written found (padded n (gcd_of F f g)) h)
+    → (gcd_reply (Err why) ≡ reply found (gcd_values F f g)) × (h ≡ written found (padded n (gcd_of F f g)) h)
 refused F n f g h e = (
   sym (ap (λ o. reply o (gcd_values F f g)) e),
   kept (padded n (gcd_of F f g)) h e,
 )
 
-pub answered : (F : PrimeField) (n : ℕ) (f g h : List ℕ) {found : Outcome} {r : Gcd} {h' : List ℕ} → found ≡ Ok tt → Ready F n f g
+pub answered : (F : PrimeField) (n : ℕ) (f g h : List ℕ) {found : Outcome} {r : Result Gcd Refusal} {h' : List ℕ} → found ≡ Ok tt → Ready F n f g
     → r ≡ gcd_done F f g → h' ≡ padded n (gcd_of F f g)
     → (gcd_reply r ≡ reply found (gcd_values F f g)) × (h' ≡ written found (padded n (gcd_of F f g)) h) × Greatest F f g h' r
 unfolding gcd_done gcd_values

@@ -8,7 +8,8 @@
 --                      h being the first w + 1 words of the slice; the slice holds 1 at w and 0 after it; rounds is at most the extent of
 --                      f plus 1, and 0 where f is zero
 -- Assumes nothing.
-use Rattle.std.specs.Prelude.{◌≡◌, not, List, [], ◌∷◌, ◌++◌, ℕ, suc, ◌+◌, ◌≤◌, ◌<◌, eqb, get_or, length, take}
+use Rattle.refusal.specs.declared.Refusal.{Refusal}
+use Rattle.std.specs.Prelude.{◌≡◌, not, List, [], ◌∷◌, ◌++◌, ℕ, suc, ◌+◌, ◌≤◌, ◌<◌, eqb, get_or, length, take, Ok, Err, Result}
 use Rattle.algebra.specs.OneMinusT.{⟨1-t⟩^}
 use Rattle.algebra.specs.PrimeField.{PrimeField}
 use Rattle.refusal.specs.Refusal.{Reply, reply, written, number}
@@ -22,11 +23,10 @@ use Rattle.lists.specs.Refused.{list_refusals}
 use Rattle.euclid_theory.specs.Gcd.{common_power, gcd_of, rounds_of}
 use Rattle.euclid_theory.specs.Greatest.{IsGreatest}
 use Rattle.list_gcd.specs.declared.Gcd.{Gcd}
-use Rattle.list_gcd.specs.declared.Gcd.TheVariants.{Done, Refused}
 
-abbrev pub gcd_reply : Gcd → Reply
-gcd_reply (Done w c rounds) = record { number = 0; values = w.0 ∷ c.0 ∷ rounds.0 ∷ [] }
-gcd_reply (Refused why) = record { number = number why; values = [] }
+abbrev pub gcd_reply : Result Gcd Refusal → Reply
+gcd_reply (Ok gcd) = record { number = 0; values = gcd.degree.0 ∷ gcd.power.0 ∷ gcd.rounds.0 ∷ [] }
+gcd_reply (Err why) = record { number = number why; values = [] }
 
 unfoldable pub gcd_values : PrimeField → (f g : List ℕ) → List ℕ
 gcd_values F f g = naive_degree (gcd_of F f g) ∷ common_power (f ∷ g ∷ []) ∷ rounds_of F f g ∷ []
@@ -52,6 +52,6 @@ pub record GreatestSo (F : PrimeField) (f g slice : List ℕ) (w c rounds : ℕ)
   pub few : rounds ≤ significant f
 
 -- of an answer that is no refusal
-abbrev pub Greatest : PrimeField → (f g slice : List ℕ) → Gcd → Type 0
-Greatest F f g slice (Done w c rounds) = GreatestSo F f g slice w.0 c.0 rounds.0
-Greatest F f g slice (Refused why) = Unit {0}
+abbrev pub Greatest : PrimeField → (f g slice : List ℕ) → Result Gcd Refusal → Type 0
+Greatest F f g slice (Ok gcd) = GreatestSo F f g slice gcd.degree.0 gcd.power.0 gcd.rounds.0
+Greatest F f g slice (Err why) = Unit {0}

@@ -16,7 +16,8 @@
 --     Numbers f g          w, c, the number of rounds, and 1 over the last coefficient of the last x
 --     gcd_done f g         the answer of the GCD of f and g: w, c and rounds
 -- Assumes nothing.
-use Rattle.std.specs.Prelude.{◌≡◌, List, [], ◌∷◌, ◌++◌, ℕ, suc, ◌+◌, ◌*◌, ◌≤◌, ◌<◌, get_or, length}
+use Rattle.refusal.specs.declared.Refusal.{Refusal}
+use Rattle.std.specs.Prelude.{◌≡◌, List, [], ◌∷◌, ◌++◌, ℕ, suc, ◌+◌, ◌*◌, ◌≤◌, ◌<◌, get_or, length, Ok, Result}
 use Rattle.algebra.specs.Ring.{CommRing}
 use Rattle.algebra.specs.Degree.{size}
 use Rattle.algebra.specs.Euclid.{Euclid, done, euclid}
@@ -30,7 +31,6 @@ use Rattle.euclid_theory.specs.Gcd.{room, euclid_of, gcd_of, rounds_of, common_p
 use Rattle.euclid_round.specs.Round.{round_steps, remaining, quotient_words}
 use Rattle.list_gcd.specs.Quotients.{Trail}
 use Rattle.list_gcd.specs.declared.Gcd.{Gcd}
-use Rattle.list_gcd.specs.declared.Gcd.TheVariants as G
 
 pub record Zeros (n : ℕ) (x y kept : List ℕ) : Type 0 where
   pub size_x : length x ≡ n
@@ -104,6 +104,6 @@ module _ (F : PrimeField) where
     pub rounds_are : rounds ≡ rounds_of F f g
     pub inverse-is : residue F inverse ≡ top_inverse F.series (scalar_field F) (room f g) (euclid_of F f g).last
 
-  unfoldable pub gcd_done : (f g : List ℕ) → Gcd
+  unfoldable pub gcd_done : (f g : List ℕ) → Result Gcd Refusal
   gcd_done f g =
-      G.Done (record { 0 = naive_degree (gcd_of F f g) }) (record { 0 = common_power (f ∷ g ∷ []) }) (record { 0 = rounds_of F f g })
+      Ok (record { degree = record { 0 = naive_degree (gcd_of F f g) }; power = record { 0 = common_power (f ∷ g ∷ []) }; rounds = record { 0 = rounds_of F f g } })

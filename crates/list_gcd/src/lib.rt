@@ -17,7 +17,7 @@ ghost use Rattle.list_gcd.specs.declared.Gcd.TheVariants.{Done};
 
 use euclid_round::Shortened;
 use lists::{NaiveDegree, Power};
-use refusal::{Outcome, Refusal};
+use refusal::Refusal;
 
 // The number of Euclid's rounds.
 #[derive(Clone, Copy)]
@@ -31,16 +31,13 @@ pub enum Gcd {
 }
 
 // The GCD of f and g over a field: h goes to a slice of as many words as the longest list has, zeros after word w.
-pub fn gcd_over(field: u8, f: &[u16], g: &[u16], h: &mut [u16]) -> Gcd
+pub fn gcd_over(field: u8, f: &[u16], g: &[u16], h: &mut [u16]) -> Result<Gcd, Refusal>
     ensures answer { gcd_reply result ≡ gcd_answer field f.now g.now h.old }
     ensures writes { h.new ≡ gcd_written field f.now g.now h.old }
     ensures greatest { Greatest (field_at field) f.now g.now h.new result }
 {
-    let answer = judge_gcd(field, f, g, h);
-    match answer {
-        Outcome::Refused(why) => Gcd::Refused(why),
-        Outcome::Done => gcd_into(field, f, g, h),
-    }
+    judge_gcd(field, f, g, h)?;
+    gcd_into(field, f, g, h)
 }
 
 // Whether f and g are both zero.
@@ -54,19 +51,17 @@ fn both_zero(f: &[u16], g: &[u16]) -> bool
 }
 
 // What the GCD refuses.
-pub fn judge_gcd(field: u8, f: &[u16], g: &[u16], h: &[u16]) -> Outcome
+pub fn judge_gcd(field: u8, f: &[u16], g: &[u16], h: &[u16]) -> Result<(), Refusal>
     ensures { result ≡ lowest (gcd_rows (modulus field) (longest field) f.now g.now h.now) }
 {
-    if let Outcome::Refused(why) = lists::judge_lists(field, f, g) {
-        return Outcome::Refused(why);
-    }
+    lists::judge_lists(field, f, g)?;
     if both_zero(f, g) {
-        return Outcome::Refused(Refusal::AllZero);
+        return Err(Refusal::AllZero);
     }
     if h.len() != field::longest_of(field) {
-        return Outcome::Refused(Refusal::Misfit);
+        return Err(Refusal::Misfit);
     }
-    Outcome::Done
+    Ok(())
 }
 
 // The least power among those of f and g that are not zero; 0 where both are.
@@ -274,7 +269,7 @@ pub fn gcd_in(
     y: &mut [u16],
     kept: &mut [u16],
     h: &mut [u16],
-) -> Found
+) -> Result<Search, Refusal>
     requires tables { Tables (field_at field) (length x.old) whole.now part.now }
     requires ready { Ready (field_at field) (length x.old) f.now g.now × (length x.old ≤ longest field) }
     requires zeros { Zeros (length x.old) x.old y.old kept.old }
@@ -296,10 +291,10 @@ pub fn gcd_in(
 }
 
 // The answer of a GCD that was found.
-pub fn answer_of(found: Found) -> Gcd
+pub fn answer_of(found: Result<Search, Refusal>) -> Result<Gcd, Refusal>
     ensures { result ≡ Done (record { 0 = found.degree }) (record { 0 = found.power }) (record { 0 = found.rounds }) }
 {
-    Gcd::Done(
+    Ok(
         NaiveDegree(found.degree),
         Power(found.power),
         Rounds(found.rounds),
@@ -319,7 +314,7 @@ pub fn buffer_words(field: u8, f: &[u16], g: &[u16]) -> usize
 
 // The GCD of short lists, where nothing is refused, in buffers of n words, with small tables and small arrays: tables are copied, and arrays are
 // filled with zeros.
-fn gcd_few(field: u8, f: &[u16], g: &[u16], n: usize, h: &mut [u16]) -> Gcd
+fn gcd_few(field: u8, f: &[u16], g: &[u16], n: usize, h: &mut [u16]) -> Result<Gcd, Refusal>
     requires ready { Ready (field_at field) n f.now g.now × (n ≤ few_words) }
     requires h_len { length h.old ≡ longest field }
     ensures value { result ≡ gcd_done (field_at field) f.now g.now }
@@ -347,7 +342,7 @@ fn gcd_few(field: u8, f: &[u16], g: &[u16], n: usize, h: &mut [u16]) -> Gcd
 }
 
 // The GCD of any lists, where nothing is refused, in buffers of n words.
-fn gcd_many(field: u8, f: &[u16], g: &[u16], n: usize, h: &mut [u16]) -> Gcd
+fn gcd_many(field: u8, f: &[u16], g: &[u16], n: usize, h: &mut [u16]) -> Result<Gcd, Refusal>
     requires ready { Ready (field_at field) n f.now g.now × (n ≤ longest field) }
     requires h_len { length h.old ≡ longest field }
     ensures value { result ≡ gcd_done (field_at field) f.now g.now }
@@ -375,7 +370,7 @@ fn gcd_many(field: u8, f: &[u16], g: &[u16], n: usize, h: &mut [u16]) -> Gcd
 }
 
 // The same with tables and arrays of the size that the longer list needs.
-fn gcd_into(field: u8, f: &[u16], g: &[u16], h: &mut [u16]) -> Gcd
+fn gcd_into(field: u8, f: &[u16], g: &[u16], h: &mut [u16]) -> Result<Gcd, Refusal>
     requires ready { Ready (field_at field) (longest field) f.now g.now }
     requires h_len { length h.old ≡ longest field }
     ensures value { result ≡ gcd_done (field_at field) f.now g.now }

@@ -1,7 +1,7 @@
 // Division of lists in the usual sense: g = q·f + r as polynomials in t, where r is 0 or has a smaller degree in t than f.
 #![tactic(auto)]
 
-ghost use Rattle.std.specs.Prelude.{◌≡◌, true, ◌++◌, ◌≤◌, length, take, drop};
+ghost use Rattle.std.specs.Prelude.{Ok, ◌≡◌, true, ◌++◌, ◌≤◌, length, take, drop};
 ghost use Rattle.refusal.specs.Limits.{max_words};
 ghost use Rattle.refusal.specs.Refusal.{outcome_reply};
 ghost use Rattle.refusal.specs.Lowest.{lowest};
@@ -14,7 +14,7 @@ ghost use Rattle.ordinary_theory.specs.Ordinary.{ordinary_quotient, ordinary_rem
 ghost use Rattle.list_ordinary_division.specs.Calls.{ordinary_rows, ordinary_answer, ordinary_quotient_written, ordinary_remainder_written};
 ghost use Rattle.list_ordinary_division.specs.Internal.{OrdinaryFits, Buffers};
 
-use refusal::{Outcome, Refusal};
+use refusal::Refusal;
 
 // g divided by f in the usual sense over a field: the quotient goes to q, the remainder to r, both of g's own naive degree.
 pub fn divide_ordinary_over(
@@ -23,39 +23,32 @@ pub fn divide_ordinary_over(
     f: &[u16],
     q: &mut [u16],
     r: &mut [u16],
-) -> Outcome
+) -> Result<(), Refusal>
     ensures answer { outcome_reply result ≡ ordinary_answer field g.now f.now q.old r.old }
     ensures quotient { q.new ≡ ordinary_quotient_written field g.now f.now q.old r.old }
     ensures remainder { r.new ≡ ordinary_remainder_written field g.now f.now q.old r.old }
-    ensures property { result ≡ Outcome.Done → OrdinarySo (field_at field) g.now f.now q.new r.new }
+    ensures property { result ≡ Ok tt → OrdinarySo (field_at field) g.now f.now q.new r.new }
 {
-    let answer = judge_ordinary(field, g, f, q, r);
-    match answer {
-        Outcome::Done => {
-            divide_into(field, g, f, q, r);
-        }
-        Outcome::Refused(_) => {}
-    }
-    answer
+    judge_ordinary(field, g, f, q, r)?;
+    divide_into(field, g, f, q, r);
+    Ok(())
 }
 
 // What the division refuses.
-fn judge_ordinary(field: u8, g: &[u16], f: &[u16], q: &[u16], r: &[u16]) -> Outcome
+fn judge_ordinary(field: u8, g: &[u16], f: &[u16], q: &[u16], r: &[u16]) -> Result<(), Refusal>
     ensures { result ≡ lowest (ordinary_rows (modulus field) (longest field) g.now f.now q.now r.now) }
 {
-    if let Outcome::Refused(why) = lists::judge_lists(field, g, f) {
-        return Outcome::Refused(why);
-    }
+    lists::judge_lists(field, g, f)?;
     if lists::significant_words(f) == 0 {
-        return Outcome::Refused(Refusal::AllZero);
+        return Err(Refusal::AllZero);
     }
     if q.len() != g.len() {
-        return Outcome::Refused(Refusal::Misfit);
+        return Err(Refusal::Misfit);
     }
     if r.len() != g.len() {
-        return Outcome::Refused(Refusal::Misfit);
+        return Err(Refusal::Misfit);
     }
-    Outcome::Done
+    Ok(())
 }
 
 // The powers of t of a list, at the front of a buffer.

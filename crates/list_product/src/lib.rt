@@ -12,72 +12,58 @@ ghost use Rattle.list_product.specs.Calls.{product_rows, raise_rows, product_ans
 ghost use Rattle.list_product.specs.Internal.{ProductFits, RaiseFits};
 
 use lists::NaiveDegree;
-use refusal::{Outcome, Refusal};
+use refusal::Refusal;
 
 // The product over a field.
-pub fn product_over(field: u8, f: &[u16], g: &[u16], out: &mut [u16]) -> Outcome
+pub fn product_over(field: u8, f: &[u16], g: &[u16], out: &mut [u16]) -> Result<(), Refusal>
     ensures answer { outcome_reply result ≡ product_answer field f.now g.now out.old }
     ensures writes { out.new ≡ product_written field f.now g.now out.old }
 {
-    let answer = judge_product(field, f, g, out);
-    match answer {
-        Outcome::Done => {
-            product_into(field, f, g, out);
-        }
-        Outcome::Refused(_) => {}
-    }
-    answer
+    judge_product(field, f, g, out)?;
+    product_into(field, f, g, out);
+    Ok(())
 }
 
 // The raise over a field.
-pub fn raise_over(field: u8, f: &[u16], to: NaiveDegree, out: &mut [u16]) -> Outcome
+pub fn raise_over(field: u8, f: &[u16], to: NaiveDegree, out: &mut [u16]) -> Result<(), Refusal>
     ensures answer { outcome_reply result ≡ raise_answer field f.now to.0 out.old }
     ensures writes { out.new ≡ raise_written field f.now to.0 out.old }
 {
-    let answer = judge_raise(field, f, to, out);
-    match answer {
-        Outcome::Done => {
-            raise_into(field, f, out);
-        }
-        Outcome::Refused(_) => {}
-    }
-    answer
+    judge_raise(field, f, to, out)?;
+    raise_into(field, f, out);
+    Ok(())
 }
 
 // What the product refuses.
-fn judge_product(field: u8, f: &[u16], g: &[u16], out: &[u16]) -> Outcome
+fn judge_product(field: u8, f: &[u16], g: &[u16], out: &[u16]) -> Result<(), Refusal>
     ensures { result ≡ lowest (product_rows (modulus field) (longest field) f.now g.now out.now) }
 {
-    if let Outcome::Refused(why) = lists::judge_lists(field, f, g) {
-        return Outcome::Refused(why);
-    }
+    lists::judge_lists(field, f, g)?;
     if field::longest_of(field) + 1 < f.len() + g.len() {
-        return Outcome::Refused(Refusal::Over);
+        return Err(Refusal::Over);
     }
     if out.len() + 1 != f.len() + g.len() {
-        return Outcome::Refused(Refusal::Misfit);
+        return Err(Refusal::Misfit);
     }
-    Outcome::Done
+    Ok(())
 }
 
 // What a raise refuses.
-fn judge_raise(field: u8, f: &[u16], to: NaiveDegree, out: &[u16]) -> Outcome
+fn judge_raise(field: u8, f: &[u16], to: NaiveDegree, out: &[u16]) -> Result<(), Refusal>
     ensures { result ≡ lowest (raise_rows (modulus field) (longest field) f.now to.0 out.now) }
 {
     let target = to.0;
-    if let Outcome::Refused(why) = lists::judge_list(field, f) {
-        return Outcome::Refused(why);
-    }
+    lists::judge_list(field, f)?;
     if field::longest_of(field) <= target {
-        return Outcome::Refused(Refusal::Over);
+        return Err(Refusal::Over);
     }
     if target + 1 < f.len() {
-        return Outcome::Refused(Refusal::Backwards);
+        return Err(Refusal::Backwards);
     }
     if out.len() != target + 1 {
-        return Outcome::Refused(Refusal::Misfit);
+        return Err(Refusal::Misfit);
     }
-    Outcome::Done
+    Ok(())
 }
 
 // The scaled forms of f and g in a and b, their product in s, and back into out.

@@ -9,10 +9,10 @@ ghost use Rattle.list_sum.specs.Calls.{sum_rows, difference_written, sum_answer,
 ghost use Rattle.list_sum.specs.Internal.{combined_written, SumFits, combined_words, combined};
 
 use lists::NaiveDegree;
-use refusal::{Outcome, Refusal};
+use refusal::Refusal;
 
 // The sum over a field.
-pub fn sum_over(field: u8, f: &[u16], g: &[u16], out: &mut [u16]) -> Outcome
+pub fn sum_over(field: u8, f: &[u16], g: &[u16], out: &mut [u16]) -> Result<(), Refusal>
     ensures answer { outcome_reply result ≡ sum_answer field f.now g.now out.old }
     ensures writes { out.new ≡ sum_written field f.now g.now out.old }
 {
@@ -20,7 +20,7 @@ pub fn sum_over(field: u8, f: &[u16], g: &[u16], out: &mut [u16]) -> Outcome
 }
 
 // The difference over a field.
-pub fn difference_over(field: u8, f: &[u16], g: &[u16], out: &mut [u16]) -> Outcome
+pub fn difference_over(field: u8, f: &[u16], g: &[u16], out: &mut [u16]) -> Result<(), Refusal>
     ensures answer { outcome_reply result ≡ sum_answer field f.now g.now out.old }
     ensures writes { out.new ≡ difference_written field f.now g.now out.old }
 {
@@ -28,31 +28,24 @@ pub fn difference_over(field: u8, f: &[u16], g: &[u16], out: &mut [u16]) -> Outc
 }
 
 // f plus g, or f less g.
-fn combine(field: u8, f: &[u16], g: &[u16], minus: bool, out: &mut [u16]) -> Outcome
+fn combine(field: u8, f: &[u16], g: &[u16], minus: bool, out: &mut [u16]) -> Result<(), Refusal>
     ensures answer { outcome_reply result ≡ sum_answer field f.now g.now out.old }
     ensures writes { out.new ≡ combined_written field minus f.now g.now out.old }
 {
-    let answer = judge_sum(field, f, g, out);
-    match answer {
-        Outcome::Done => {
-            combine_into(field, f, g, minus, out);
-        }
-        Outcome::Refused(_) => {}
-    }
-    answer
+    judge_sum(field, f, g, out)?;
+    combine_into(field, f, g, minus, out);
+    Ok(())
 }
 
 // What a sum and a difference refuse.
-fn judge_sum(field: u8, f: &[u16], g: &[u16], out: &[u16]) -> Outcome
+fn judge_sum(field: u8, f: &[u16], g: &[u16], out: &[u16]) -> Result<(), Refusal>
     ensures { result ≡ lowest (sum_rows (modulus field) (longest field) f.now g.now out.now) }
 {
-    if let Outcome::Refused(of_lists) = lists::judge_lists(field, f, g) {
-        return Outcome::Refused(of_lists);
-    }
+    lists::judge_lists(field, f, g)?;
     if out.len() != words::larger(f.len(), g.len()) {
-        return Outcome::Refused(Refusal::Misfit);
+        return Err(Refusal::Misfit);
     }
-    Outcome::Done
+    Ok(())
 }
 
 // a plus b, or a less b.

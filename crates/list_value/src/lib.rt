@@ -12,30 +12,25 @@ ghost use Rattle.field_tables.specs.Factorials.{few_words, TablesFor};
 ghost use Rattle.list_value.specs.Calls.{evaluate_rows, evaluate_answer};
 ghost use Rattle.list_value.specs.Internal.{homogeneous_of, power_of, powers_of, weights_of, most_of_product, most_of_group, products_of, groups, Terms};
 
-use field::Word;
-use refusal::{Outcome, Refusal};
+use refusal::Refusal;
 
 // The same over a field.
-pub fn evaluate_over(field: u8, f: &[u16], x: u16) -> Word
+pub fn evaluate_over(field: u8, f: &[u16], x: u16) -> Result<u16, Refusal>
     ensures answer { word_reply result ≡ evaluate_answer field f.now x }
 {
-    if let Outcome::Refused(why) = judge_evaluate(field, f, x) {
-        return Word::Refused(why);
-    }
-    Word::Done(value_at(field, f, x))
+    judge_evaluate(field, f, x)?;
+    Ok(value_at(field, f, x))
 }
 
 // What an evaluation refuses.
-fn judge_evaluate(field: u8, f: &[u16], x: u16) -> Outcome
+fn judge_evaluate(field: u8, f: &[u16], x: u16) -> Result<(), Refusal>
     ensures { result ≡ lowest (evaluate_rows (modulus field) (longest field) f.now x) }
 {
-    if let Outcome::Refused(why) = lists::judge_list(field, f) {
-        return Outcome::Refused(why);
-    }
+    lists::judge_list(field, f)?;
     if field::modulus_of(field) <= x {
-        return Outcome::Refused(Refusal::LooseWord);
+        return Err(Refusal::LooseWord);
     }
-    Outcome::Done
+    Ok(())
 }
 
 // a·b + c·d, reduced once.

@@ -7,7 +7,7 @@ ghost use Rattle.field.specs.Fields.{modulus, longest};
 ghost use Rattle.lists.specs.Degrees.{naive_degree, significant, extent, power, searched};
 ghost use Rattle.lists.specs.Refused.{wrong_length, has_loose, list_refusals};
 
-use refusal::{Outcome, Refusal};
+use refusal::Refusal;
 
 // The number of words of a list less 1.
 #[derive(Clone, Copy)]
@@ -118,33 +118,33 @@ pub fn power_in(list: &[u16]) -> Power
 }
 
 // What a call refuses in its one list.
-pub fn judge_list(field: u8, list: &[u16]) -> Outcome
+pub fn judge_list(field: u8, list: &[u16]) -> Result<(), Refusal>
     ensures { result ≡ lowest (list_refusals (modulus field) (longest field) (list.now ∷ [])) }
 {
     if wrong_length(field, list) {
-        return Outcome::Refused(Refusal::Length);
+        return Err(Refusal::Length);
     }
     if has_loose(field, list) {
-        return Outcome::Refused(Refusal::LooseWord);
+        return Err(Refusal::LooseWord);
     }
-    Outcome::Done
+    Ok(())
 }
 
 // What a call refuses in its two lists.
-pub fn judge_lists(field: u8, f: &[u16], g: &[u16]) -> Outcome
+pub fn judge_lists(field: u8, f: &[u16], g: &[u16]) -> Result<(), Refusal>
     ensures { result ≡ lowest (list_refusals (modulus field) (longest field) (f.now ∷ g.now ∷ [])) }
 {
     if wrong_length(field, f) {
-        return Outcome::Refused(Refusal::Length);
+        return Err(Refusal::Length);
     }
     if wrong_length(field, g) {
-        return Outcome::Refused(Refusal::Length);
+        return Err(Refusal::Length);
     }
     if has_loose(field, f) {
-        return Outcome::Refused(Refusal::LooseWord);
+        return Err(Refusal::LooseWord);
     }
     if has_loose(field, g) {
-        return Outcome::Refused(Refusal::LooseWord);
+        return Err(Refusal::LooseWord);
     }
-    Outcome::Done
+    Ok(())
 }

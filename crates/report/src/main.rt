@@ -2,7 +2,6 @@
 // run. Messages go to standard error, so that nothing but a report is on standard output.
 #![tactic(auto)]
 
-use report_text::Text;
 
 // One byte more than the largest album has: a longer input is read as longer, and so refused.
 const ROOM: usize = refusal::MAX_BYTES + 1;
@@ -15,7 +14,7 @@ fn main(rt: HostRuntime) {
     let mut album = [0u8; ROOM];
     let mut text = [0u8; report_text::MAX_TEXT];
     let n = streams::read_full(&mut rt.stdin(), &mut album);
-    if let Text::Done(k) = report_text::report_over(0, &album[..n], &mut text) {
+    if let Ok(k) = report_text::report_over(0, &album[..n], &mut text) {
         deliver(&rt, &text[..k]);
     }
 }

@@ -9,6 +9,7 @@ use native.Mathlib.Decide.{dec_lt}
 use native.Mathlib.Omega.{arith}
 use lib.ListN.{length, get_or, take, get_or-eq_default}
 use lib.Seq.{take_at}
+use Rattle.std.specs.Prelude.{Ok, Err, Result}
 use Rattle.algebra.specs.PrimeField.{PrimeField}
 use Rattle.refusal.specs.Limits.{max_words}
 use Rattle.refusal.specs.Refusal.{reply, written}
@@ -27,7 +28,6 @@ use Rattle.album_theory.specs.Albums.{album_gcd}
 use Rattle.album_layout.specs.Layout.{lists_of}
 use Rattle.album_layout.specs.Internal.{Passed}
 use Rattle.list_gcd.specs.declared.Gcd.{Gcd}
-use Rattle.list_gcd.specs.declared.Gcd.TheVariants as G
 use Rattle.list_gcd.specs.declared.Rounds.{Rounds}
 use Rattle.list_gcd.specs.Calls.{gcd_reply}
 use Rattle.album_gcd.specs.Calls.{all_zero, album_gcd_rows, album_gcd_values, AlbumGreatestSo, AlbumGreatest}
@@ -67,7 +67,7 @@ module _ (F : PrimeField) (most : ℕ) (s h : List ℕ) (e : Passed F.p s) (q : 
   reply-done z = ap (λ o. reply o (album_gcd_values F (lists_of s))) (sym (judged-done F.p most s h e z q))
 
   -- a refusal says that all lists are zero
-  module _ (why : Refusal) (a : gcd_reply (G.Refused why) ≡ reply (lowest (album_gcd_rows F.p most s h)) (album_gcd_values F (lists_of s))) where
+  module _ (why : Refusal) (a : gcd_reply (Err why) ≡ reply (lowest (album_gcd_rows F.p most s h)) (album_gcd_values F (lists_of s))) where
     pub refused-zero : all_zero (lists_of s) ≡ true
     refused-zero = go (all_zero (lists_of s)) refl
       where
@@ -81,7 +81,7 @@ module _ (F : PrimeField) (most : ℕ) (s h : List ℕ) (e : Passed F.p s) (q : 
     refused-line = ap (λ n. line (⟨refused⟩ ∷ decimal n ∷ [])) (ap (λ r. r.number) (a ∙ reply-zero refused-zero))
 
   module _ {h' : List ℕ} (w : NaiveDegree) (c : Power) (k : Rounds)
-      (a : gcd_reply (G.Done w c k) ≡ reply (lowest (album_gcd_rows F.p most s h)) (album_gcd_values F (lists_of s)))
+      (a : gcd_reply (Ok (record { degree = w; power = c; rounds = k })) ≡ reply (lowest (album_gcd_rows F.p most s h)) (album_gcd_values F (lists_of s)))
       (b : h' ≡ written (lowest (album_gcd_rows F.p most s h)) (padded most (album_gcd F (lists_of s)).list) h)
       (g : AlbumGreatestSo F (lists_of s) h' w.0 c.0) where
     done-some : all_zero (lists_of s) ≡ false
@@ -125,8 +125,8 @@ module _ (F : PrimeField) (most : ℕ) (s h : List ℕ) (e : Passed F.p s) (q : 
         }
 
 -- the same of any answer
-pub answered : (F : PrimeField) (most : ℕ) (s h : List ℕ) → Passed F.p s → length h ≡ most → {h' : List ℕ} {w : NaiveDegree} {c : Power} {k : Rounds} {r : Gcd}
-    → r ≡ G.Done w c k → gcd_reply r ≡ reply (lowest (album_gcd_rows F.p most s h)) (album_gcd_values F (lists_of s))
+pub answered : (F : PrimeField) (most : ℕ) (s h : List ℕ) → Passed F.p s → length h ≡ most → {h' : List ℕ} {w : NaiveDegree} {c : Power} {k : Rounds} {r : Result Gcd Refusal}
+    → r ≡ Ok (record { degree = w; power = c; rounds = k }) → gcd_reply r ≡ reply (lowest (album_gcd_rows F.p most s h)) (album_gcd_values F (lists_of s))
     → h' ≡ written (lowest (album_gcd_rows F.p most s h)) (padded most (album_gcd F (lists_of s)).list) h
     → AlbumGreatest F (lists_of s) h' r → Answer (lists_of s) (album_gcd F (lists_of s)).list h' w.0 c.0
 answered F most s h e q {h'} {w} {c} {k} {r} i a b g =
@@ -147,7 +147,7 @@ module _ (F : PrimeField) (lists : List (List ℕ)) where
   unfolding sound_report answer_lines
   sound-lines = refl
 
-pub refused-answer : (F : PrimeField) (most : ℕ) (s h : List ℕ) → Passed F.p s → length h ≡ most → {why : Refusal} {r : Gcd} → r ≡ G.Refused why
+pub refused-answer : (F : PrimeField) (most : ℕ) (s h : List ℕ) → Passed F.p s → length h ≡ most → {why : Refusal} {r : Result Gcd Refusal} → r ≡ Err why
     → gcd_reply r ≡ reply (lowest (album_gcd_rows F.p most s h)) (album_gcd_values F (lists_of s)) → refused_line why ≡ answer_lines F (lists_of s)
 refused-answer F most s h e q {why} {r} i a =
     let b = ap gcd_reply (sym i) ∙ a in

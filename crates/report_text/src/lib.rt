@@ -14,32 +14,25 @@ ghost use Rattle.report_text.specs.Internal.{Room, Put, line_end, max_answer, an
 
 use list_gcd::Gcd;
 use lists::Power;
-use refusal::{Outcome, Refusal};
+use refusal::Refusal;
 
 // The bytes of the result slice, eight for each word of the longest list: a word of h takes at most six, five digits and a space, and the
 // other lines take less than two for each word.
 pub const MAX_TEXT: usize = 8 * refusal::MAX_WORDS;
 
-// The answer of writing a report: the number of its bytes.
-#[derive(Clone, Copy)]
-pub enum Text {
-    Done(usize),
-    Refused(Refusal),
-}
-
 // The report on an album, zeros after it; the program's is that over field 0.
-pub fn report_over(field: u8, album: &[u8], out: &mut [u8]) -> Text
+pub fn report_over(field: u8, album: &[u8], out: &mut [u8]) -> Result<usize, Refusal>
     ensures answer { text_reply result ≡ report_answer field album.now out.old }
     ensures writes { out.new ≡ report_written field album.now out.old }
 {
     if out.len() != MAX_TEXT {
-        return Text::Refused(Refusal::Misfit);
+        return Err(Refusal::Misfit);
     }
     let mut list = [0u16; refusal::MAX_WORDS];
     let mut h = [0u16; refusal::MAX_WORDS];
     let n = report_between(field, album, &mut list, &mut h, out);
     clear(n, out);
-    Text::Done(n)
+    Ok(n)
 }
 
 // Zeros from a place on.
@@ -69,8 +62,8 @@ fn report_in(field: u8, album: &[u8], list: &mut [u16], h: &mut [u16], out: &mut
     ensures { Put (report_of (modulus field) (field_at field) album.now) 0 out.old out.new result }
 {
     match album_layout::judge_album(field, album) {
-        Outcome::Refused(why) => put_refused(why, 0, out),
-        Outcome::Done => put_sound(field, album, list, h, out),
+        Err(why) => put_refused(why, 0, out),
+        Ok(()) => put_sound(field, album, list, h, out),
     }
 }
 
@@ -92,8 +85,8 @@ fn put_answer(field: u8, album: &[u8], h: &mut [u16], at: usize, out: &mut [u8])
     ensures { Put (answer_lines (field_at field) (lists_of album.now)) at out.old out.new result }
 {
     match album_gcd::album_gcd_over(field, album, h) {
-        Gcd::Done(w, c, _) => put_gcd(field, &h[..w.0 + 1], c, at, out),
-        Gcd::Refused(why) => put_refused(why, at, out),
+        Ok(w, c, _) => put_gcd(field, &h[..w.0 + 1], c, at, out),
+        Err(why) => put_refused(why, at, out),
     }
 }
 
@@ -155,7 +148,7 @@ pub fn put_refused(why: Refusal, at: usize, out: &mut [u8]) -> usize
     requires { Room (refused_line why) at out.old }
     ensures { Put (refused_line why) at out.old out.new result }
 {
-    put_named(b"refused", refusal::number_of(why) as usize, at, out)
+    put_named(b"refused", u8::from(why) as usize, at, out)
 }
 
 // The extent and the power of a list, `-` for each where it is zero, and the end of its line.

@@ -26,11 +26,9 @@ ghost use Rattle.album_gcd.specs.Calls.{album_gcd_answer, album_gcd_written};
 ghost use Rattle.line_values.specs.Calls.{line_answer, line_written};
 ghost use Rattle.test_calls.specs.Lent.{fitted};
 
+use refusal::Refusal;
 use album_contents::Entry;
-use album_reader::Listed;
-use album_writer::Written;
-use field::Word;
-use list_extent::Found;
+use list_extent::Search;
 use list_gcd::Gcd;
 use lists::NaiveDegree;
 
@@ -296,20 +294,20 @@ pub extern "C" fn test_gcd_of_album(album: &[u8], h: &mut [u16], answer: &mut [u
     note_gcd(album_calls::gcd_of_album(album, h), answer)
 }
 
-fn note_word(found: Word, answer: &mut [usize]) -> u8
+fn note_word(found: Result<u16, Refusal>, answer: &mut [usize]) -> u8
     ensures number { result ≡ (word_reply found).number }
     ensures values { answer.new ≡ fitted (word_reply found).values answer.old }
 {
     match found {
-        Word::Done(word) => {
+        Ok(word) => {
             note_one(word as usize, answer);
             COMPLETED
         }
-        Word::Refused(why) => refusal::number_of(why),
+        Err(why) => u8::from(why),
     }
 }
 
-fn note_found(found: Found, answer: &mut [usize]) -> u8
+fn note_found(found: Result<Search, Refusal>, answer: &mut [usize]) -> u8
     ensures number { result ≡ (extent_reply found).number }
     ensures values { answer.new ≡ fitted (extent_reply found).values answer.old }
 {
@@ -319,11 +317,11 @@ fn note_found(found: Found, answer: &mut [usize]) -> u8
             COMPLETED
         }
         Found::Zero(_) => COMPLETED,
-        Found::Refused(why) => refusal::number_of(why),
+        Err(why) => u8::from(why),
     }
 }
 
-fn note_searched(found: Found, answer: &mut [usize]) -> u8
+fn note_searched(found: Result<Search, Refusal>, answer: &mut [usize]) -> u8
     ensures number { result ≡ (searched_reply found).number }
     ensures values { answer.new ≡ fitted (searched_reply found).values answer.old }
 {
@@ -336,46 +334,46 @@ fn note_searched(found: Found, answer: &mut [usize]) -> u8
             note_one(searched.0, answer);
             COMPLETED
         }
-        Found::Refused(why) => refusal::number_of(why),
+        Err(why) => u8::from(why),
     }
 }
 
-fn note_listed(found: Listed, answer: &mut [usize]) -> u8
+fn note_listed(found: Result<NaiveDegree, Refusal>, answer: &mut [usize]) -> u8
     ensures number { result ≡ (listed_reply found).number }
     ensures values { answer.new ≡ fitted (listed_reply found).values answer.old }
 {
     match found {
-        Listed::Done(degree) => {
+        Ok(degree) => {
             note_one(degree.0, answer);
             COMPLETED
         }
-        Listed::Refused(why) => refusal::number_of(why),
+        Err(why) => u8::from(why),
     }
 }
 
-fn note_written(found: Written, answer: &mut [usize]) -> u8
+fn note_written(found: Result<usize, Refusal>, answer: &mut [usize]) -> u8
     ensures number { result ≡ (written_reply found).number }
     ensures values { answer.new ≡ fitted (written_reply found).values answer.old }
 {
     match found {
-        Written::Done(size) => {
+        Ok(size) => {
             note_one(size, answer);
             COMPLETED
         }
-        Written::Refused(why) => refusal::number_of(why),
+        Err(why) => u8::from(why),
     }
 }
 
-fn note_gcd(found: Gcd, answer: &mut [usize]) -> u8
+fn note_gcd(found: Result<Gcd, Refusal>, answer: &mut [usize]) -> u8
     ensures number { result ≡ (gcd_reply found).number }
     ensures values { answer.new ≡ fitted (gcd_reply found).values answer.old }
 {
     match found {
-        Gcd::Done(w, c, rounds) => {
+        Ok(w, c, rounds) => {
             note_three(w.0, c.0, rounds.0, answer);
             COMPLETED
         }
-        Gcd::Refused(why) => refusal::number_of(why),
+        Err(why) => u8::from(why),
     }
 }
 

@@ -9,8 +9,7 @@ use Rattle.field.specs.Fields.{modulus}
 use Rattle.field.proofs.Answers.{reduced}
 use Rattle.field.proofs.difference_over.Goals as goal
 
-pub returns-in-Refused : goal.returns-in-Refused
-returns-in-Refused c = record { answer = rw (sym c.judge_operands.ensures ∙ c.in-Refused.is) }
-
 pub returns : goal.returns
-returns c = let found = sym c.judge_operands.ensures ∙ c.in_default.is in record { answer = rw found (ap (λ (x : ℕ). reply (Ok tt) (x ∷ [])) (c.sub.ensures ∙ reduced (modulus c.args.field) c.args.a c.args.b found)) }
+returns c =
+    let found = sym c.judge_operands.ensures ∙ c.in_ok-judge_operands.was in
+    record { answer = rw found (ap (λ (x : ℕ). reply (Ok tt) (x ∷ [])) (c.sub.ensures ∙ reduced (modulus c.args.field) c.args.a c.args.b found)) }

@@ -8,17 +8,14 @@ use native.Mathlib.Omega.{arith}
 use lib.ListN.{get_or}
 use borrow.Author.Tests.{lt-ltb, le-ltb}
 use Rattle.refusal.specs.declared.Refusal.{Refusal}
-use Rattle.std.specs.Prelude.{Result}
+use Rattle.std.specs.Prelude.{Result, Ok, Err}
+use Rattle.std.specs.Result.{result_unwrap_or}
 use Rattle.algebra.specs.PrimeField.{PrimeField, positive}
 use Rattle.refusal.specs.Refusal.{Reply, reply}
 use Rattle.refusal.specs.Lowest.{lowest}
 use Rattle.field.specs.Field.{word_reply, inverse_refusals, inverse_of, inverse_or_zero}
 use Rattle.field.proofs.Field.{inverse-is}
 use Rattle.field_inverse.proofs.Answers.{inverse-loose, inverse-zero, answered}
-
--- the word of an answer, or 0
-abbrev pub word_or_zero : (Result ℕ Refusal) → ℕ
-word_or_zero w = get_or (word_reply w).values 0 0
 
 module _ (F : PrimeField) where
   pub inverse-some : (a : ℕ) → 0 < a → a < F.p → inverse_or_zero F a ≡ inverse_of F a
@@ -46,9 +43,15 @@ module _ (F : PrimeField) where
       let b = inverse-is F a h l in
       sym (ap first (answered F refl a (inverse_of F a) h l (record { high = b.high; one = b.one })).answer) ∙ sym (inverse-some a h l)
 
-  pub inverse-word : {p : ℕ} → F.p ≡ p → (a : ℕ) (w : (Result ℕ Refusal)) → word_reply w ≡ reply (lowest (inverse_refusals p a)) (inverse_of F a ∷ [])
-      → word_or_zero w ≡ inverse_or_zero F a
+  -- the word of an answer, or 0, is the first value of its reply
+  first-reply : (w : Result ℕ Refusal) → first (word_reply w) ≡ result_unwrap_or w 0
+  unfolding first
+  first-reply (Ok x) = refl
+  first-reply (Err why) = refl
+
+  pub inverse-word : {p : ℕ} → F.p ≡ p → (a : ℕ) (w : Result ℕ Refusal) → word_reply w ≡ reply (lowest (inverse_refusals p a)) (inverse_of F a ∷ [])
+      → result_unwrap_or w 0 ≡ inverse_or_zero F a
   unfolding first
   inverse-word e a w h =
-      ap first h ∙ ap (λ n. first (reply (lowest (inverse_refusals n a)) (inverse_of F a ∷ []))) (sym e)
+      sym (first-reply w) ∙ ap first h ∙ ap (λ n. first (reply (lowest (inverse_refusals n a)) (inverse_of F a ∷ []))) (sym e)
       ∙ first-is a (dec_lt a F.p) (ℕ_discrete a 0)

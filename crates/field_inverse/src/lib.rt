@@ -32,10 +32,7 @@ pub fn inverse_over(field: u8, inverses: &[u16], a: u16) -> Result<u16, Refusal>
 pub fn inverse_or_zero(field: u8, inverses: &[u16], a: u16) -> u16
     ensures { result ≡ inverse_or_zero (field_at field) a }
 {
-    match inverse_over(field, inverses, a) {
-        Ok(b) => b,
-        Err(_) => 0,
-    }
+    inverse_over(field, inverses, a).unwrap_or(0)
 }
 
 // What is found by the table is tried. Where the table is wrong, the steps go on to the remainder 1, whose cofactor is the inverse.

@@ -32,30 +32,21 @@ pub struct TopSearch {
 fn power_of(degree: NaiveDegree, extent: Extent) -> Power
     ensures { result.0 ≡ degree.0 - extent.0 }
 {
-    if degree.0 < extent.0 {
-        return Power(0);
-    }
-    Power(degree.0 - extent.0)
+    Power(degree.0.saturating_sub(extent.0))
 }
 
 // The naive degree of a list; 0 where it has no words.
 pub fn degree_of(list: &[u16]) -> NaiveDegree
     ensures { result.0 ≡ naive_degree list.now }
 {
-    if list.len() == 0 {
-        return NaiveDegree(0);
-    }
-    NaiveDegree(list.len() - 1)
+    NaiveDegree(list.len().saturating_sub(1))
 }
 
 // Whether a list has 0 words, or more than a list over the field may have.
 fn wrong_length(field: u8, list: &[u16]) -> bool
     ensures { result ≡ wrong_length (longest field) list.now }
 {
-    if list.len() == 0 {
-        return true;
-    }
-    field::longest_of(field) < list.len()
+    list.is_empty() || field::longest_of(field) < list.len()
 }
 
 // Whether a word of a list is p or more: whether the largest is. The loop has one way out, so that LLVM takes eight words at a time.
@@ -63,13 +54,8 @@ pub fn has_loose(field: u8, list: &[u16]) -> bool
     ensures { result ≡ has_loose (modulus field) list.now }
 {
     let mut largest: u16 = 0;
-    let mut i = 0;
-    while i < list.len() {
-        let word = list[i];
-        if largest < word {
-            largest = word;
-        }
-        i += 1;
+    for &word in list {
+        largest = largest.max(word);
     }
     field::modulus_of(field) <= largest
 }
@@ -79,15 +65,13 @@ pub fn search_from_top(list: &[u16]) -> TopSearch
     ensures words { result.words ≡ significant list.now }
     ensures read { result.read ≡ searched list.now }
 {
-    let mut n = list.len();
     let mut read = 0;
-    while 0 < n {
-        let word = list[n - 1];
+    for n in (0..list.len()).rev() {
+        let word = list[n];
         read += 1;
         if word != 0 {
-            return TopSearch { words: n, read };
+            return TopSearch { words: n + 1, read };
         }
-        n -= 1;
     }
     TopSearch { words: 0, read }
 }
@@ -103,11 +87,7 @@ pub fn significant_words(list: &[u16]) -> usize
 pub fn extent_of(list: &[u16]) -> Extent
     ensures { result.0 ≡ extent list.now }
 {
-    let n = significant_words(list);
-    if n == 0 {
-        return Extent(0);
-    }
-    Extent(n - 1)
+    Extent(significant_words(list).saturating_sub(1))
 }
 
 // The power of a list that is not zero.

@@ -6,8 +6,8 @@ use Rattle.album_layout.specs.Internal.{Passed}
 use Rattle.album_contents.proofs.Judged.{fit_refused, fit-misfit, fit-done}
 use Rattle.album_contents.proofs.judge_contents.Goals as goal
 
-pub returns-in-Refused : goal.returns-in-Refused
-returns-in-Refused c = fit_refused _ _ _ (sym c.judge_album.ensures ∙ c.in-Refused.is)
+pub returns-in-Err : goal.returns-in-Err
+returns-in-Err c = fit_refused _ _ _ (sym c.judge_album.ensures ∙ c.in-Err.is)
 
 pub returns-then-n-ne-MAX_LISTS : goal.returns-then-n-ne-MAX_LISTS
 returns-then-n-ne-MAX_LISTS c =

@@ -32,38 +32,38 @@ overflow_add-result c =
     let some : ¬ (significant c.args.list.now ≡ 0) = λ z. c.if-significant_words-eq0.false (c.significant_words.ensures ∙ z) in
     let same : take c.args.used c.copy.new.to ≡ take c.args.used c.args.res.now = ap (take c.args.used) (c.copy.ensures ∙ copied-fit c.args.res.now c.args.last.now (held-length c.requires.held ∙ sym c.requires.last_len.0)) in
     let held : Held (modulus c.args.field) (longest c.args.field) c.args.res.now c.args.used (take c.args.used c.copy.new.to) = rw same c.requires.held in
-    let says = ap gcd_reply (sym c.in-Done.is) ∙ c.gcd_over.ensures.answer in
+    let says = ap gcd_reply (sym c.in-Ok.is) ∙ c.gcd_over.ensures.answer in
     omega (arith, join-short (field_at _) _ (longest-in _) _ _ held listed some _ _ _ says, longest-room c.args.field)
 
-pub overflow_add-result-in-Done : goal.overflow_add-result-in-Done
+pub overflow_add-result-in-Ok : goal.overflow_add-result-in-Ok
 unfolding field_at
-overflow_add-result-in-Done c =
+overflow_add-result-in-Ok c =
     let listed : IsList (modulus c.args.field) (longest c.args.field) c.args.list.now = c.requires.list in
     let some : ¬ (significant c.args.list.now ≡ 0) = λ z. c.if-significant_words-eq0.false (c.significant_words.ensures ∙ z) in
     let same : take c.args.used c.copy.new.to ≡ take c.args.used c.args.res.now = ap (take c.args.used) (c.copy.ensures ∙ copied-fit c.args.res.now c.args.last.now (held-length c.requires.held ∙ sym c.requires.last_len.0)) in
     let held : Held (modulus c.args.field) (longest c.args.field) c.args.res.now c.args.used (take c.args.used c.copy.new.to) = rw same c.requires.held in
-    let says = ap gcd_reply (sym c.in-Done.is) ∙ c.gcd_over.ensures.answer in
+    let says = ap gcd_reply (sym c.in-Ok.is) ∙ c.gcd_over.ensures.answer in
     omega (arith, join-few (field_at _) _ (longest-in _) _ _ held listed some _ _ _ says, c.requires.last_len.1, longest-room c.args.field)
 
-pub returns-in-Done : goal.returns-in-Done
+pub returns-in-Ok : goal.returns-in-Ok
 unfolding field_at
-returns-in-Done c =
+returns-in-Ok c =
     let same : take c.args.used c.copy.new.to ≡ take c.args.used c.args.res.now = ap (take c.args.used) (c.copy.ensures ∙ copied-fit c.args.res.now c.args.last.now (held-length c.requires.held ∙ sym c.requires.last_len.0)) in
     let listed : IsList (modulus c.args.field) (longest c.args.field) c.args.list.now = c.requires.list in
     let some : ¬ (significant c.args.list.now ≡ 0) = λ z. c.if-significant_words-eq0.false (c.significant_words.ensures ∙ z) in
     let held : Held (modulus c.args.field) (longest c.args.field) c.args.res.now c.args.used (take c.args.used c.copy.new.to) = rw same c.requires.held in
     let found = c.gcd_over.ensures in
-    let says = ap gcd_reply (sym c.in-Done.is) ∙ found.answer in
+    let says = ap gcd_reply (sym c.in-Ok.is) ∙ found.answer in
     join-as (field_at _) _ same
     (join-with (field_at _) _ (longest-in _) _ _ held listed some _ _ _ says found.writes
     (c.smaller.ensures ∙ ap (min _) c.power_in-power.ensures))
 
-pub returns-in-Refused : goal.returns-in-Refused
+pub returns-in-Err : goal.returns-in-Err
 unfolding field_at
-returns-in-Refused c =
+returns-in-Err c =
     let listed : IsList (modulus c.args.field) (longest c.args.field) c.args.list.now = c.requires.list in
     let some : ¬ (significant c.args.list.now ≡ 0) = λ z. c.if-significant_words-eq0.false (c.significant_words.ensures ∙ z) in
     let same : take c.args.used c.copy.new.to ≡ take c.args.used c.args.res.now = ap (take c.args.used) (c.copy.ensures ∙ copied-fit c.args.res.now c.args.last.now (held-length c.requires.held ∙ sym c.requires.last_len.0)) in
     let held : Held (modulus c.args.field) (longest c.args.field) c.args.res.now c.args.used (take c.args.used c.copy.new.to) = rw same c.requires.held in
-    let says = ap gcd_reply (sym c.in-Refused.is) ∙ c.gcd_over.ensures.answer in
-    absurd (join-never (field_at _) _ (longest-in _) _ _ held listed some c.in-Refused.field-0 says)
+    let says = ap gcd_reply (sym c.in-Err.is) ∙ c.gcd_over.ensures.answer in
+    absurd (join-never (field_at _) _ (longest-in _) _ _ held listed some c.in-Err.field-0 says)

@@ -7,8 +7,8 @@ use Rattle.album_layout.specs.Internal.{layout_refusals}
 use Rattle.album_layout.proofs.Judged.{layout-obeys, album-refused, album-loose, album-done}
 use Rattle.album_layout.proofs.judge_album.Goals as goal
 
-pub returns-in-Refused : goal.returns-in-Refused
-returns-in-Refused c = album-refused _ _ (sym c.judge_layout.ensures ∙ c.in-Refused.is)
+pub returns-in-Err : goal.returns-in-Err
+returns-in-Err c = album-refused _ _ (sym c.judge_layout.ensures ∙ c.in-Err.is)
 
 pub has_loose_word-requires : goal.has_loose_word-requires
 has_loose_word-requires c =

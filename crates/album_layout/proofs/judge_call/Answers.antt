@@ -8,8 +8,8 @@ use Rattle.album_layout.specs.Internal.{layout_refusals}
 use Rattle.album_layout.proofs.Judged.{layout-obeys, call-refused, call-index, call-loose, call-done}
 use Rattle.album_layout.proofs.judge_call.Goals as goal
 
-pub returns-in-Refused : goal.returns-in-Refused
-returns-in-Refused c = call-refused _ _ _ (sym c.judge_layout.ensures ∙ c.in-Refused.is)
+pub returns-in-Err : goal.returns-in-Err
+returns-in-Err c = call-refused _ _ _ (sym c.judge_layout.ensures ∙ c.in-Err.is)
 
 pub returns-then-byte_at-i : goal.returns-then-byte_at-i
 returns-then-byte_at-i c =

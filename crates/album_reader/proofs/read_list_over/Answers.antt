@@ -10,8 +10,8 @@ use Rattle.album_reader.proofs.Reading.{said-refused, said-misfit, said-words, s
 use Rattle.refusal.proofs.Clauses.{answer_and_writes}
 use Rattle.album_reader.proofs.read_list_over.Goals as goal
 
-pub returns-in-Refused : goal.returns-in-Refused
-returns-in-Refused c = answer_and_writes (said-refused _ _ _ _ (sym c.judge_call.ensures ∙ c.in-Refused.is))
+pub returns-in-Err : goal.returns-in-Err
+returns-in-Err c = answer_and_writes (said-refused _ _ _ _ (sym c.judge_call.ensures ∙ c.in-Err.is))
 
 pub returns-then-out-longest_of : goal.returns-then-out-longest_of
 returns-then-out-longest_of c =

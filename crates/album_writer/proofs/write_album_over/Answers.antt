@@ -24,43 +24,43 @@ few {p} {words} {degrees} {out} t = omega (arith, t.few, t.size, few_words degre
 
 pub overflow_mul-size : goal.overflow_mul-size
 overflow_mul-size c =
-    let t = taken (modulus c.args.field) c.args.words.now c.args.degrees.now c.args.out.now (sym c.judge_write.ensures ∙ c.in-Done.is) in
+    let t = taken (modulus c.args.field) c.args.words.now c.args.degrees.now c.args.out.now (sym c.judge_write.ensures ∙ c.in-Ok.is) in
     omega (arith, t.few)
 
 pub overflow_add-size : goal.overflow_add-size
 overflow_add-size c =
-    let t = taken (modulus c.args.field) c.args.words.now c.args.degrees.now c.args.out.now (sym c.judge_write.ensures ∙ c.in-Done.is) in
+    let t = taken (modulus c.args.field) c.args.words.now c.args.degrees.now c.args.out.now (sym c.judge_write.ensures ∙ c.in-Ok.is) in
     omega (arith, t.few)
 
-pub overflow_mul-size-in-Done : goal.overflow_mul-size-in-Done
-overflow_mul-size-in-Done c =
-    let t = taken (modulus c.args.field) c.args.words.now c.args.degrees.now c.args.out.now (sym c.judge_write.ensures ∙ c.in-Done.is) in
+pub overflow_mul-size-in-Ok : goal.overflow_mul-size-in-Ok
+overflow_mul-size-in-Ok c =
+    let t = taken (modulus c.args.field) c.args.words.now c.args.degrees.now c.args.out.now (sym c.judge_write.ensures ∙ c.in-Ok.is) in
     omega (arith, few t)
 
-pub overflow_add-size-in-Done : goal.overflow_add-size-in-Done
-overflow_add-size-in-Done c =
-    let t = taken (modulus c.args.field) c.args.words.now c.args.degrees.now c.args.out.now (sym c.judge_write.ensures ∙ c.in-Done.is) in
+pub overflow_add-size-in-Ok : goal.overflow_add-size-in-Ok
+overflow_add-size-in-Ok c =
+    let t = taken (modulus c.args.field) c.args.words.now c.args.degrees.now c.args.out.now (sym c.judge_write.ensures ∙ c.in-Ok.is) in
     omega (arith, few t, t.few)
 
 pub slice_bounds-write_parts-end : goal.slice_bounds-write_parts-end
 slice_bounds-write_parts-end c =
-    let t = taken (modulus c.args.field) c.args.words.now c.args.degrees.now c.args.out.now (sym c.judge_write.ensures ∙ c.in-Done.is) in
+    let t = taken (modulus c.args.field) c.args.words.now c.args.degrees.now c.args.out.now (sym c.judge_write.ensures ∙ c.in-Ok.is) in
     omega (arith, few t, t.few, t.room)
 
-pub slice_bounds-write_parts-end-in-Done : goal.slice_bounds-write_parts-end-in-Done
-slice_bounds-write_parts-end-in-Done c =
-    let t = taken (modulus c.args.field) c.args.words.now c.args.degrees.now c.args.out.now (sym c.judge_write.ensures ∙ c.in-Done.is) in
+pub slice_bounds-write_parts-end-in-Ok : goal.slice_bounds-write_parts-end-in-Ok
+slice_bounds-write_parts-end-in-Ok c =
+    let t = taken (modulus c.args.field) c.args.words.now c.args.degrees.now c.args.out.now (sym c.judge_write.ensures ∙ c.in-Ok.is) in
     simp length-take (omega (arith, few t, t.few, t.room))
 
 pub write_parts-requires : goal.write_parts-requires
 write_parts-requires c =
-    let t = taken (modulus c.args.field) c.args.words.now c.args.degrees.now c.args.out.now (sym c.judge_write.ensures ∙ c.in-Done.is) in
+    let t = taken (modulus c.args.field) c.args.words.now c.args.degrees.now c.args.out.now (sym c.judge_write.ensures ∙ c.in-Ok.is) in
     record { few = t.few; low = t.low; short = few t; size = simp length-take (omega (arith, few t, t.few, t.room)) }
 
-pub returns-in-Done : goal.returns-in-Done
-returns-in-Done c =
+pub returns-in-Ok : goal.returns-in-Ok
+returns-in-Ok c =
     let args = c.args in
-    let found = sym c.judge_write.ensures ∙ c.in-Done.is in
+    let found = sym c.judge_write.ensures ∙ c.in-Ok.is in
     let t = taken (modulus args.field) args.words.now args.degrees.now args.out.now found in
     let album = album_of (cut_by args.degrees.now args.words.now) in
     let is = album-is args.degrees.now args.words.now t.size in
@@ -70,11 +70,11 @@ returns-in-Done c =
       writes = result (over_front album args.out.now) args.out.now found (ap₂ (λ l n. l ++ drop n args.out.now) (c.write_parts.ensures ∙ is) size);
     }
 
-pub returns-in-Refused : goal.returns-in-Refused
-returns-in-Refused c =
+pub returns-in-Err : goal.returns-in-Err
+returns-in-Err c =
     let args = c.args in
     let album = album_of (cut_by args.degrees.now args.words.now) in
-    let found = sym c.judge_write.ensures ∙ c.in-Refused.is in
+    let found = sym c.judge_write.ensures ∙ c.in-Err.is in
     record {
       answer = sym (ap (λ o. reply o (length album ∷ [])) found);
       writes = kept (over_front album args.out.now) args.out.now found;

@@ -16,10 +16,10 @@ use Rattle.refusal.proofs.Clauses.{answer_and_writes}
 use borrow.Author.Rules.{rules}
 use Rattle.bind_text.proofs.bind_over.Goals as goal
 
-pub returns-in-Refused : goal.returns-in-Refused
-returns-in-Refused c =
+pub returns-in-Err : goal.returns-in-Err
+returns-in-Err c =
     let args = c.args in
-    let refused = sym c.judge_text.ensures ∙ c.in-Refused.is in answer_and_writes (bind-refused (modulus args.field) args.text.now args.out.now refused)
+    let refused = sym c.judge_text.ensures ∙ c.in-Err.is in answer_and_writes (bind-refused (modulus args.field) args.text.now args.out.now refused)
 
 pub read_lines-n-requires : goal.read_lines-n-requires
 read_lines-n-requires c =

@@ -14,16 +14,16 @@ step-requires c =
     let loop = c.loop-i in
     run-ready c.requires.passed.1 loop.invariant.4 c.loop-i-test.true loop.room c.requires.passed.0 loop.invariant.1 loop.invariant.2 loop.invariant.3
 
-pub returns-in-Refused : goal.returns-in-Refused
-returns-in-Refused c =
+pub returns-in-Err : goal.returns-in-Err
+returns-in-Err c =
     let running = c.loop-i.invariant.4 in
-    let made = rw c.in-Refused.is at (c.step.ensures running.st running.stacked) in
+    let made = rw c.in-Err.is at (c.step.ensures running.st running.stacked) in
     run-halts c.requires.passed.1 running c.loop-i-test.true made
 
 pub loop-i-preserved : goal.loop-i-preserved
 loop-i-preserved c =
     let running = c.loop-i.invariant.4 in
-    let made = rw c.in-To.is at (c.step.ensures running.st running.stacked) in
+    let made = rw c.in-Ok.is at (c.step.ensures running.st running.stacked) in
     (omega arith, omega arith, omega arith, omega arith, run-next c.requires.passed.1 running c.loop-i-test.true made)
 
 pub returns : goal.returns

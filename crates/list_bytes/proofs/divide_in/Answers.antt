@@ -14,8 +14,8 @@ shape_of-q c = omega arith
 pub shape_of-r : goal.shape_of-r
 shape_of-r c = omega arith
 
-pub returns-in-Done : goal.returns-in-Done
-returns-in-Done c =
+pub returns-in-Ok : goal.returns-in-Ok
+returns-in-Ok c =
     let called : DivisionCall (longest c.args.field) (modulus c.args.field) c.args.g.now c.args.f.now c.args.q.now c.args.r.now c.read_words.new.words c.read_words-2.new.words c.args.c.now c.args.d.now c.divide_over-answer.result = record {
       good-g = c.requires.g_value.0;
       good-f = c.requires.g_value.1;
@@ -25,13 +25,13 @@ returns-in-Done c =
       room-r = c.requires.a_len.3;
       says = c.divide_over-answer.ensures.answer;
     } in
-    let fits = division-fits called c.in-Done.is in value_and_q_after_and_r_after (
-    division-done called c.in-Done.is (field_at _) c.divide_over-answer.ensures.quotient c.divide_over-answer.ensures.remainder
-    (c.write_words.ensures ∙ bytes_fit _ _ (omega (arith, fits.0))) (c.write_words-in-Done.ensures ∙ bytes_fit _ _ (omega (arith, fits.1)))
+    let fits = division-fits called c.in-Ok.is in value_and_q_after_and_r_after (
+    division-done called c.in-Ok.is (field_at _) c.divide_over-answer.ensures.quotient c.divide_over-answer.ensures.remainder
+    (c.write_words.ensures ∙ bytes_fit _ _ (omega (arith, fits.0))) (c.write_words-in-Ok.ensures ∙ bytes_fit _ _ (omega (arith, fits.1)))
     )
 
-pub returns-in-Refused : goal.returns-in-Refused
-returns-in-Refused c =
+pub returns-in-Err : goal.returns-in-Err
+returns-in-Err c =
     let called : DivisionCall (longest c.args.field) (modulus c.args.field) c.args.g.now c.args.f.now c.args.q.now c.args.r.now c.read_words.new.words c.read_words-2.new.words c.args.c.now c.args.d.now c.divide_over-answer.result = record {
       good-g = c.requires.g_value.0;
       good-f = c.requires.g_value.1;
@@ -41,4 +41,4 @@ returns-in-Refused c =
       room-r = c.requires.a_len.3;
       says = c.divide_over-answer.ensures.answer;
     } in
-    value_and_q_after_and_r_after (division-refused called c.in-Refused.is c.number_of.ensures _ _)
+    value_and_q_after_and_r_after (division-refused called c.in-Err.is c.number_of.ensures _ _)

@@ -19,13 +19,13 @@ write_three-requires c =
       room = c.requires.a_len.2;
       says = c.gcd_over-found.ensures.answer;
     } in
-    let done = c.in-Done.is in
+    let done = c.in-Ok.is in
     let ensures = c.gcd_over-found.ensures in
     let small = gcd-small (longest-some _) (longest-room _) called done ensures.writes (omega arith) ensures.greatest in
     (small.degree, small.power, small.count, (gcd-fits (longest-some _) (longest-room _) called done).2)
 
-pub returns-in-Done : goal.returns-in-Done
-returns-in-Done c =
+pub returns-in-Ok : goal.returns-in-Ok
+returns-in-Ok c =
     let called : GcdCall (longest c.args.field) (field_at c.args.field) (modulus c.args.field) c.args.f.now c.args.g.now c.args.h.now c.args.answer.now c.read_words.new.words c.read_words-2.new.words c.args.c.now c.gcd_over-found.result = record {
       good-f = c.requires.f_value.0;
       good-g = c.requires.f_value.1;
@@ -34,10 +34,10 @@ returns-in-Done c =
       room = c.requires.a_len.2;
       says = c.gcd_over-found.ensures.answer;
     } in
-    let fits = gcd-fits (longest-some _) (longest-room _) called c.in-Done.is in value_and_h_after_and_answer_after (gcd-done (longest-some _) (longest-room _) called c.in-Done.is c.gcd_over-found.ensures.writes (c.write_words.ensures ∙ bytes_fit _ _ (omega (arith, fits.0))) c.write_three.ensures)
+    let fits = gcd-fits (longest-some _) (longest-room _) called c.in-Ok.is in value_and_h_after_and_answer_after (gcd-done (longest-some _) (longest-room _) called c.in-Ok.is c.gcd_over-found.ensures.writes (c.write_words.ensures ∙ bytes_fit _ _ (omega (arith, fits.0))) c.write_three.ensures)
 
-pub returns-in-Refused : goal.returns-in-Refused
-returns-in-Refused c =
+pub returns-in-Err : goal.returns-in-Err
+returns-in-Err c =
     let called : GcdCall (longest c.args.field) (field_at c.args.field) (modulus c.args.field) c.args.f.now c.args.g.now c.args.h.now c.args.answer.now c.read_words.new.words c.read_words-2.new.words c.args.c.now c.gcd_over-found.result = record {
       good-f = c.requires.f_value.0;
       good-g = c.requires.f_value.1;
@@ -46,4 +46,4 @@ returns-in-Refused c =
       room = c.requires.a_len.2;
       says = c.gcd_over-found.ensures.answer;
     } in
-    value_and_h_after_and_answer_after (gcd-refused (longest-some _) (longest-room _) called c.in-Refused.is c.number_of.ensures _ _)
+    value_and_h_after_and_answer_after (gcd-refused (longest-some _) (longest-room _) called c.in-Err.is c.number_of.ensures _ _)

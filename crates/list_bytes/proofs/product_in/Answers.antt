@@ -11,8 +11,8 @@ use Rattle.list_bytes.proofs.product_in.Goals as goal
 pub shape_of-out : goal.shape_of-out
 shape_of-out c = omega arith
 
-pub returns-in-Done : goal.returns-in-Done
-returns-in-Done c =
+pub returns-in-Ok : goal.returns-in-Ok
+returns-in-Ok c =
     let called : ProductCall (longest c.args.field) (modulus c.args.field) c.args.f.now c.args.g.now c.args.out.now c.read_words.new.words c.read_words-2.new.words c.args.c.now c.product_over-answer.result = record {
       good-f = c.requires.f_value.0;
       good-g = c.requires.f_value.1;
@@ -21,10 +21,10 @@ returns-in-Done c =
       room = c.requires.a_len.2;
       says = c.product_over-answer.ensures.answer;
     } in
-    value_and_out_after (product-done called c.in-Done.is (field_at _) c.product_over-answer.ensures.writes (c.write_words.ensures ∙ bytes_fit _ _ (omega (arith, product-fits called c.in-Done.is))))
+    value_and_out_after (product-done called c.in-Ok.is (field_at _) c.product_over-answer.ensures.writes (c.write_words.ensures ∙ bytes_fit _ _ (omega (arith, product-fits called c.in-Ok.is))))
 
-pub returns-in-Refused : goal.returns-in-Refused
-returns-in-Refused c =
+pub returns-in-Err : goal.returns-in-Err
+returns-in-Err c =
     let called : ProductCall (longest c.args.field) (modulus c.args.field) c.args.f.now c.args.g.now c.args.out.now c.read_words.new.words c.read_words-2.new.words c.args.c.now c.product_over-answer.result = record {
       good-f = c.requires.f_value.0;
       good-g = c.requires.f_value.1;
@@ -33,4 +33,4 @@ returns-in-Refused c =
       room = c.requires.a_len.2;
       says = c.product_over-answer.ensures.answer;
     } in
-    value_and_out_after (product-refused called c.in-Refused.is c.number_of.ensures _)
+    value_and_out_after (product-refused called c.in-Err.is c.number_of.ensures _)

@@ -26,14 +26,14 @@ unfolding field_at
 found-ready k f g h a b e = cofactors-ready (field_at k) (longest k) (longest-in k) f g h a b e
 
 pub cofactors_into-requires : goal.cofactors_into-requires
-cofactors_into-requires c = ready_and_slices (found-ready _ _ _ _ _ _ (sym c.judge_cofactors-answer.ensures ∙ c.in-Done.is))
+cofactors_into-requires c = ready_and_slices (found-ready _ _ _ _ _ _ (sym c.judge_cofactors-answer.ensures ∙ c.in-Ok.is))
 
-pub returns-in-Refused : goal.returns-in-Refused
-returns-in-Refused c =
-    let found = sym c.judge_cofactors-answer.ensures ∙ c.in-Refused.is in
+pub returns-in-Err : goal.returns-in-Err
+returns-in-Err c =
+    let found = sym c.judge_cofactors-answer.ensures ∙ c.in-Err.is in
     let of-gcd = refused (field_at _) _ c.args.f.now c.args.g.now c.args.h.now found in record { answer = of-gcd.0; gcd = of-gcd.1; cofactor_a = kept (cofactor_a (field_at c.args.field) c.args.f.now c.args.g.now) c.args.a.now found; cofactor_b = kept (cofactor_b (field_at c.args.field) c.args.f.now c.args.g.now) c.args.b.now found; greatest = tt; identity = tt }
 
-pub returns-in-Done : goal.returns-in-Done
-returns-in-Done c =
-    let found = sym c.judge_cofactors-answer.ensures ∙ c.in-Done.is in
+pub returns-in-Ok : goal.returns-in-Ok
+returns-in-Ok c =
+    let found = sym c.judge_cofactors-answer.ensures ∙ c.in-Ok.is in
     let all = cofactors-answered (field_at _) _ c.args.f.now c.args.g.now c.args.h.now c.args.a.now c.args.b.now found (found-ready _ _ _ _ _ _ found).0 c.cofactors_into.ensures in record { answer = all.0; gcd = all.1; cofactor_a = all.2; cofactor_b = all.3; greatest = all.4; identity = all.5 }

@@ -8,8 +8,8 @@ use Rattle.list_gcd.specs.Calls.{gcd_rows}
 use Rattle.list_cofactors.proofs.Slices.{refused-gcd, misfit-a, misfit-b, none-refused}
 use Rattle.list_cofactors.proofs.judge_cofactors.Goals as goal
 
-pub returns-in-Refused : goal.returns-in-Refused
-returns-in-Refused c = refused-gcd _ _ _ _ _ _ _ (sym c.judge_gcd.ensures ∙ c.in-Refused.is)
+pub returns-in-Err : goal.returns-in-Err
+returns-in-Err c = refused-gcd _ _ _ _ _ _ _ (sym c.judge_gcd.ensures ∙ c.in-Err.is)
 
 pub returns-then-a-cofactor_words : goal.returns-then-a-cofactor_words
 returns-then-a-cofactor_words c =

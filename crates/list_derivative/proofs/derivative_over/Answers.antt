@@ -8,10 +8,10 @@ use Rattle.refusal.proofs.Clauses.{answer_and_writes}
 use Rattle.list_derivative.proofs.derivative_over.Goals as goal
 
 pub derivative_into-requires : goal.derivative_into-requires
-derivative_into-requires c = derivative-fits _ _ _ _ (modulus-some _) (sym c.in-Done.is ∙ c.judge_derivative-answer.ensures)
+derivative_into-requires c = derivative-fits _ _ _ _ (modulus-some _) (sym c.in-Ok.is ∙ c.judge_derivative-answer.ensures)
 
-pub returns-in-Done : goal.returns-in-Done
-returns-in-Done c = answer_and_writes (done c.judge_derivative-answer.ensures c.in-Done.is _ _ c.derivative_into.ensures)
+pub returns-in-Ok : goal.returns-in-Ok
+returns-in-Ok c = answer_and_writes (done c.judge_derivative-answer.ensures c.in-Ok.is _ _ c.derivative_into.ensures)
 
 pub returns-in_default : goal.returns-in_default
 returns-in_default c = answer_and_writes (refused c.judge_derivative-answer.ensures c.in_default.is _ _)

@@ -11,8 +11,8 @@ use Rattle.lists.proofs.Judged.{one-listed}
 use Rattle.list_derivative.proofs.Judged.{derivative-refused, derivative-misfit, derivative-done}
 use Rattle.list_derivative.proofs.judge_derivative.Goals as goal
 
-pub returns-in-Refused : goal.returns-in-Refused
-returns-in-Refused c = derivative-refused _ _ _ _ (sym c.judge_list.ensures ∙ c.in-Refused.is)
+pub returns-in-Err : goal.returns-in-Err
+returns-in-Err c = derivative-refused _ _ _ _ (sym c.judge_list.ensures ∙ c.in-Err.is)
 
 pub overflow_sub-f : goal.overflow_sub-f
 overflow_sub-f c =

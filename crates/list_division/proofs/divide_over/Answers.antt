@@ -18,14 +18,14 @@ unfolding field_at
 found-fits k g f q r e = divide-fits (field_at k) (longest k) (longest-in k) g f q r e
 
 pub divide_into-requires : goal.divide_into-requires
-divide_into-requires c = found-fits _ _ _ _ _ (sym c.in-Done.is ∙ c.judge_divide-answer.ensures)
+divide_into-requires c = found-fits _ _ _ _ _ (sym c.in-Ok.is ∙ c.judge_divide-answer.ensures)
 
-pub returns-in-Done : goal.returns-in-Done
-returns-in-Done c =
+pub returns-in-Ok : goal.returns-in-Ok
+returns-in-Ok c =
     let found = c.judge_divide-answer.ensures in
-    let none = c.in-Done.is in
+    let none = c.in-Ok.is in
     let fits = found-fits _ _ _ _ _ (sym none ∙ found) in
     let all = done (field_at _) found _ _ _ _ none fits.divisible c.divide_into.ensures.quotient c.divide_into.ensures.remainder in record { answer = all.reported; quotient = all.quotient; remainder = all.remainder; property = all.promised }
 
-pub returns-in-Refused : goal.returns-in-Refused
-returns-in-Refused c = let all = refused (field_at _) c.judge_divide-answer.ensures _ _ _ _ c.in-Refused.is in record { answer = all.reported; quotient = all.quotient; remainder = all.remainder; property = all.promised }
+pub returns-in-Err : goal.returns-in-Err
+returns-in-Err c = let all = refused (field_at _) c.judge_divide-answer.ensures _ _ _ _ c.in-Err.is in record { answer = all.reported; quotient = all.quotient; remainder = all.remainder; property = all.promised }

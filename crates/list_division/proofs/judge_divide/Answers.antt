@@ -13,8 +13,8 @@ use Rattle.list_division.proofs.Judged.{divide-refused, divisor-some, divide-bac
 use borrow.Author.Rules.{rules}
 use Rattle.list_division.proofs.judge_divide.Goals as goal
 
-pub returns-in-Refused : goal.returns-in-Refused
-returns-in-Refused c = divide-refused _ _ (modulus-some _) _ _ _ _ (sym c.judge_lists.ensures ∙ c.in-Refused.is)
+pub returns-in-Err : goal.returns-in-Err
+returns-in-Err c = divide-refused _ _ (modulus-some _) _ _ _ _ (sym c.judge_lists.ensures ∙ c.in-Err.is)
 
 pub returns-then-g-f : goal.returns-then-g-f
 returns-then-g-f c =

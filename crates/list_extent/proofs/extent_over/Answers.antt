@@ -10,8 +10,8 @@ use Rattle.list_extent.proofs.Judged.{extent-refused, extent-zero, extent-found}
 use Rattle.refusal.proofs.Clauses.{answer_and_read}
 use Rattle.list_extent.proofs.extent_over.Goals as goal
 
-pub returns-in-Refused : goal.returns-in-Refused
-returns-in-Refused c = answer_and_read (extent-refused _ _ _ (sym c.judge_list.ensures ∙ c.in-Refused.is))
+pub returns-in-Err : goal.returns-in-Err
+returns-in-Err c = answer_and_read (extent-refused _ _ _ (sym c.judge_list.ensures ∙ c.in-Err.is))
 
 pub returns-then-search-eq0 : goal.returns-then-search-eq0
 returns-then-search-eq0 c =

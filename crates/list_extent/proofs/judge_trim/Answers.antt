@@ -9,8 +9,8 @@ use Rattle.lists.specs.Refused.{list_refusals}
 use Rattle.list_extent.proofs.Judged.{trim-refused, trim-zero, trim-misfit, trim-done}
 use Rattle.list_extent.proofs.judge_trim.Goals as goal
 
-pub returns-in-Refused : goal.returns-in-Refused
-returns-in-Refused c = trim-refused _ _ _ _ (sym c.judge_list.ensures ∙ c.in-Refused.is)
+pub returns-in-Err : goal.returns-in-Err
+returns-in-Err c = trim-refused _ _ _ _ (sym c.judge_list.ensures ∙ c.in-Err.is)
 
 pub returns-then-n-eq0 : goal.returns-then-n-eq0
 returns-then-n-eq0 c =

@@ -8,10 +8,10 @@ use Rattle.refusal.proofs.Clauses.{answer_and_writes}
 use Rattle.list_extent.proofs.trim_over.Goals as goal
 
 pub trim_into-requires : goal.trim_into-requires
-trim_into-requires c = trim-fits _ _ _ _ (modulus-some _) (sym c.in-Done.is ∙ c.judge_trim-answer.ensures)
+trim_into-requires c = trim-fits _ _ _ _ (modulus-some _) (sym c.in-Ok.is ∙ c.judge_trim-answer.ensures)
 
-pub returns-in-Done : goal.returns-in-Done
-returns-in-Done c = answer_and_writes (done c.judge_trim-answer.ensures c.in-Done.is _ _ c.trim_into.ensures)
+pub returns-in-Ok : goal.returns-in-Ok
+returns-in-Ok c = answer_and_writes (done c.judge_trim-answer.ensures c.in-Ok.is _ _ c.trim_into.ensures)
 
 pub returns-in_default : goal.returns-in_default
 returns-in_default c = answer_and_writes (refused c.judge_trim-answer.ensures c.in_default.is _ _)

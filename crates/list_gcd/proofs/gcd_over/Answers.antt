@@ -22,15 +22,15 @@ unfolding field_at
 found-ready k f g h e = gcd-ready (field_at k) (longest k) (longest-in k) f g h e
 
 pub gcd_into-requires : goal.gcd_into-requires
-gcd_into-requires c = ready_and_h_len (found-ready _ _ _ _ (sym c.judge_gcd-answer.ensures ∙ c.in-Done.is))
+gcd_into-requires c = ready_and_h_len (found-ready _ _ _ _ (sym c.judge_gcd-answer.ensures ∙ c.in-Ok.is))
 
-pub returns-in-Refused : goal.returns-in-Refused
-returns-in-Refused c =
-    let found = sym c.judge_gcd-answer.ensures ∙ c.in-Refused.is in
+pub returns-in-Err : goal.returns-in-Err
+returns-in-Err c =
+    let found = sym c.judge_gcd-answer.ensures ∙ c.in-Err.is in
     let all = refused (field_at _) _ c.args.f.now c.args.g.now c.args.h.now found in record { answer = all.0; writes = all.1; greatest = tt }
 
-pub returns-in-Done : goal.returns-in-Done
-returns-in-Done c =
-    let found = sym c.judge_gcd-answer.ensures ∙ c.in-Done.is in
+pub returns-in-Ok : goal.returns-in-Ok
+returns-in-Ok c =
+    let found = sym c.judge_gcd-answer.ensures ∙ c.in-Ok.is in
     let gcd = c.gcd_into.ensures in
     let all = answered (field_at _) _ c.args.f.now c.args.g.now c.args.h.now found (found-ready _ _ _ _ found).0 gcd.value gcd.h_after in record { answer = all.0; writes = all.1; greatest = all.2 }

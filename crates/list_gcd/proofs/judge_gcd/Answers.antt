@@ -14,9 +14,9 @@ use Rattle.list_gcd.specs.Calls.{gcd_rows}
 use Rattle.list_gcd.proofs.Ready.{judged-lists, judged-zero, judged-misfit, judged-done}
 use Rattle.list_gcd.proofs.judge_gcd.Goals as goal
 
-pub returns-in-Refused : goal.returns-in-Refused
+pub returns-in-Err : goal.returns-in-Err
 unfolding gcd_rows
-returns-in-Refused c = judged-lists _ _ _ _ _ (sym c.judge_lists.ensures ∙ c.in-Refused.is)
+returns-in-Err c = judged-lists _ _ _ _ _ (sym c.judge_lists.ensures ∙ c.in-Err.is)
 
 pub returns-then-both_zero : goal.returns-then-both_zero
 unfolding gcd_rows

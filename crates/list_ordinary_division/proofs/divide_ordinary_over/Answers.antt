@@ -21,16 +21,16 @@ unfolding field_at
 found-fits k g f q r e = ordinary-fits (field_at k) (longest k) (longest-in k) g f q r e
 
 pub divide_into-requires : goal.divide_into-requires
-divide_into-requires c = found-fits _ _ _ _ _ (sym c.in-Done.is ∙ c.judge_ordinary-answer.ensures)
+divide_into-requires c = found-fits _ _ _ _ _ (sym c.in-Ok.is ∙ c.judge_ordinary-answer.ensures)
 
-pub returns-in-Done : goal.returns-in-Done
-returns-in-Done c =
+pub returns-in-Ok : goal.returns-in-Ok
+returns-in-Ok c =
     let found = c.judge_ordinary-answer.ensures in
-    let none = c.in-Done.is in
+    let none = c.in-Ok.is in
     let fits = found-fits _ _ _ _ _ (sym none ∙ found) in
     let done = c.divide_into.ensures in record { answer = ap outcome_reply found; quotient = result _ _ (sym found ∙ none) done.quotient; remainder = result _ _ (sym found ∙ none) done.remainder; property = λ _. rw (done.quotient, done.remainder) (ordinary-so (field_at _) _ _ fits.dividable) }
 
-pub returns-in-Refused : goal.returns-in-Refused
-returns-in-Refused c =
+pub returns-in-Err : goal.returns-in-Err
+returns-in-Err c =
     let found = c.judge_ordinary-answer.ensures in
-    let why = c.in-Refused.is in record { answer = ap outcome_reply found; quotient = kept _ _ (sym found ∙ why); remainder = kept _ _ (sym found ∙ why); property = λ s. let z : ◌≡◌ {A = ℕ} 0 1 = cc in absurd (omega arith) }
+    let why = c.in-Err.is in record { answer = ap outcome_reply found; quotient = kept _ _ (sym found ∙ why); remainder = kept _ _ (sym found ∙ why); property = λ s. let z : ◌≡◌ {A = ℕ} 0 1 = cc in absurd (omega arith) }

@@ -9,8 +9,8 @@ use Rattle.lists.specs.Refused.{list_refusals}
 use Rattle.list_ordinary_division.proofs.Judged.{ordinary-refused, ordinary-zero, ordinary-misfit-q, ordinary-misfit-r, ordinary-done}
 use Rattle.list_ordinary_division.proofs.judge_ordinary.Goals as goal
 
-pub returns-in-Refused : goal.returns-in-Refused
-returns-in-Refused c = ordinary-refused _ _ _ _ _ _ (sym c.judge_lists.ensures ∙ c.in-Refused.is)
+pub returns-in-Err : goal.returns-in-Err
+returns-in-Err c = ordinary-refused _ _ _ _ _ _ (sym c.judge_lists.ensures ∙ c.in-Err.is)
 
 pub returns-then-significant_words-eq0 : goal.returns-then-significant_words-eq0
 returns-then-significant_words-eq0 c =

@@ -11,10 +11,10 @@ use Rattle.lists.specs.Refused.{list_refusals}
 use Rattle.list_product.proofs.Judged.{product-refused, product-over, product-misfit, product-done}
 use Rattle.list_product.proofs.judge_product.Goals as goal
 
-pub returns-in-Refused : goal.returns-in-Refused
-returns-in-Refused c =
+pub returns-in-Err : goal.returns-in-Err
+returns-in-Err c =
     product-refused _ _ (modulus-some _) _ _ _
-    (sym c.judge_lists.ensures ∙ c.in-Refused.is)
+    (sym c.judge_lists.ensures ∙ c.in-Err.is)
 
 pub overflow_add-longest_of : goal.overflow_add-longest_of
 overflow_add-longest_of c = omega (arith, longest-room c.args.field)

@@ -11,10 +11,10 @@ use Rattle.lists.specs.Refused.{list_refusals}
 use Rattle.list_product.proofs.Judged.{raise-refused, raise-over, raise-backwards, raise-misfit, raise-done}
 use Rattle.list_product.proofs.judge_raise.Goals as goal
 
-pub returns-in-Refused : goal.returns-in-Refused
-returns-in-Refused c =
+pub returns-in-Err : goal.returns-in-Err
+returns-in-Err c =
     raise-refused _ _ (modulus-some _) _ _ _
-    (sym c.judge_list.ensures ∙ c.in-Refused.is)
+    (sym c.judge_list.ensures ∙ c.in-Err.is)
 
 pub returns-then-longest_of-target : goal.returns-then-longest_of-target
 returns-then-longest_of-target c =

@@ -8,10 +8,10 @@ use Rattle.refusal.proofs.Clauses.{answer_and_writes}
 use Rattle.list_product.proofs.product_over.Goals as goal
 
 pub product_into-requires : goal.product_into-requires
-product_into-requires c = product-fits _ _ (modulus-some _) _ _ _ (sym c.in-Done.is ∙ c.judge_product-answer.ensures)
+product_into-requires c = product-fits _ _ (modulus-some _) _ _ _ (sym c.in-Ok.is ∙ c.judge_product-answer.ensures)
 
-pub returns-in-Done : goal.returns-in-Done
-returns-in-Done c = answer_and_writes (done c.judge_product-answer.ensures c.in-Done.is _ _ c.product_into.ensures)
+pub returns-in-Ok : goal.returns-in-Ok
+returns-in-Ok c = answer_and_writes (done c.judge_product-answer.ensures c.in-Ok.is _ _ c.product_into.ensures)
 
-pub returns-in-Refused : goal.returns-in-Refused
-returns-in-Refused c = answer_and_writes (refused c.judge_product-answer.ensures c.in-Refused.is _ _)
+pub returns-in-Err : goal.returns-in-Err
+returns-in-Err c = answer_and_writes (refused c.judge_product-answer.ensures c.in-Err.is _ _)

@@ -10,13 +10,13 @@ use Rattle.refusal.proofs.Clauses.{answer_and_writes}
 use Rattle.list_product.proofs.raise_over.Goals as goal
 
 pub raise_into-requires : goal.raise_into-requires
-raise_into-requires c = (raise-fits _ _ (modulus-some _) _ _ _ (sym c.in-Done.is ∙ c.judge_raise-answer.ensures)).0
+raise_into-requires c = (raise-fits _ _ (modulus-some _) _ _ _ (sym c.in-Ok.is ∙ c.judge_raise-answer.ensures)).0
 
-pub returns-in-Done : goal.returns-in-Done
-returns-in-Done c =
+pub returns-in-Ok : goal.returns-in-Ok
+returns-in-Ok c =
     let found = c.judge_raise-answer.ensures in
-    let told = c.in-Done.is in
+    let told = c.in-Ok.is in
     let fits = raise-fits _ _ (modulus-some _) _ _ _ (sym told ∙ found) in answer_and_writes (done found told _ _ (c.raise_into.ensures ∙ ap (λ n. raise (field_at c.args.field) n c.args.f.now) fits.1))
 
-pub returns-in-Refused : goal.returns-in-Refused
-returns-in-Refused c = answer_and_writes (refused c.judge_raise-answer.ensures c.in-Refused.is _ _)
+pub returns-in-Err : goal.returns-in-Err
+returns-in-Err c = answer_and_writes (refused c.judge_raise-answer.ensures c.in-Err.is _ _)

@@ -6,10 +6,10 @@ use Rattle.field.proofs.Fields.{modulus-some}
 use Rattle.list_sum.proofs.Judged.{sum-refused, sum-misfit, sum_done}
 use Rattle.list_sum.proofs.judge_sum.Goals as goal
 
-pub returns-in-Refused : goal.returns-in-Refused
-returns-in-Refused c =
+pub returns-in-Err : goal.returns-in-Err
+returns-in-Err c =
     sum-refused _ _ (modulus-some _) _ _ _
-    (sym c.judge_lists.ensures ∙ c.in-Refused.is)
+    (sym c.judge_lists.ensures ∙ c.in-Err.is)
 
 pub returns-then-out-larger : goal.returns-then-out-larger
 returns-then-out-larger c =

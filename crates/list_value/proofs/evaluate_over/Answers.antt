@@ -9,8 +9,8 @@ use Rattle.refusal.specs.Refusal.{reply}
 use Rattle.list_value.proofs.Judged.{evaluate-listed}
 use Rattle.list_value.proofs.evaluate_over.Goals as goal
 
-pub returns-in-Refused : goal.returns-in-Refused
-returns-in-Refused c = record { answer = simp (sym c.judge_evaluate.ensures ∙ c.in-Refused.is) }
+pub returns-in-Err : goal.returns-in-Err
+returns-in-Err c = record { answer = simp (sym c.judge_evaluate.ensures ∙ c.in-Err.is) }
 
 pub value_at-requires : goal.value_at-requires
 value_at-requires c = evaluate-listed _ _ _ _ (modulus-some _) (sym c.in_default.is ∙ c.judge_evaluate.ensures)

@@ -5,8 +5,8 @@ use native.Mathlib.Omega.{arith}
 use Rattle.list_value.proofs.Judged.{evaluate-refused, evaluate-loose, evaluate-done}
 use Rattle.list_value.proofs.judge_evaluate.Goals as goal
 
-pub returns-in-Refused : goal.returns-in-Refused
-returns-in-Refused c = evaluate-refused _ _ _ _ (sym c.judge_list.ensures ∙ c.in-Refused.is)
+pub returns-in-Err : goal.returns-in-Err
+returns-in-Err c = evaluate-refused _ _ _ _ (sym c.judge_list.ensures ∙ c.in-Err.is)
 
 pub returns-then-modulus_of-x : goal.returns-then-modulus_of-x
 returns-then-modulus_of-x c = evaluate-loose _ _ _ _ (sym c.judge_list.ensures ∙ c.in_default.is) (omega arith)

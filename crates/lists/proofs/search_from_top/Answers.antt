@@ -1,5 +1,4 @@
--- `lists::search_from_top` meets its contract. The loop's invariant: the first n words answer for the whole, and the others have been
--- read. The measure is n.
+-- `lists::search_from_top` meets its contract.
 -- Assumes nothing.
 use mathlib.Core.Path.{refl, sym, ◌∙◌}
 use Rattle.lists.specs.Degrees.{significant}
@@ -16,12 +15,14 @@ loop-n-init c = (search rules, refl)
 pub returns-then-word-ne0 : goal.returns-then-word-ne0
 returns-then-word-ne0 c =
     let loop = c.loop-n in
-    let found = loop.invariant.1 ∙ significant-here _ _ (omega arith) c.if-word-ne0.true in record { words = sym found; read = searched-here _ _ _ found (omega arith) loop.invariant.0 }
+    let found = loop.invariant.1 ∙ significant-here _ _ (omega arith) c.if-word-ne0.true in
+    record { words = omega (arith, found); read = searched-here _ _ _ found (omega arith) loop.invariant.0 }
 
 pub loop-n-preserved : goal.loop-n-preserved
-loop-n-preserved c = (search rules, c.loop-n.invariant.1 ∙ significant-on _ _ (omega arith) c.if-word-ne0.false)
+loop-n-preserved c = (omega arith, c.loop-n.invariant.1 ∙ significant-on _ _ (omega arith) c.if-word-ne0.false)
 
 pub returns : goal.returns
 returns c =
     let loop = c.loop-n in
-    let none = loop.invariant.1 ∙ significant-none _ _ (omega arith) in record { words = sym none; read = omega (arith, searched-zero _ none) }
+    let none = loop.invariant.1 ∙ significant-none _ _ (omega arith) in
+    record { words = sym none; read = omega (arith, searched-zero _ none) }

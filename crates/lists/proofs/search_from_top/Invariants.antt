@@ -1,5 +1,5 @@
 -- `lists::search_from_top` meets its contract. The loop's invariant: the first n words answer for the whole, and the others have been
--- read. The measure is n.
+-- read.
 -- Assumes nothing.
 use mathlib.Core.Path.{◌≡◌}
 use Prim.Native.Nat.{◌+◌}
@@ -9,6 +9,3 @@ use Rattle.lists.proofs.search_from_top.Given as goal
 
 abbrev pub invariant-loop-n : goal.invariant-loop-n
 invariant-loop-n l = (l.read + l.n ≡ length l.list) × (significant l.list ≡ significant_in l.n l.list)
-
-abbrev pub decreases-loop-n : goal.decreases-loop-n
-decreases-loop-n l = l.n

@@ -1,13 +1,13 @@
 -- `lists::wrong_length` meets its contract: its tests are those of `wrong_length`.
 -- Assumes nothing.
+use Rattle.std.proofs.Common.{rules}
 use Rattle.lists.specs.Refused.{wrong_length}
-use borrow.Author.Tests.{eq-eqb, ne_eqb}
 use Rattle.lists.proofs.wrong_length.Goals as goal
 
-pub returns-then-list-eq0 : goal.returns-then-list-eq0
+pub returns-then-is_empty : goal.returns-then-is_empty
 unfolding wrong_length
-returns-then-list-eq0 c = simp (eq-eqb _ _ c.if-list-eq0.true)
+returns-then-is_empty c = search rules
 
-pub returns : goal.returns
+pub returns-else-is_empty : goal.returns-else-is_empty
 unfolding wrong_length
-returns c = simp (ne_eqb _ _ c.if-list-eq0.false, c.longest_of.ensures)
+returns-else-is_empty c = search rules

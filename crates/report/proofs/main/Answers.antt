@@ -5,7 +5,7 @@ use Rattle.report_text.proofs.Whole.{text-inside}
 use Rattle.report.proofs.main.Goals as goal
 
 pub slice_bounds-text-end : goal.slice_bounds-text-end
-slice_bounds-text-end c = text-inside _ _ c.in-Done.is c.report_over.ensures.answer c.report_over.ensures.writes
+slice_bounds-text-end c = text-inside _ _ c.in-Ok.is c.report_over.ensures.answer c.report_over.ensures.writes
 
 pub slice_bounds-deliver-end : goal.slice_bounds-deliver-end
-slice_bounds-deliver-end c = sym (length-take-le _ _ (text-inside _ _ c.in-Done.is c.report_over.ensures.answer c.report_over.ensures.writes))
+slice_bounds-deliver-end c = sym (length-take-le _ _ (text-inside _ _ c.in-Ok.is c.report_over.ensures.answer c.report_over.ensures.writes))

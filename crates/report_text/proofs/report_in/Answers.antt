@@ -11,17 +11,17 @@ use borrow.Author.Rules.{rules}
 use Rattle.report_text.proofs.report_in.Goals as goal
 
 pub put_refused-requires : goal.put_refused-requires
-put_refused-requires c = record { fits = omega (arith, refused-fits c.in-Refused.why, c.requires.2) }
+put_refused-requires c = record { fits = omega (arith, refused-fits c.in-Err.why, c.requires.2) }
 
 pub put_sound-requires : goal.put_sound-requires
 put_sound-requires c =
-    let passed : Passed (modulus c.args.field) c.args.album.now = sym c.judge_album.ensures ∙ c.in-Done.is in
+    let passed : Passed (modulus c.args.field) c.args.album.now = sym c.judge_album.ensures ∙ c.in-Ok.is in
     record { passed = passed; list_len = search rules }
 
-pub returns-in-Refused : goal.returns-in-Refused
-returns-in-Refused c = put_is (report-refused _ (field_at _) _ (sym c.judge_album.ensures ∙ c.in-Refused.is)) refl c.put_refused.ensures
+pub returns-in-Err : goal.returns-in-Err
+returns-in-Err c = put_is (report-refused _ (field_at _) _ (sym c.judge_album.ensures ∙ c.in-Err.is)) refl c.put_refused.ensures
 
-pub returns-in-Done : goal.returns-in-Done
-returns-in-Done c =
-    let passed : Passed (modulus c.args.field) c.args.album.now = sym c.judge_album.ensures ∙ c.in-Done.is in
+pub returns-in-Ok : goal.returns-in-Ok
+returns-in-Ok c =
+    let passed : Passed (modulus c.args.field) c.args.album.now = sym c.judge_album.ensures ∙ c.in-Ok.is in
     put_is (report-sound _ (field_at _) _ passed) refl c.put_sound.ensures

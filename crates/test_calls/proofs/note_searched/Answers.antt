@@ -12,5 +12,5 @@ returns-in-At c = number_and_values (noted searched_reply _ _ c.args.answer.now 
 pub returns-in-Zero : goal.returns-in-Zero
 returns-in-Zero c = number_and_values (noted searched_reply _ _ c.args.answer.now c.in-Zero.is refl c.note_one-in-Zero.ensures)
 
-pub returns-in-Refused : goal.returns-in-Refused
-returns-in-Refused c = number_and_values (noted searched_reply _ _ c.args.answer.now c.in-Refused.is c.number_of.ensures (sym (fitted_none c.args.answer.now)))
+pub returns-in-Err : goal.returns-in-Err
+returns-in-Err c = number_and_values (noted searched_reply _ _ c.args.answer.now c.in-Err.is c.number_of.ensures (sym (fitted_none c.args.answer.now)))

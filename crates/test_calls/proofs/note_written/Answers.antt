@@ -6,8 +6,8 @@ use Rattle.test_calls.proofs.Answers.{noted, fitted_none}
 use Rattle.refusal.proofs.Clauses.{number_and_values}
 use Rattle.test_calls.proofs.note_written.Goals as goal
 
-pub returns-in-Done : goal.returns-in-Done
-returns-in-Done c = number_and_values (noted written_reply _ _ c.args.answer.now c.in-Done.is refl c.note_one.ensures)
+pub returns-in-Ok : goal.returns-in-Ok
+returns-in-Ok c = number_and_values (noted written_reply _ _ c.args.answer.now c.in-Ok.is refl c.note_one.ensures)
 
-pub returns-in-Refused : goal.returns-in-Refused
-returns-in-Refused c = number_and_values (noted written_reply _ _ c.args.answer.now c.in-Refused.is c.number_of.ensures (sym (fitted_none c.args.answer.now)))
+pub returns-in-Err : goal.returns-in-Err
+returns-in-Err c = number_and_values (noted written_reply _ _ c.args.answer.now c.in-Err.is c.number_of.ensures (sym (fitted_none c.args.answer.now)))

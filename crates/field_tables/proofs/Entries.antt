@@ -5,6 +5,7 @@
 --     factorials-hold, inverses-hold     a table that passes holds the factorials, or their inverses
 --     tables-for                         tables of n entries are tables for lists of n words
 --     tables-within                      tables for lists of m words are tables for shorter ones
+--     fetched                            what `factorials` and `inverse_factorials` hand out are tables for lists of the field
 -- Assumes nothing.
 use mathlib.Core.Path.{◌≡◌, sym, ap, ap₂, ◌∙◌, subst}
 use mathlib.Core.Bool.{Bool, true, ◌&&◌}
@@ -19,7 +20,9 @@ use Rattle.algebra.specs.RingLaws as R
 use Rattle.algebra.specs.RingLaws.{Ac}
 use Rattle.algebra.specs.PrimeField.{PrimeField, scalars, residue, inverse}
 use Rattle.algebra.proofs.PrimeField.{residue-1, residue-mul-mod, inverse-cancel'}
+use Rattle.refusal.specs.Limits.{max_words}
 use Rattle.field.specs.Fields.{field_at, longest}
+use Rattle.field.proofs.Fields.{longest-full}
 use Rattle.field_tables.specs.Factorials.{factorial_in, inverse_factorial_in, Holds, Tables, TablesFor}
 use Rattle.field_tables.proofs.FactorialLaws.{factorial-start, factorial-next, factorial-nonzero}
 
@@ -116,3 +119,15 @@ tables-within F n l t =
       factorials = record { long = omega (arith, t.factorials.long); at = λ k i. t.factorials.at k (omega arith) };
       inverses = record { long = omega (arith, t.inverses.long); at = λ k i. t.inverses.at k (omega arith) };
     }
+
+-- the contracts of both calls, and the length that the type of a table gives
+pub fetched : (k : ℕ) {whole part : List ℕ} → Holds (field_at k) (longest k) (factorial_in (field_at k)) whole
+    → Holds (field_at k) (longest k) (inverse_factorial_in (field_at k)) part → length whole ≤ max_words → TablesFor k whole part
+fetched k {whole} {part} h i l =
+    record {
+      tables = tables-within (field_at k) (length whole) few (record { factorials = h; inverses = i });
+      few = few;
+    }
+  where
+    few : length whole ≤ longest k
+    few = omega (arith, longest-full k)

@@ -1,20 +1,27 @@
 -- Reading words from bytes and writing words as bytes: what a slice then holds, and the steps of both loops.
+--     chunk-word, read-end     word k from the pair of bytes there, and the slice with zeros after the words
+--     two-more                 the bytes of one more word
 -- Theorems:
 --     into-exact      as many words as the bytes have: their words
 --     into-padded     at least as many: their words, padded
 --     bytes_fit       a slice of two bytes for each word holds the bytes of the words
 --     copied-fit      a slice of as many words holds the words; one of another length is kept (copied-not)
 -- Assumes nothing.
-use mathlib.Core.Path.{◌≡◌, refl, sym, ◌∙◌, ap, subst}
-use mathlib.Core.List.{List, [], ◌∷◌}
-use Prim.Native.Nat.{ℕ, zero, suc, ◌+◌, ◌*◌, ◌/◌, ◌%◌, ◌≤◌, ◌<◌}
+use mathlib.Core.Path.{◌≡◌, refl, sym, ◌∙◌, ap, ap₂, subst}
+use mathlib.Core.List.{List, [], ◌∷◌, ◌++◌, append-nil}
+use Prim.Native.Nat.{ℕ, zero, suc, min, ◌+◌, ◌-◌, ◌*◌, ◌/◌, ◌%◌, ◌≤◌, ◌<◌}
+use native.Mathlib.Decide.{dec_lt}
 use native.Mathlib.Nat.{le_of_suc-le-suc, not-suc-le-zero, div-add-mod', mod-lt}
 use native.Mathlib.Omega.{arith}
 use lib.Dec.{lit<}
-use lib.ListN.{length, get_or, set, length-set, get_or-eq_default}
+use lib.ListN.{length, get_or, set, take, drop, replicate, length-append, length-take, length-drop, length-replicate, length-set, get_or-eq_default, drop_of_length-le}
+use lib.Seq.{get_or-take, get_or-drop}
+use Rattle.std.specs.Int.{w16, from_le_bytes}
+use Rattle.std.specs.Simd.{first_chunks}
 use borrow.Author.Tests.{eq-eqb, ne_eqb}
 use Rattle.lists.specs.Padded.{padded}
 use Rattle.lists.proofs.Padded.{padded-is}
+use Rattle.lists.proofs.Parts.{get_or-zeros, get_or-then-zeros}
 use Rattle.lists.proofs.Tabulate.{tabulated, length-tabulate, get_or-tabulate}
 use Rattle.lists.proofs.Filled.{Filled, fill_step}
 use Rattle.lists.specs.Bytes.{word_at, word_count, words_of, bytes_of}
@@ -23,23 +30,16 @@ use Rattle.words.specs.Transfer.{words_into, bytes_into, copied_into}
 
 -- ---- reading
 module _ (s : List ℕ) where
-  pub word-inside : (k : ℕ) → k < length s / 2 → word_at s (2 * k) ≡ get_or (words_of s) k 0
+  word-inside : (k : ℕ) → k < length s / 2 → word_at s (2 * k) ≡ get_or (words_of s) k 0
   unfolding word_count
   word-inside k l = sym (get_or-words_of s k l)
 
-  pub word-past : (k : ℕ) → length s / 2 ≤ k → 0 ≡ get_or (words_of s) k 0
+  word-past : (k : ℕ) → length s / 2 ≤ k → 0 ≡ get_or (words_of s) k 0
   unfolding word_count
   word-past k l = sym (get_or-eq_default (words_of s) 0 (omega (arith, length-words_of s)))
 
-  -- past the end stands 0
-  pub no_byte : (i : ℕ) → length s ≤ i → 0 ≡ get_or s i 0
-  no_byte i l = sym (get_or-eq_default s 0 l)
-
-  pub no_word : (at : ℕ) → length s ≤ at → 0 ≡ word_at s at
-  no_word at l = omega (arith, no_byte at l, no_byte (at + 1) (omega arith))
-
   -- a slice of n words that holds them
-  pub into-is : (n : ℕ) (l : List ℕ) → length l ≡ n → Filled l n (words_of s) → l ≡ words_into n s
+  into-is : (n : ℕ) (l : List ℕ) → length l ≡ n → Filled l n (words_of s) → l ≡ words_into n s
   unfolding words_into
   into-is n l e h = tabulated l n _ e (λ k p. h.at k p)
 
@@ -57,6 +57,42 @@ module _ (s : List ℕ) where
   pub into-exact : (n : ℕ) → n ≡ word_count s → words_into n s ≡ words_of s
   unfolding words_into
   into-exact n e = sym (tabulated (words_of s) n _ (length-words_of s ∙ sym e) (λ k l. refl))
+
+-- the pairs of bytes, as `as_chunks` gives them
+chunk_at : (s : List ℕ) (n k : ℕ) → k < n → from_le_bytes w16 (get_or (first_chunks 2 n s) k []) ≡ word_at s (2 * k)
+chunk_at s zero k l = absurd (not-suc-le-zero l)
+chunk_at s (suc n) zero l = omega (arith, get_or-take 2 s 0 0 (lit< tt), get_or-take 2 s 1 0 (lit< tt))
+chunk_at s (suc n) (suc k) l = chunk_at (drop 2 s) n k (le_of_suc-le-suc l) ∙ ap₂ (λ a b. a + 256 * b) (further (2 * k) _ (omega arith)) (further (2 * k + 1) _ (omega arith))
+  where
+    further : (i j : ℕ) → 2 + i ≡ j → get_or (drop 2 s) i 0 ≡ get_or s j 0
+    further i j e = get_or-drop 2 s i 0 ∙ ap (λ n. get_or s n 0) e
+
+pub chunk-word : (s : List ℕ) (c : List (List ℕ)) (n k : ℕ) → c ≡ first_chunks 2 (length s / 2) s → n ≤ length s / 2 → k < n
+    → from_le_bytes w16 (get_or (take n c) k []) ≡ get_or (words_of s) k 0
+chunk-word s c n k e h l =
+    ap (from_le_bytes w16) (get_or-take n c k [] l ∙ ap (λ d. get_or d k []) e)
+    ∙ chunk_at s (length s / 2) k (omega arith) ∙ word-inside s k (omega arith)
+
+-- the words that are there, and zeros after them
+pub read-end : (s w z : List ℕ) (n m : ℕ) → length w ≡ m → n ≡ min (length w) (length s / 2) → Filled w n (words_of s)
+    → z ≡ replicate (length (take (length w - n) (drop n w))) 0 → take n w ++ (z ++ drop (length w - n) (drop n w)) ≡ words_into m s
+read-end s w z n m em en h ez = rw (ez, left, drop_of_length-le (drop n w) short, append-nil, ← em) (into-is s (length w) _ size (record { at = at }))
+  where
+    short : length (drop n w) ≤ length w - n
+    short = simp length-drop (omega arith)
+
+    left : length (take (length w - n) (drop n w)) ≡ length w - n
+    left = simp (length-take, length-drop) (omega arith)
+
+    size : length (take n w ++ replicate (length w - n) 0) ≡ length w
+    size = simp (length-append, length-take, length-replicate) (omega arith)
+
+    read : (k : ℕ) → k < length w → Dec (k < n) → get_or (take n w) k 0 ≡ get_or (words_of s) k 0
+    read k l (yes p) = get_or-take n w k 0 p ∙ h.at k p
+    read k l (no p) = get_or-eq_default (take n w) 0 (simp length-take (omega arith)) ∙ word-past s k (omega arith)
+
+    at : (k : ℕ) → k < length w → get_or (take n w ++ replicate (length w - n) 0) k 0 ≡ get_or (words_of s) k 0
+    at k l = get_or-then-zeros (take n w) (replicate (length w - n) 0) (get_or-zeros (length w - n)) k ∙ read k l (dec_lt k n)
 
 -- ---- writing
 twice : (k : ℕ) → 2 * suc k ≡ suc (suc (2 * k))

@@ -1,15 +1,8 @@
--- `words::read_words` meets its contract. The loop's invariant: the words below k are there, and k is past the first n, which were read. The
--- measure is the number of words left.
+-- `words::read_words` meets its contract. The loop's invariant: the words below k are those of the bytes.
 -- Assumes nothing.
-use mathlib.Core.Path.{◌≡◌}
-use Prim.Native.Nat.{◌≤◌, ◌-◌}
-use lib.ListN.{length}
 use Rattle.lists.specs.Bytes.{words_of}
 use Rattle.lists.proofs.Filled.{Filled}
 use Rattle.words.proofs.read_words.Given as goal
 
 abbrev pub invariant-loop-k : goal.invariant-loop-k
-invariant-loop-k l = (l.n ≤ l.k) × (l.k ≤ length l.words) × (length l.words ≡ length l.initial.words) × Filled l.words l.k (words_of l.bytes)
-
-abbrev pub decreases-loop-k : goal.decreases-loop-k
-decreases-loop-k l = length l.initial.words - l.k
+invariant-loop-k l = Filled l.words l.k (words_of l.bytes)

@@ -1,8 +1,8 @@
--- `words::write_words` meets its contract. The loop's invariant: the bytes of the words below k are written. The measure is the number of
--- words left.
+-- `words::write_words` meets its contract. The loop's invariant: the bytes of the words before word k are written.
 -- Assumes nothing.
 use mathlib.Core.Path.{sym, ◌∙◌}
 use native.Mathlib.Omega.{arith}
+use borrow.Author.Rules.{rules}
 use lib.ListN.{length-set}
 use Rattle.lists.proofs.Bytes.{length-bytes_of}
 use Rattle.lists.proofs.Filled.{fill_start, fill_end}
@@ -16,20 +16,15 @@ pub returns-then-bytes-words : goal.returns-then-bytes-words
 returns-then-bytes-words c = bytes-not _ _ (half-not _ _ c.if-bytes-words.true)
 
 pub loop-k-init : goal.loop-k-init
-loop-k-init c = let even = even_is _ _ c.if-bytes-eq1.false c.if-bytes-words.false in (omega arith, even, even, fill_start _ _)
-
-pub bounds-bytes-k-in-loop-k : goal.bounds-bytes-k-in-loop-k
-bounds-bytes-k-in-loop-k c = simp length-set (omega arith)
+loop-k-init c = (even_is _ _ c.if-bytes-eq1.false c.if-bytes-words.false, fill_start _ _)
 
 pub loop-k-preserved : goal.loop-k-preserved
 loop-k-preserved c = (
-  omega arith,
-  simp length-set (omega arith),
-  omega arith,
-  two-more _ _ _ _ _ c.loop-k.invariant.3 (omega arith) (omega arith) c.low.ensures c.high.ensures,
+  simp length-set c.loop-k.invariant.0,
+  two-more _ _ _ _ _ c.loop-k.invariant.1 c.loop-k.invariant.0 c.loop-k-test.true (search rules) (search rules),
 )
 
 pub returns : goal.returns
 returns c =
-    fill_end c.loop-k.invariant.3 (omega (arith, length-bytes_of c.args.words.now)) (omega arith)
-    ∙ sym (bytes_fit c.args.words.now c.args.bytes.now c.loop-k.invariant.2)
+    fill_end c.loop-k.invariant.1 (omega (arith, length-bytes_of c.args.words.now)) (omega arith)
+    ∙ sym (bytes_fit c.args.words.now c.args.bytes.now (omega arith))

@@ -2,7 +2,6 @@
 --     factorial k                  k!
 --     factorial_in F k             k! as an element of the field
 --     inverse_factorial_in F k     1/k! as an element of the field
---     few_words                    the entries of a small table
 --     Holds F n f table            the table has at least n entries, and the first n stand for f 0, f 1, …, f (n - 1)
 --     Tables F n whole part        whole holds the factorials of 0 to n - 1, and part their inverses
 --     TablesFor k whole part       tables of the field of number k, for lists of as many words as they have entries
@@ -23,9 +22,6 @@ factorial_in F k = residue F (factorial k)
 
 unfoldable pub inverse_factorial_in : (F : PrimeField) → ℕ → (scalars F).Carrier
 inverse_factorial_in F k = inverse F (factorial_in F k)
-
-abbrev pub few_words : ℕ
-few_words = 256
 
 pub record Holds (F : PrimeField) (n : ℕ) (f : ℕ → (scalars F).Carrier) (table : List ℕ) : Type 0 where
   pub long : n ≤ length table

@@ -3,9 +3,8 @@
 #![tactic(auto)]
 
 ghost use Rattle.std.specs.Prelude.{◌≡◌, false, [], ◌∷◌, ◌≤◌, ◌<◌, length};
-ghost use Rattle.refusal.specs.Limits.{max_words};
+ghost use Rattle.refusal.specs.Limits.{max_words, few_words};
 ghost use Rattle.field.specs.Fields.{longest};
-ghost use Rattle.field_tables.specs.Factorials.{few_words};
 ghost use Rattle.lists.specs.Bytes.{word_count, bytes_of};
 ghost use Rattle.list_bytes.specs.Calls.{host_product_answer, host_product_written};
 ghost use Rattle.list_bytes.specs.Calls.{host_division_answer, host_quotient_written, host_remainder_written};
@@ -144,9 +143,9 @@ fn product_few(field: u8, f: &[u8], g: &[u8], k: usize, out: &mut [u8]) -> u8
 {
     let n = f.len() / 2;
     let m = g.len() / 2;
-    let mut a = [0u16; field_tables::FEW_WORDS];
-    let mut b = [0u16; field_tables::FEW_WORDS];
-    let mut c = [0u16; field_tables::FEW_WORDS];
+    let mut a = [0u16; refusal::FEW_WORDS];
+    let mut b = [0u16; refusal::FEW_WORDS];
+    let mut c = [0u16; refusal::FEW_WORDS];
     product_in(field, f, g, &mut a[..n], &mut b[..m], &mut c[..k], out)
 }
 
@@ -173,7 +172,7 @@ fn product_lists(field: u8, f: &[u8], g: &[u8], out: &mut [u8]) -> u8
 {
     let k = room(field, out, 0);
     let longer = words::larger(f.len() / 2, g.len() / 2);
-    if words::larger(longer, k) <= field_tables::FEW_WORDS {
+    if words::larger(longer, k) <= refusal::FEW_WORDS {
         return product_few(field, f, g, k, out);
     }
     product_many(field, f, g, k, out)
@@ -222,10 +221,10 @@ fn divide_few(field: u8, g: &[u8], f: &[u8], k: usize, l: usize, q: &mut [u8], r
 {
     let n = g.len() / 2;
     let m = f.len() / 2;
-    let mut a = [0u16; field_tables::FEW_WORDS];
-    let mut b = [0u16; field_tables::FEW_WORDS];
-    let mut c = [0u16; field_tables::FEW_WORDS];
-    let mut d = [0u16; field_tables::FEW_WORDS];
+    let mut a = [0u16; refusal::FEW_WORDS];
+    let mut b = [0u16; refusal::FEW_WORDS];
+    let mut c = [0u16; refusal::FEW_WORDS];
+    let mut d = [0u16; refusal::FEW_WORDS];
     divide_in(
         field,
         g,
@@ -277,7 +276,7 @@ fn divide_lists(field: u8, g: &[u8], f: &[u8], q: &mut [u8], r: &mut [u8]) -> u8
     let k = room(field, q, 0);
     let l = room(field, r, field::longest_of(field));
     let longer = words::larger(g.len() / 2, f.len() / 2);
-    if words::larger(longer, words::larger(k, l)) <= field_tables::FEW_WORDS {
+    if words::larger(longer, words::larger(k, l)) <= refusal::FEW_WORDS {
         return divide_few(field, g, f, k, l, q, r);
     }
     divide_many(field, g, f, k, l, q, r)

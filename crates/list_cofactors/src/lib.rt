@@ -3,10 +3,10 @@
 
 ghost use Rattle.std.specs.Prelude.{◌≡◌, cond, suc, min, ◌+◌, ◌-◌, ◌<◌, ◌≤◌, length, take};
 ghost use Rattle.algebra.specs.PrimeField.{residue};
-ghost use Rattle.refusal.specs.Limits.{max_words};
+ghost use Rattle.refusal.specs.Limits.{max_words, few_words};
 ghost use Rattle.refusal.specs.Lowest.{lowest};
 ghost use Rattle.field.specs.Fields.{modulus, field_at, longest};
-ghost use Rattle.field_tables.specs.Factorials.{few_words, Tables};
+ghost use Rattle.field_tables.specs.Factorials.{Tables};
 ghost use Rattle.lists.specs.Degrees.{naive_degree};
 ghost use Rattle.lists.specs.Words.{Tight};
 ghost use Rattle.word_division.specs.Reduction.{less_product};
@@ -228,11 +228,11 @@ fn cofactors_few(
     let whole = field_tables::few_factorials(field);
     let part = field_tables::few_inverse_factorials(field);
     let inverses = field_tables::inverses(field);
-    let mut x = [0u16; field_tables::FEW_WORDS];
-    let mut y = [0u16; field_tables::FEW_WORDS];
-    let mut kept = [0u16; 3 * field_tables::FEW_WORDS];
-    let mut s = [0u16; field_tables::FEW_WORDS];
-    let mut t = [0u16; field_tables::FEW_WORDS];
+    let mut x = [0u16; refusal::FEW_WORDS];
+    let mut y = [0u16; refusal::FEW_WORDS];
+    let mut kept = [0u16; 3 * refusal::FEW_WORDS];
+    let mut s = [0u16; refusal::FEW_WORDS];
+    let mut t = [0u16; refusal::FEW_WORDS];
     cofactors_in(
         field,
         &whole,
@@ -305,7 +305,7 @@ fn cofactors_into(
     ensures { Results (field_at field) (longest field) f.now g.now result h.new a.new b.new }
 {
     let n = list_gcd::buffer_words(field, f, g);
-    if n <= field_tables::FEW_WORDS {
+    if n <= refusal::FEW_WORDS {
         return cofactors_few(field, f, g, n, h, a, b);
     }
     cofactors_many(field, f, g, n, h, a, b)

@@ -6,7 +6,8 @@ ghost use Rattle.field.specs.Fields.{modulus, field_at, longest};
 ghost use Rattle.refusal.specs.Refusal.{outcome_reply};
 ghost use Rattle.refusal.specs.Lowest.{lowest};
 ghost use Rattle.euclid_theory.specs.Division.{quotient_of, remainder_of};
-ghost use Rattle.field_tables.specs.Factorials.{few_words, TablesFor};
+ghost use Rattle.refusal.specs.Limits.{few_words};
+ghost use Rattle.field_tables.specs.Factorials.{TablesFor};
 ghost use Rattle.list_division.specs.Calls.{divide_rows, divide_answer, quotient_written, remainder_written, DividesSo};
 ghost use Rattle.list_division.specs.Internal.{DivideFits};
 
@@ -91,9 +92,9 @@ fn divide_few(
     let m = g.len();
     let n = f.len();
     let s = q.len();
-    let mut x = [0u16; field_tables::FEW_WORDS];
-    let mut y = [0u16; field_tables::FEW_WORDS];
-    let mut k = [0u16; field_tables::FEW_WORDS];
+    let mut x = [0u16; refusal::FEW_WORDS];
+    let mut y = [0u16; refusal::FEW_WORDS];
+    let mut k = [0u16; refusal::FEW_WORDS];
     divide_in(
         field,
         whole,
@@ -162,7 +163,7 @@ fn divide_with(
     ensures quotient { q.new ≡ quotient_of (field_at field) g.now f.now }
     ensures remainder { r.new ≡ remainder_of (field_at field) g.now f.now }
 {
-    if g.len() <= field_tables::FEW_WORDS {
+    if g.len() <= refusal::FEW_WORDS {
         divide_few(field, whole, part, inverses, g, f, q, r);
         return;
     }
@@ -176,7 +177,7 @@ fn divide_into(field: u8, g: &[u16], f: &[u16], q: &mut [u16], r: &mut [u16])
     ensures remainder { r.new ≡ remainder_of (field_at field) g.now f.now }
 {
     let inverses = field_tables::inverses(field);
-    if g.len() <= field_tables::FEW_WORDS {
+    if g.len() <= refusal::FEW_WORDS {
         let whole = field_tables::few_factorials(field);
         let part = field_tables::few_inverse_factorials(field);
         divide_with(field, &whole, &part, &inverses, g, f, q, r);

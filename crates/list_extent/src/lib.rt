@@ -6,7 +6,8 @@ ghost use Rattle.field.specs.Fields.{modulus, field_at, longest};
 ghost use Rattle.refusal.specs.Refusal.{outcome_reply};
 ghost use Rattle.refusal.specs.Lowest.{lowest};
 ghost use Rattle.lists.specs.Operations as of;
-ghost use Rattle.field_tables.specs.Factorials.{few_words, TablesFor};
+ghost use Rattle.refusal.specs.Limits.{few_words};
+ghost use Rattle.field_tables.specs.Factorials.{TablesFor};
 ghost use Rattle.list_extent.specs.Calls.{extent_reply, searched_reply, trim_rows, extent_answer, searched_answer, trim_answer, trim_written};
 ghost use Rattle.list_extent.specs.Internal.{TrimFits};
 
@@ -76,7 +77,7 @@ fn trim_few(field: u8, f: &[u16], out: &mut [u16])
     let whole = field_tables::few_factorials(field);
     let part = field_tables::few_inverse_factorials(field);
     let n = f.len();
-    let mut s = [0u16; field_tables::FEW_WORDS];
+    let mut s = [0u16; refusal::FEW_WORDS];
     trim_in(field, &whole, &part, f, &mut s[..n], out);
 }
 
@@ -97,7 +98,7 @@ fn trim_into(field: u8, f: &[u16], out: &mut [u16])
     requires { TrimFits (longest field) f.now out.old }
     ensures { out.new ≡ of.trim (field_at field) f.now }
 {
-    if f.len() <= field_tables::FEW_WORDS {
+    if f.len() <= refusal::FEW_WORDS {
         trim_few(field, f, out);
         return;
     }

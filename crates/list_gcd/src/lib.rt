@@ -4,13 +4,13 @@
 ghost use Rattle.std.specs.Prelude.{◌≡◌, cond, [], ◌∷◌, ℕ, min, max, ◌+◌, ◌*◌, ◌<◌, ◌≤◌, eqb, length, get_or, take};
 ghost use Rattle.algebra.specs.PrimeField.{residue};
 ghost use Rattle.field.specs.Fields.{modulus, field_at, longest};
-ghost use Rattle.refusal.specs.Limits.{max_words};
+ghost use Rattle.refusal.specs.Limits.{max_words, few_words};
 ghost use Rattle.refusal.specs.Lowest.{lowest};
 ghost use Rattle.lists.specs.Degrees.{significant};
 ghost use Rattle.lists.specs.Lists.{scaled};
 ghost use Rattle.euclid_theory.specs.Gcd.{gcd_of, rounds_of, common_power};
 ghost use Rattle.lists.specs.Padded.{padded};
-ghost use Rattle.field_tables.specs.Factorials.{few_words, Tables};
+ghost use Rattle.field_tables.specs.Factorials.{Tables};
 ghost use Rattle.list_gcd.specs.Calls.{gcd_reply, gcd_rows, gcd_answer, gcd_written, Greatest};
 ghost use Rattle.list_gcd.specs.Internal.{Ready, Zeros, Buffer, Holds, RoundKept, Ends, monic_words, last_inverse, LastOf, TrailOf, Numbers, gcd_done};
 ghost use Rattle.list_gcd.specs.declared.Gcd.TheVariants.{Done};
@@ -323,9 +323,9 @@ fn gcd_few(field: u8, f: &[u16], g: &[u16], n: usize, h: &mut [u16]) -> Result<G
     let whole = field_tables::few_factorials(field);
     let part = field_tables::few_inverse_factorials(field);
     let inverses = field_tables::inverses(field);
-    let mut x = [0u16; field_tables::FEW_WORDS];
-    let mut y = [0u16; field_tables::FEW_WORDS];
-    let mut kept = [0u16; 3 * field_tables::FEW_WORDS];
+    let mut x = [0u16; refusal::FEW_WORDS];
+    let mut y = [0u16; refusal::FEW_WORDS];
+    let mut kept = [0u16; 3 * refusal::FEW_WORDS];
     let found = gcd_in(
         field,
         &whole,
@@ -377,7 +377,7 @@ fn gcd_into(field: u8, f: &[u16], g: &[u16], h: &mut [u16]) -> Result<Gcd, Refus
     ensures h_after { h.new ≡ padded (longest field) (gcd_of (field_at field) f.now g.now) }
 {
     let n = buffer_words(field, f, g);
-    if n <= field_tables::FEW_WORDS {
+    if n <= refusal::FEW_WORDS {
         return gcd_few(field, f, g, n, h);
     }
     gcd_many(field, f, g, n, h)

@@ -2,11 +2,11 @@
 #![tactic(auto)]
 
 ghost use Rattle.std.specs.Prelude.{Ok, ◌≡◌, true, ◌++◌, ◌≤◌, length, take, drop};
-ghost use Rattle.refusal.specs.Limits.{max_words};
+ghost use Rattle.refusal.specs.Limits.{max_words, few_words};
 ghost use Rattle.refusal.specs.Refusal.{outcome_reply};
 ghost use Rattle.refusal.specs.Lowest.{lowest};
 ghost use Rattle.field.specs.Fields.{modulus, field_at, longest};
-ghost use Rattle.field_tables.specs.Factorials.{few_words, TablesFor};
+ghost use Rattle.field_tables.specs.Factorials.{TablesFor};
 ghost use Rattle.word_scaling.specs.Scaling.{weighed_into};
 ghost use Rattle.word_expansion.specs.Expansion.{expanded_into};
 ghost use Rattle.list_powers.specs.Powers.{powers_into};
@@ -111,9 +111,9 @@ fn divide_few(field: u8, g: &[u16], f: &[u16], l: usize, q: &mut [u16], r: &mut 
     let whole = field_tables::few_factorials(field);
     let part = field_tables::few_inverse_factorials(field);
     let inverses = field_tables::inverses(field);
-    let mut x = [0u16; field_tables::FEW_WORDS];
-    let mut y = [0u16; field_tables::FEW_WORDS];
-    let mut k = [0u16; field_tables::FEW_WORDS];
+    let mut x = [0u16; refusal::FEW_WORDS];
+    let mut y = [0u16; refusal::FEW_WORDS];
+    let mut k = [0u16; refusal::FEW_WORDS];
     divide_in(
         field,
         &whole,
@@ -164,7 +164,7 @@ fn divide_into(field: u8, g: &[u16], f: &[u16], q: &mut [u16], r: &mut [u16])
     ensures remainder { r.new ≡ ordinary_remainder (field_at field) g.now f.now }
 {
     let l = words::larger(g.len(), f.len());
-    if l <= field_tables::FEW_WORDS {
+    if l <= refusal::FEW_WORDS {
         divide_few(field, g, f, l, q, r);
         return;
     }

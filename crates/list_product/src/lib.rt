@@ -7,7 +7,8 @@ ghost use Rattle.refusal.specs.Refusal.{outcome_reply};
 ghost use Rattle.refusal.specs.Lowest.{lowest};
 ghost use Rattle.lists.specs.Degrees.{naive_degree};
 ghost use Rattle.lists.specs.Operations as of;
-ghost use Rattle.field_tables.specs.Factorials.{few_words, TablesFor};
+ghost use Rattle.refusal.specs.Limits.{few_words};
+ghost use Rattle.field_tables.specs.Factorials.{TablesFor};
 ghost use Rattle.list_product.specs.Calls.{product_rows, raise_rows, product_answer, product_written, raise_answer, raise_written};
 ghost use Rattle.list_product.specs.Internal.{ProductFits, RaiseFits};
 
@@ -98,9 +99,9 @@ fn product_few(field: u8, whole: &[u16], part: &[u16], f: &[u16], g: &[u16], out
     let d = f.len();
     let e = g.len();
     let n = out.len();
-    let mut a = [0u16; field_tables::FEW_WORDS];
-    let mut b = [0u16; field_tables::FEW_WORDS];
-    let mut s = [0u16; field_tables::FEW_WORDS];
+    let mut a = [0u16; refusal::FEW_WORDS];
+    let mut b = [0u16; refusal::FEW_WORDS];
+    let mut s = [0u16; refusal::FEW_WORDS];
     product_in(
         field,
         whole,
@@ -145,7 +146,7 @@ fn product_with(field: u8, whole: &[u16], part: &[u16], f: &[u16], g: &[u16], ou
     requires product_fits { ProductFits (length whole.now) f.now g.now out.old }
     ensures { out.new ≡ of.product (field_at field) f.now g.now }
 {
-    if out.len() <= field_tables::FEW_WORDS {
+    if out.len() <= refusal::FEW_WORDS {
         product_few(field, whole, part, f, g, out);
         return;
     }
@@ -157,7 +158,7 @@ fn product_into(field: u8, f: &[u16], g: &[u16], out: &mut [u16])
     requires { ProductFits (longest field) f.now g.now out.old }
     ensures { out.new ≡ of.product (field_at field) f.now g.now }
 {
-    if out.len() <= field_tables::FEW_WORDS {
+    if out.len() <= refusal::FEW_WORDS {
         let whole = field_tables::few_factorials(field);
         let part = field_tables::few_inverse_factorials(field);
         product_with(field, &whole, &part, f, g, out);
@@ -184,7 +185,7 @@ fn raise_into(field: u8, f: &[u16], out: &mut [u16])
     requires { RaiseFits (modulus field) (longest field) f.now out.old }
     ensures { out.new ≡ of.raise (field_at field) (naive_degree out.old) f.now }
 {
-    if out.len() <= field_tables::FEW_WORDS {
+    if out.len() <= refusal::FEW_WORDS {
         let whole = field_tables::few_factorials(field);
         let part = field_tables::few_inverse_factorials(field);
         raise_with(field, &whole, &part, f, out);

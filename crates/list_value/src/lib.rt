@@ -8,7 +8,8 @@ ghost use Rattle.field.specs.Field.{word_reply};
 ghost use Rattle.lists.specs.Lists.{word};
 ghost use Rattle.lists.specs.Operations as of;
 ghost use Rattle.lists.specs.Refused.{IsList};
-ghost use Rattle.field_tables.specs.Factorials.{few_words, TablesFor};
+ghost use Rattle.refusal.specs.Limits.{few_words};
+ghost use Rattle.field_tables.specs.Factorials.{TablesFor};
 ghost use Rattle.list_value.specs.Calls.{evaluate_rows, evaluate_answer};
 ghost use Rattle.list_value.specs.Internal.{homogeneous_of, power_of, powers_of, weights_of, most_of_product, most_of_group, products_of, groups, Terms};
 
@@ -185,7 +186,7 @@ fn value_few(field: u8, f: &[u16], x: u16) -> u16
     let whole = field_tables::few_factorials(field);
     let part = field_tables::few_inverse_factorials(field);
     let n = f.len();
-    let mut s = [0u16; field_tables::FEW_WORDS];
+    let mut s = [0u16; refusal::FEW_WORDS];
     value_in(field, &whole, &part, f, x, &mut s[..n])
 }
 
@@ -206,7 +207,7 @@ fn value_at(field: u8, f: &[u16], x: u16) -> u16
     requires { IsList (modulus field) (longest field) f.now }
     ensures { result ≡ of.evaluate (field_at field) f.now x }
 {
-    if f.len() <= field_tables::FEW_WORDS {
+    if f.len() <= refusal::FEW_WORDS {
         return value_few(field, f, x);
     }
     value_many(field, f, x)

@@ -1,6 +1,7 @@
 -- The limits of lists, albums and lines of algebra. Definitions and laws take a limit as a parameter; contracts name it from here.
 --     max_degree     the largest naive degree of a list
 --     max_words      the largest number of words of a list
+--     few_words      the number of words of a small buffer
 --     max_lists      the largest number of lists of an album
 --     entry_bytes    the number of bytes of an album's entry
 --     max_bytes      the largest number of bytes of an album
@@ -14,6 +15,9 @@ max_degree = 1023
 
 abbrev pub max_words : ℕ
 max_words = 1024
+
+abbrev pub few_words : ℕ
+few_words = 256
 
 abbrev pub max_lists : ℕ
 max_lists = 16

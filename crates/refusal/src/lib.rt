@@ -11,6 +11,9 @@ pub const MAX_DEGREE: usize = 1023;
 
 pub const MAX_WORDS: usize = MAX_DEGREE + 1;
 
+// The words of a small buffer. A call on few words lends its workers small arrays, since arrays are filled with zeros.
+pub const FEW_WORDS: usize = 256;
+
 // The largest album: the count, and for each list an entry and a body of words of 2 bytes.
 pub const MAX_LISTS: usize = 16;
 

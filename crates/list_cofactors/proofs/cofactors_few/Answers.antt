@@ -5,7 +5,8 @@ use Prim.Native.Nat.{◌*◌}
 use native.Mathlib.Omega.{arith}
 use Rattle.field.specs.Fields.{field_at}
 use Rattle.field.proofs.Fields.{longest-full}
-use Rattle.field_tables.specs.Factorials.{few_words, Tables}
+use Rattle.refusal.specs.Limits.{few_words}
+use Rattle.field_tables.specs.Factorials.{Tables}
 use Rattle.lists.proofs.Parts.{prefix-length}
 use Rattle.list_cofactors.proofs.Written.{buffers-lent}
 use Rattle.list_cofactors.proofs.cofactors_few.Goals as goal

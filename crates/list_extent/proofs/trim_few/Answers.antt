@@ -4,7 +4,7 @@ use mathlib.Core.Path.{◌≡◌}
 use native.Mathlib.Omega.{arith}
 use lib.ListN.{length, length-take}
 use Rattle.field.specs.Fields.{longest}
-use Rattle.field_tables.specs.Factorials.{few_words}
+use Rattle.refusal.specs.Limits.{few_words}
 use Rattle.field_tables.proofs.Entries.{tables-for}
 use Rattle.list_extent.proofs.trim_few.Goals as goal
 

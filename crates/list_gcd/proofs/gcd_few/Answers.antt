@@ -6,7 +6,8 @@ use native.Mathlib.Omega.{arith}
 use lib.ListN.{length-take}
 use Rattle.field.specs.Fields.{field_at, longest}
 use Rattle.field.proofs.Fields.{longest-full}
-use Rattle.field_tables.specs.Factorials.{few_words, Tables}
+use Rattle.refusal.specs.Limits.{few_words}
+use Rattle.field_tables.specs.Factorials.{Tables}
 use Rattle.field_tables.proofs.Entries.{tables-within}
 use Rattle.lists.proofs.Parts.{prefix-length}
 use Rattle.list_gcd.proofs.Buffers.{zeros-arrays, zeros-lent}

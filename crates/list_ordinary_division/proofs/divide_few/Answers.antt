@@ -4,7 +4,7 @@ use mathlib.Core.Path.{◌≡◌, refl, sym}
 use native.Mathlib.Omega.{arith}
 use lib.ListN.{length}
 use Rattle.field.specs.Fields.{longest}
-use Rattle.field_tables.specs.Factorials.{few_words}
+use Rattle.refusal.specs.Limits.{few_words}
 use Rattle.field_tables.proofs.Entries.{tables-for}
 use Rattle.lists.proofs.Parts.{prefix-length}
 use Rattle.list_ordinary_division.proofs.Forms.{ordinary-within, buffers-part}

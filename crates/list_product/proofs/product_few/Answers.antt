@@ -2,7 +2,7 @@
 -- Assumes nothing.
 use mathlib.Core.Path.{refl, sym}
 use native.Mathlib.Omega.{arith}
-use Rattle.field_tables.specs.Factorials.{few_words}
+use Rattle.refusal.specs.Limits.{few_words}
 use Rattle.lists.proofs.Parts.{prefix-length}
 use Rattle.list_product.proofs.product_few.Goals as goal
 

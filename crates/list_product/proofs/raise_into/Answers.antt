@@ -3,9 +3,8 @@
 use mathlib.Core.Path.{◌≡◌}
 use native.Mathlib.Omega.{arith}
 use lib.ListN.{length}
-use Rattle.refusal.specs.Limits.{max_words}
+use Rattle.refusal.specs.Limits.{max_words, few_words}
 use Rattle.field.specs.Fields.{longest}
-use Rattle.field_tables.specs.Factorials.{few_words}
 use Rattle.field_tables.proofs.Entries.{tables-for}
 use Rattle.list_product.proofs.Products.{raise-in}
 use Rattle.list_product.proofs.raise_into.Goals as goal

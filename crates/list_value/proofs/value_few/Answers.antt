@@ -5,7 +5,7 @@ use native.Mathlib.Omega.{arith}
 use lib.ListN.{length, length-take}
 use Rattle.field.specs.Fields.{modulus, longest}
 use Rattle.lists.specs.Refused.{IsList}
-use Rattle.field_tables.specs.Factorials.{few_words}
+use Rattle.refusal.specs.Limits.{few_words}
 use Rattle.field_tables.proofs.Entries.{tables-for}
 use Rattle.list_value.proofs.value_few.Goals as goal
 

@@ -87,11 +87,11 @@ fn gcd_in(
         return Err(Refusal::Misfit);
     }
     words::copy(res, h);
-    Ok(
-        NaiveDegree(found.words - 1),
-        Power(found.least),
-        Rounds(found.rounds),
-    )
+    Ok(Gcd {
+        degree: NaiveDegree(found.words - 1),
+        power: Power(found.least),
+        rounds: Rounds(found.rounds),
+    })
 }
 
 // The result so far: the number of its words, the rounds that it took, and the least power of the lists that are not zero. The words of
@@ -158,10 +158,10 @@ fn join_list(
     let power = lists::power_in(list);
     words::copy(res, last);
     match list_gcd::gcd_over(field, &last[..used], list, res) {
-        Ok(w, _, more) => SoFar {
-            words: w.0 + 1,
-            rounds: rounds + more.0,
-            least: words::smaller(least, power.0),
+        Ok(gcd) => SoFar {
+            words: gcd.degree.0 + 1,
+            rounds: rounds + gcd.rounds.0,
+            least: least.min(power.0),
         },
         Err(_) => SoFar {
             words: used,

@@ -31,10 +31,8 @@ pub fn line_value_over(field: u8, album: &[u8], line: &[u8], out: &mut [u16]) ->
     ensures writes { out.new ≡ line_written field album.now line.now out.old }
 {
     let mut code = [0u8; refusal::MAX_LINE];
-    match judge(field, album, line, out, &mut code) {
-        Ok(n) => value_into(field, album, &code[..n], out),
-        Err(why) => Err(why),
-    }
+    let n = judge(field, album, line, out, &mut code)?;
+    value_into(field, album, &code[..n], out)
 }
 
 // What the call refuses by its inputs alone; the line's program goes to `code`. 12, 13 and 3 go between an album's 2 and its 5, so that the
@@ -45,10 +43,7 @@ fn judge(field: u8, album: &[u8], line: &[u8], out: &[u16], code: &mut [u8]) -> 
     ensures program_of { ProgramOf line.now code.new result }
 {
     album_layout::judge_layout(album)?;
-    let read = lines::read_line(line, code);
-    let Ok(n) = read else {
-        return read;
-    };
+    let n = lines::read_line(line, code)?;
     if lacks_list(words::byte_at(album, 0), &code[..n]) {
         return Err(Refusal::Index);
     }
@@ -56,7 +51,7 @@ fn judge(field: u8, album: &[u8], line: &[u8], out: &[u16], code: &mut [u8]) -> 
     if out.len() != field::longest_of(field) {
         return Err(Refusal::Misfit);
     }
-    read
+    Ok(n)
 }
 
 // Whether a byte of a program is an operand that an album of so many lists lacks.
@@ -91,13 +86,9 @@ fn value_into(field: u8, album: &[u8], code: &[u8], out: &mut [u16]) -> Result<N
     let mut stack = [0u16; STACK_WORDS];
     let mut sizes = [0usize; MAX_HEIGHT];
     let mut room = [0u16; refusal::MAX_WORDS];
-    match run(field, album, code, &mut stack, &mut sizes, &mut room) {
-        Ok(n) => {
-            pad(&stack[..n], out);
-            Ok(NaiveDegree(n - 1))
-        }
-        Err(why) => Err(why),
-    }
+    let n = run(field, album, code, &mut stack, &mut sizes, &mut room)?;
+    pad(&stack[..n], out);
+    Ok(NaiveDegree(n - 1))
 }
 
 // Word k of a list, and 0 behind its end.
@@ -134,16 +125,8 @@ fn run(
 {
     let mut top = 0;
     let mut filled = 0;
-    let mut i = 0;
-    while i < code.len() {
-        match step(field, album, code[i], stack, sizes, top, filled, room) {
-            Ok(lists, words) => {
-                top = lists;
-                filled = words;
-            }
-            Err(why) => return Err(why),
-        }
-        i += 1;
+    for &x in code {
+        (top, filled) = step(field, album, x, stack, sizes, top, filled, room)?;
     }
     Ok(filled)
 }
@@ -169,7 +152,7 @@ fn step(
             &mut stack[filled..filled + refusal::MAX_WORDS],
         );
         sizes[top] = n;
-        return Ok(top + 1, filled + n);
+        return Ok((top + 1, filled + n));
     }
     if x == lines::DERIVE {
         return derive_top(field, stack, sizes, top, filled, room);
@@ -195,7 +178,7 @@ fn derive_top(
     list_derivative::derivative_over(field, &stack[from..filled], &mut room[..n]);
     words::copy(&room[..n], &mut stack[from..from + n]);
     sizes[top - 1] = n;
-    Ok(top, from + n)
+    Ok((top, from + n))
 }
 
 // What an operator makes of the two lists on top takes their place.
@@ -213,20 +196,10 @@ fn join_top(
 {
     let between = filled - sizes[top - 1];
     let from = between - sizes[top - 2];
-    match operate(
-        field,
-        x,
-        &stack[from..between],
-        &stack[between..filled],
-        room,
-    ) {
-        Ok(n) => {
-            words::copy(&room[..n], &mut stack[from..from + n]);
-            sizes[top - 2] = n;
-            Ok(top - 1, from + n)
-        }
-        Err(why) => Err(why),
-    }
+    let n = operate(field, x, &stack[from..between], &stack[between..filled], room)?;
+    words::copy(&room[..n], &mut stack[from..from + n]);
+    sizes[top - 2] = n;
+    Ok((top - 1, from + n))
 }
 
 // a and b by an operator, in front of `room`.

@@ -3,7 +3,7 @@
 #![tactic(auto)]
 
 ghost use Rattle.std.specs.Prelude.{◌≡◌, false, [], ◌∷◌, ◌≤◌, ◌<◌, length};
-ghost use Rattle.refusal.specs.Limits.{max_words, few_words};
+ghost use Rattle.refusal.specs.Limits.{max_words};
 ghost use Rattle.field.specs.Fields.{longest};
 ghost use Rattle.lists.specs.Bytes.{word_count, bytes_of};
 ghost use Rattle.list_bytes.specs.Calls.{host_product_answer, host_product_written};
@@ -134,33 +134,18 @@ fn product_in(
     }
 }
 
-// The product of two lists that pass, with a result of k words, in small arrays, since each is filled with zeros.
-fn product_few(field: u8, f: &[u8], g: &[u8], k: usize, out: &mut [u8]) -> u8
+// The product of two lists that pass, with a result of k words, in arrays of N words, which are filled with zeros.
+fn product_sized<const N: usize>(field: u8, f: &[u8], g: &[u8], k: usize, out: &mut [u8]) -> u8
     requires f_value { (bad_list (longest field) f.now ≡ false) × (bad_list (longest field) g.now ≡ false) }
-    requires f_bound { (word_count f.now ≤ few_words) × (word_count g.now ≤ few_words) × (k ≤ few_words) × (k ≡ room_of (longest field) 0 out.old) }
+    requires f_bound { (word_count f.now ≤ N) × (word_count g.now ≤ N) × (k ≤ N) × (k ≡ room_of (longest field) 0 out.old) }
     ensures value { result ≡ host_product_answer field f.now g.now out.old }
     ensures out_after { out.new ≡ host_product_written field f.now g.now out.old }
 {
     let n = f.len() / 2;
     let m = g.len() / 2;
-    let mut a = [0u16; refusal::FEW_WORDS];
-    let mut b = [0u16; refusal::FEW_WORDS];
-    let mut c = [0u16; refusal::FEW_WORDS];
-    product_in(field, f, g, &mut a[..n], &mut b[..m], &mut c[..k], out)
-}
-
-// The same in arrays that take any list.
-fn product_many(field: u8, f: &[u8], g: &[u8], k: usize, out: &mut [u8]) -> u8
-    requires f_value { (bad_list (longest field) f.now ≡ false) × (bad_list (longest field) g.now ≡ false) }
-    requires f_bound { (word_count f.now ≤ max_words) × (word_count g.now ≤ max_words) × (k ≤ max_words) × (k ≡ room_of (longest field) 0 out.old) }
-    ensures value { result ≡ host_product_answer field f.now g.now out.old }
-    ensures out_after { out.new ≡ host_product_written field f.now g.now out.old }
-{
-    let n = f.len() / 2;
-    let m = g.len() / 2;
-    let mut a = [0u16; refusal::MAX_WORDS];
-    let mut b = [0u16; refusal::MAX_WORDS];
-    let mut c = [0u16; refusal::MAX_WORDS];
+    let mut a = [0u16; N];
+    let mut b = [0u16; N];
+    let mut c = [0u16; N];
     product_in(field, f, g, &mut a[..n], &mut b[..m], &mut c[..k], out)
 }
 
@@ -171,11 +156,11 @@ fn product_lists(field: u8, f: &[u8], g: &[u8], out: &mut [u8]) -> u8
     ensures out_after { out.new ≡ host_product_written field f.now g.now out.old }
 {
     let k = room(field, out, 0);
-    let longer = words::larger(f.len() / 2, g.len() / 2);
-    if words::larger(longer, k) <= refusal::FEW_WORDS {
-        return product_few(field, f, g, k, out);
+    let most = (f.len() / 2).max(g.len() / 2).max(k);
+    if most <= refusal::FEW_WORDS {
+        return product_sized::<{ refusal::FEW_WORDS }>(field, f, g, k, out);
     }
-    product_many(field, f, g, k, out)
+    product_sized::<{ refusal::MAX_WORDS }>(field, f, g, k, out)
 }
 
 // The division by way of words: g and f in a and b, the quotient in c, the remainder in d.
@@ -210,10 +195,18 @@ fn divide_in(
     }
 }
 
-// g divided by f, two lists that pass, with results of k and l words, in small arrays, since each is filled with zeros.
-fn divide_few(field: u8, g: &[u8], f: &[u8], k: usize, l: usize, q: &mut [u8], r: &mut [u8]) -> u8
+// g divided by f, two lists that pass, with results of k and l words, in arrays of N words, which are filled with zeros.
+fn divide_sized<const N: usize>(
+    field: u8,
+    g: &[u8],
+    f: &[u8],
+    k: usize,
+    l: usize,
+    q: &mut [u8],
+    r: &mut [u8],
+) -> u8
     requires g_value { (bad_list (longest field) g.now ≡ false) × (bad_list (longest field) f.now ≡ false) }
-    requires g_bound { (word_count g.now ≤ few_words) × (word_count f.now ≤ few_words) × (k ≤ few_words) × (l ≤ few_words) }
+    requires g_bound { (word_count g.now ≤ N) × (word_count f.now ≤ N) × (k ≤ N) × (l ≤ N) }
     requires k_value { (k ≡ room_of (longest field) 0 q.old) × (l ≡ room_of (longest field) (longest field) r.old) }
     ensures value { result ≡ host_division_answer field g.now f.now q.old r.old }
     ensures q_after { q.new ≡ host_quotient_written field g.now f.now q.old r.old }
@@ -221,38 +214,10 @@ fn divide_few(field: u8, g: &[u8], f: &[u8], k: usize, l: usize, q: &mut [u8], r
 {
     let n = g.len() / 2;
     let m = f.len() / 2;
-    let mut a = [0u16; refusal::FEW_WORDS];
-    let mut b = [0u16; refusal::FEW_WORDS];
-    let mut c = [0u16; refusal::FEW_WORDS];
-    let mut d = [0u16; refusal::FEW_WORDS];
-    divide_in(
-        field,
-        g,
-        f,
-        &mut a[..n],
-        &mut b[..m],
-        &mut c[..k],
-        &mut d[..l],
-        q,
-        r,
-    )
-}
-
-// The same in arrays that take any list.
-fn divide_many(field: u8, g: &[u8], f: &[u8], k: usize, l: usize, q: &mut [u8], r: &mut [u8]) -> u8
-    requires g_value { (bad_list (longest field) g.now ≡ false) × (bad_list (longest field) f.now ≡ false) }
-    requires g_bound { (word_count g.now ≤ max_words) × (word_count f.now ≤ max_words) × (k ≤ max_words) × (l ≤ max_words) }
-    requires k_value { (k ≡ room_of (longest field) 0 q.old) × (l ≡ room_of (longest field) (longest field) r.old) }
-    ensures value { result ≡ host_division_answer field g.now f.now q.old r.old }
-    ensures q_after { q.new ≡ host_quotient_written field g.now f.now q.old r.old }
-    ensures r_after { r.new ≡ host_remainder_written field g.now f.now q.old r.old }
-{
-    let n = g.len() / 2;
-    let m = f.len() / 2;
-    let mut a = [0u16; refusal::MAX_WORDS];
-    let mut b = [0u16; refusal::MAX_WORDS];
-    let mut c = [0u16; refusal::MAX_WORDS];
-    let mut d = [0u16; refusal::MAX_WORDS];
+    let mut a = [0u16; N];
+    let mut b = [0u16; N];
+    let mut c = [0u16; N];
+    let mut d = [0u16; N];
     divide_in(
         field,
         g,
@@ -275,11 +240,11 @@ fn divide_lists(field: u8, g: &[u8], f: &[u8], q: &mut [u8], r: &mut [u8]) -> u8
 {
     let k = room(field, q, 0);
     let l = room(field, r, field::longest_of(field));
-    let longer = words::larger(g.len() / 2, f.len() / 2);
-    if words::larger(longer, words::larger(k, l)) <= refusal::FEW_WORDS {
-        return divide_few(field, g, f, k, l, q, r);
+    let most = (g.len() / 2).max(f.len() / 2).max(k).max(l);
+    if most <= refusal::FEW_WORDS {
+        return divide_sized::<{ refusal::FEW_WORDS }>(field, g, f, k, l, q, r);
     }
-    divide_many(field, g, f, k, l, q, r)
+    divide_sized::<{ refusal::MAX_WORDS }>(field, g, f, k, l, q, r)
 }
 
 // The three numbers of an answer as words.
@@ -313,9 +278,9 @@ fn gcd_in(
     words::read_words(g, b);
     let found = list_gcd::gcd_over(field, a, b, c);
     match found {
-        Ok(w, power, rounds) => {
+        Ok(gcd) => {
             words::write_words(c, h);
-            write_three(w, power, rounds, answer);
+            write_three(gcd.degree, gcd.power, gcd.rounds, answer);
             COMPLETED
         }
         Err(why) => u8::from(why),

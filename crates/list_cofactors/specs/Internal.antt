@@ -52,7 +52,7 @@ module _ (F : PrimeField) where
   unfoldable pub times_list : (words : ℕ) (m : K) → List ℕ → List ℕ
   times_list words m form = unscaled F words (C F.series m *ˢ series_of F form)
 
-  pub record Results (n : ℕ) (f g : List ℕ) (r : Result Gcd Refusal) (h a b : List ℕ) : Type 0 where
+  pub record Results (n : ℕ) (f g : List ℕ) (r : Gcd) (h a b : List ℕ) : Type 0 where
     pub answer : r ≡ gcd_done F f g
     pub gcd : h ≡ padded n (gcd_of F f g)
     pub cofactor-a : a ≡ cofactor_a F f g

@@ -3,10 +3,9 @@
 
 ghost use Rattle.std.specs.Prelude.{◌≡◌, cond, suc, min, ◌+◌, ◌-◌, ◌<◌, ◌≤◌, length, take};
 ghost use Rattle.algebra.specs.PrimeField.{residue};
-ghost use Rattle.refusal.specs.Limits.{max_words, few_words};
+ghost use Rattle.refusal.specs.Limits.{max_words};
 ghost use Rattle.refusal.specs.Lowest.{lowest};
 ghost use Rattle.field.specs.Fields.{modulus, field_at, longest};
-ghost use Rattle.field_tables.specs.Factorials.{Tables};
 ghost use Rattle.lists.specs.Degrees.{naive_degree};
 ghost use Rattle.lists.specs.Words.{Tight};
 ghost use Rattle.word_division.specs.Reduction.{less_product};
@@ -37,7 +36,7 @@ pub fn cofactors_over(
     ensures identity { Cofactors (field_at field) f.now g.now a.new b.new result }
 {
     judge_cofactors(field, f, g, h, a, b)?;
-    cofactors_into(field, f, g, h, a, b)
+    Ok(cofactors_into(field, f, g, h, a, b))
 }
 
 // The number of words of the cofactor of a list: m less its naive degree, plus 1.
@@ -137,30 +136,26 @@ fn substitute_back(field: u8, kept: &[u16], used: usize, s: &mut [u16], t: &mut 
 // a from t and b from s, each times m.
 fn write_pair(
     field: u8,
-    whole: &[u16],
-    part: &[u16],
     s: &mut [u16],
     t: &mut [u16],
     m: u16,
     a: &mut [u16],
     b: &mut [u16],
 )
-    requires tables { Tables (field_at field) (length s.old) whole.now part.now × (length s.old ≤ longest field) }
+    requires s_in_bounds { length s.old ≤ longest field }
     requires t_len { (length t.old ≡ length s.old) × (length a.old ≤ length s.old) × (length b.old ≤ length s.old) }
     ensures a_after { a.new ≡ times_list (field_at field) (length a.old) (residue (field_at field) m) t.old }
     ensures b_after { b.new ≡ times_list (field_at field) (length b.old) (residue (field_at field) m) s.old }
 {
-    let na = a.len();
-    let nb = b.len();
-    euclid_round::write_list(field, whole, part, t, m, na, a);
-    euclid_round::write_list(field, whole, part, s, m, nb, b);
+    let whole = field_tables::factorials(field);
+    let part = field_tables::inverse_factorials(field);
+    euclid_round::write_list(field, whole, part, t, m, a.len(), a);
+    euclid_round::write_list(field, whole, part, s, m, b.len(), b);
 }
 
 // The same where s and t have changed places unless `first`.
 fn write_cofactors(
     field: u8,
-    whole: &[u16],
-    part: &[u16],
     first: bool,
     s: &mut [u16],
     t: &mut [u16],
@@ -168,24 +163,21 @@ fn write_cofactors(
     a: &mut [u16],
     b: &mut [u16],
 )
-    requires tables { Tables (field_at field) (length s.old) whole.now part.now × (length s.old ≤ longest field) }
+    requires s_in_bounds { length s.old ≤ longest field }
     requires t_len { (length t.old ≡ length s.old) × (length a.old ≤ length s.old) × (length b.old ≤ length s.old) }
     ensures a_after { a.new ≡ times_list (field_at field) (length a.old) (residue (field_at field) m) (cond first t.old s.old) }
     ensures b_after { b.new ≡ times_list (field_at field) (length b.old) (residue (field_at field) m) (cond first s.old t.old) }
 {
     if first {
-        write_pair(field, whole, part, s, t, m, a, b);
+        write_pair(field, s, t, m, a, b);
         return;
     }
-    write_pair(field, whole, part, t, s, m, a, b);
+    write_pair(field, t, s, m, a, b);
 }
 
 // The GCD and its cofactors by way of buffers. The cofactors are divided by the last word of the last x, as h is.
 fn cofactors_in(
     field: u8,
-    whole: &[u16],
-    part: &[u16],
-    inverses: &[u16],
     f: &[u16],
     g: &[u16],
     x: &mut [u16],
@@ -196,23 +188,23 @@ fn cofactors_in(
     h: &mut [u16],
     a: &mut [u16],
     b: &mut [u16],
-) -> Result<Gcd, Refusal>
+) -> Gcd
     requires in_bounds { (1 < length x.old) × (length x.old ≤ longest field) }
-    requires tables { Tables (field_at field) (length x.old) whole.now part.now }
     requires ready { Ready (field_at field) (length x.old) f.now g.now }
     requires slices { Slices (longest field) f.now g.now h.old a.old b.old }
     requires zeros { Zeros (length x.old) x.old y.old kept.old × ZeroPair (length x.old) s.old t.old }
     ensures { Results (field_at field) (longest field) f.now g.now result h.new a.new b.new }
 {
-    let found = list_gcd::gcd_in(field, whole, part, inverses, f, g, x, y, kept, h);
+    let inverses = field_tables::inverses(field);
+    let found = list_gcd::gcd_in(field, inverses, f, g, x, y, kept, h);
     let first = substitute_back(field, kept, found.kept, s, t);
-    write_cofactors(field, whole, part, first, s, t, found.inverse, a, b);
-    list_gcd::answer_of(found)
+    write_cofactors(field, first, s, t, found.inverse, a, b);
+    found.gcd
 }
 
-// The cofactors for short lists, where nothing is refused, in buffers of n words, with small tables and small arrays: tables are copied, and
-// arrays are filled with zeros.
-fn cofactors_few(
+// The cofactors where nothing is refused, in buffers of n words, in arrays of N words, which are filled with zeros; of quotients K words are
+// kept.
+fn cofactors_sized<const N: usize, const K: usize>(
     field: u8,
     f: &[u16],
     g: &[u16],
@@ -220,64 +212,19 @@ fn cofactors_few(
     h: &mut [u16],
     a: &mut [u16],
     b: &mut [u16],
-) -> Result<Gcd, Refusal>
-    requires ready { Ready (field_at field) n f.now g.now × (1 < n) × (n ≤ few_words) }
-    requires slices { Slices (longest field) f.now g.now h.old a.old b.old }
-    ensures { Results (field_at field) (longest field) f.now g.now result h.new a.new b.new }
-{
-    let whole = field_tables::few_factorials(field);
-    let part = field_tables::few_inverse_factorials(field);
-    let inverses = field_tables::inverses(field);
-    let mut x = [0u16; refusal::FEW_WORDS];
-    let mut y = [0u16; refusal::FEW_WORDS];
-    let mut kept = [0u16; 3 * refusal::FEW_WORDS];
-    let mut s = [0u16; refusal::FEW_WORDS];
-    let mut t = [0u16; refusal::FEW_WORDS];
-    cofactors_in(
-        field,
-        &whole,
-        &part,
-        &inverses,
-        f,
-        g,
-        &mut x[..n],
-        &mut y[..n],
-        &mut kept[..3 * n],
-        &mut s[..n],
-        &mut t[..n],
-        h,
-        a,
-        b,
-    )
-}
-
-// The cofactors for any lists, where nothing is refused, in buffers of n words.
-fn cofactors_many(
-    field: u8,
-    f: &[u16],
-    g: &[u16],
-    n: usize,
-    h: &mut [u16],
-    a: &mut [u16],
-    b: &mut [u16],
-) -> Result<Gcd, Refusal>
+) -> Gcd
     requires ready { Ready (field_at field) n f.now g.now × (1 < n) × (n ≤ longest field) }
+    requires sizes { (n ≤ N) × (3 * n ≤ K) }
     requires slices { Slices (longest field) f.now g.now h.old a.old b.old }
     ensures { Results (field_at field) (longest field) f.now g.now result h.new a.new b.new }
 {
-    let whole = field_tables::factorials(field);
-    let part = field_tables::inverse_factorials(field);
-    let inverses = field_tables::inverses(field);
-    let mut x = [0u16; refusal::MAX_WORDS];
-    let mut y = [0u16; refusal::MAX_WORDS];
-    let mut kept = [0u16; 3 * refusal::MAX_WORDS];
-    let mut s = [0u16; refusal::MAX_WORDS];
-    let mut t = [0u16; refusal::MAX_WORDS];
+    let mut x = [0u16; N];
+    let mut y = [0u16; N];
+    let mut kept = [0u16; K];
+    let mut s = [0u16; N];
+    let mut t = [0u16; N];
     cofactors_in(
         field,
-        &whole,
-        &part,
-        &inverses,
         f,
         g,
         &mut x[..n],
@@ -291,7 +238,7 @@ fn cofactors_many(
     )
 }
 
-// The same with tables and arrays of the size that the longer list needs.
+// The same with arrays of the size that the longer list needs.
 fn cofactors_into(
     field: u8,
     f: &[u16],
@@ -299,14 +246,16 @@ fn cofactors_into(
     h: &mut [u16],
     a: &mut [u16],
     b: &mut [u16],
-) -> Result<Gcd, Refusal>
+) -> Gcd
     requires ready { Ready (field_at field) (longest field) f.now g.now }
     requires slices { Slices (longest field) f.now g.now h.old a.old b.old }
     ensures { Results (field_at field) (longest field) f.now g.now result h.new a.new b.new }
 {
     let n = list_gcd::buffer_words(field, f, g);
     if n <= refusal::FEW_WORDS {
-        return cofactors_few(field, f, g, n, h, a, b);
+        return cofactors_sized::<{ refusal::FEW_WORDS }, { list_gcd::FEW_KEPT }>(
+            field, f, g, n, h, a, b,
+        );
     }
-    cofactors_many(field, f, g, n, h, a, b)
+    cofactors_sized::<{ refusal::MAX_WORDS }, { list_gcd::ALL_KEPT }>(field, f, g, n, h, a, b)
 }

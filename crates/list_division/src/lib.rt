@@ -6,8 +6,6 @@ ghost use Rattle.field.specs.Fields.{modulus, field_at, longest};
 ghost use Rattle.refusal.specs.Refusal.{outcome_reply};
 ghost use Rattle.refusal.specs.Lowest.{lowest};
 ghost use Rattle.euclid_theory.specs.Division.{quotient_of, remainder_of};
-ghost use Rattle.refusal.specs.Limits.{few_words};
-ghost use Rattle.field_tables.specs.Factorials.{TablesFor};
 ghost use Rattle.list_division.specs.Calls.{divide_rows, divide_answer, quotient_written, remainder_written, DividesSo};
 ghost use Rattle.list_division.specs.Internal.{DivideFits};
 
@@ -48,9 +46,6 @@ fn judge_divide(field: u8, g: &[u16], f: &[u16], q: &[u16], r: &[u16]) -> Result
 // The scaled forms of g and f in x and y, the quotient of them in k and the remainder in x, and back into q and r.
 fn divide_in(
     field: u8,
-    whole: &[u16],
-    part: &[u16],
-    inverses: &[u16],
     g: &[u16],
     f: &[u16],
     x: &mut [u16],
@@ -59,12 +54,14 @@ fn divide_in(
     q: &mut [u16],
     r: &mut [u16],
 )
-    requires tables_for { TablesFor field whole.now part.now }
-    requires divide_fits { DivideFits (field_at field) (length whole.now) g.now f.now q.old r.old }
+    requires divide_fits { DivideFits (field_at field) (longest field) g.now f.now q.old r.old }
     requires x_len { (length x.old ≡ length g.now) × (length y.old ≡ length f.now) × (length k.old ≡ length q.old) }
     ensures quotient { q.new ≡ quotient_of (field_at field) g.now f.now }
     ensures remainder { r.new ≡ remainder_of (field_at field) g.now f.now }
 {
+    let whole = field_tables::factorials(field);
+    let part = field_tables::inverse_factorials(field);
+    let inverses = field_tables::inverses(field);
     let inv = field_inverse::inverse_or_zero(field, inverses, f[f.len() - 1]);
     word_scaling::weigh(field, g, whole, part, x);
     word_scaling::weigh(field, f, whole, part, y);
@@ -73,117 +70,30 @@ fn divide_in(
     word_scaling::weigh(field, x, part, whole, r);
 }
 
-// The division where nothing is refused, with tables that are lent, in small arrays, since each is filled with zeros.
-fn divide_few(
-    field: u8,
-    whole: &[u16],
-    part: &[u16],
-    inverses: &[u16],
-    g: &[u16],
-    f: &[u16],
-    q: &mut [u16],
-    r: &mut [u16],
-)
-    requires tables_for { TablesFor field whole.now part.now }
-    requires divide_fits { DivideFits (field_at field) (length whole.now) g.now f.now q.old r.old × (length g.now ≤ few_words) }
+// The division where nothing is refused, in arrays of N words, which are filled with zeros.
+fn divide_sized<const N: usize>(field: u8, g: &[u16], f: &[u16], q: &mut [u16], r: &mut [u16])
+    requires { DivideFits (field_at field) (longest field) g.now f.now q.old r.old × (length g.now ≤ N) }
     ensures quotient { q.new ≡ quotient_of (field_at field) g.now f.now }
     ensures remainder { r.new ≡ remainder_of (field_at field) g.now f.now }
 {
     let m = g.len();
     let n = f.len();
     let s = q.len();
-    let mut x = [0u16; refusal::FEW_WORDS];
-    let mut y = [0u16; refusal::FEW_WORDS];
-    let mut k = [0u16; refusal::FEW_WORDS];
-    divide_in(
-        field,
-        whole,
-        part,
-        inverses,
-        g,
-        f,
-        &mut x[..m],
-        &mut y[..n],
-        &mut k[..s],
-        q,
-        r,
-    );
-}
-
-// The same in arrays that take any list.
-fn divide_many(
-    field: u8,
-    whole: &[u16],
-    part: &[u16],
-    inverses: &[u16],
-    g: &[u16],
-    f: &[u16],
-    q: &mut [u16],
-    r: &mut [u16],
-)
-    requires tables_for { TablesFor field whole.now part.now }
-    requires divide_fits { DivideFits (field_at field) (length whole.now) g.now f.now q.old r.old }
-    ensures quotient { q.new ≡ quotient_of (field_at field) g.now f.now }
-    ensures remainder { r.new ≡ remainder_of (field_at field) g.now f.now }
-{
-    let m = g.len();
-    let n = f.len();
-    let s = q.len();
-    let mut x = [0u16; refusal::MAX_WORDS];
-    let mut y = [0u16; refusal::MAX_WORDS];
-    let mut k = [0u16; refusal::MAX_WORDS];
-    divide_in(
-        field,
-        whole,
-        part,
-        inverses,
-        g,
-        f,
-        &mut x[..m],
-        &mut y[..n],
-        &mut k[..s],
-        q,
-        r,
-    );
+    let mut x = [0u16; N];
+    let mut y = [0u16; N];
+    let mut k = [0u16; N];
+    divide_in(field, g, f, &mut x[..m], &mut y[..n], &mut k[..s], q, r);
 }
 
 // The same in arrays of the size that the dividend needs.
-fn divide_with(
-    field: u8,
-    whole: &[u16],
-    part: &[u16],
-    inverses: &[u16],
-    g: &[u16],
-    f: &[u16],
-    q: &mut [u16],
-    r: &mut [u16],
-)
-    requires tables_for { TablesFor field whole.now part.now }
-    requires divide_fits { DivideFits (field_at field) (length whole.now) g.now f.now q.old r.old }
-    ensures quotient { q.new ≡ quotient_of (field_at field) g.now f.now }
-    ensures remainder { r.new ≡ remainder_of (field_at field) g.now f.now }
-{
-    if g.len() <= refusal::FEW_WORDS {
-        divide_few(field, whole, part, inverses, g, f, q, r);
-        return;
-    }
-    divide_many(field, whole, part, inverses, g, f, q, r);
-}
-
-// The same with our own tables, of the size that the dividend needs.
 fn divide_into(field: u8, g: &[u16], f: &[u16], q: &mut [u16], r: &mut [u16])
     requires { DivideFits (field_at field) (longest field) g.now f.now q.old r.old }
     ensures quotient { q.new ≡ quotient_of (field_at field) g.now f.now }
     ensures remainder { r.new ≡ remainder_of (field_at field) g.now f.now }
 {
-    let inverses = field_tables::inverses(field);
     if g.len() <= refusal::FEW_WORDS {
-        let whole = field_tables::few_factorials(field);
-        let part = field_tables::few_inverse_factorials(field);
-        divide_with(field, &whole, &part, &inverses, g, f, q, r);
+        divide_sized::<{ refusal::FEW_WORDS }>(field, g, f, q, r);
         return;
     }
-    let whole = field_tables::factorials(field);
-    let part = field_tables::inverse_factorials(field);
-    divide_with(field, &whole, &part, &inverses, g, f, q, r);
+    divide_sized::<{ refusal::MAX_WORDS }>(field, g, f, q, r);
 }

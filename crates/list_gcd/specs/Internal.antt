@@ -104,6 +104,10 @@ module _ (F : PrimeField) where
     pub rounds_are : rounds ≡ rounds_of F f g
     pub inverse-is : residue F inverse ≡ top_inverse F.series (scalar_field F) (room f g) (euclid_of F f g).last
 
-  unfoldable pub gcd_done : (f g : List ℕ) → Result Gcd Refusal
+  unfoldable pub gcd_done : (f g : List ℕ) → Gcd
   gcd_done f g =
-      Ok (record { degree = record { 0 = naive_degree (gcd_of F f g) }; power = record { 0 = common_power (f ∷ g ∷ []) }; rounds = record { 0 = rounds_of F f g } })
+      record {
+        degree = record { 0 = naive_degree (gcd_of F f g) };
+        power = record { 0 = common_power (f ∷ g ∷ []) };
+        rounds = record { 0 = rounds_of F f g };
+      }

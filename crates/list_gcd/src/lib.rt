@@ -4,20 +4,23 @@
 ghost use Rattle.std.specs.Prelude.{◌≡◌, cond, [], ◌∷◌, ℕ, min, max, ◌+◌, ◌*◌, ◌<◌, ◌≤◌, eqb, length, get_or, take};
 ghost use Rattle.algebra.specs.PrimeField.{residue};
 ghost use Rattle.field.specs.Fields.{modulus, field_at, longest};
-ghost use Rattle.refusal.specs.Limits.{max_words, few_words};
+ghost use Rattle.refusal.specs.Limits.{max_words};
 ghost use Rattle.refusal.specs.Lowest.{lowest};
 ghost use Rattle.lists.specs.Degrees.{significant};
 ghost use Rattle.lists.specs.Lists.{scaled};
 ghost use Rattle.euclid_theory.specs.Gcd.{gcd_of, rounds_of, common_power};
 ghost use Rattle.lists.specs.Padded.{padded};
-ghost use Rattle.field_tables.specs.Factorials.{Tables};
 ghost use Rattle.list_gcd.specs.Calls.{gcd_reply, gcd_rows, gcd_answer, gcd_written, Greatest};
 ghost use Rattle.list_gcd.specs.Internal.{Ready, Zeros, Buffer, Holds, RoundKept, Ends, monic_words, last_inverse, LastOf, TrailOf, Numbers, gcd_done};
-ghost use Rattle.list_gcd.specs.declared.Gcd.TheVariants.{Done};
 
 use euclid_round::Shortened;
 use lists::{NaiveDegree, Power};
 use refusal::Refusal;
+
+// The words that the quotients of all rounds take, with their numbers of words, in small buffers and in those for any lists.
+pub const FEW_KEPT: usize = 3 * refusal::FEW_WORDS;
+
+pub const ALL_KEPT: usize = 3 * refusal::MAX_WORDS;
 
 // The number of Euclid's rounds.
 #[derive(Clone, Copy)]
@@ -25,9 +28,10 @@ pub struct Rounds(pub usize);
 
 // The answer of a GCD: the naive degree w of h, the number c of factors 1-t, and the number of rounds.
 #[derive(Clone, Copy)]
-pub enum Gcd {
-    Done(NaiveDegree, Power, Rounds),
-    Refused(Refusal),
+pub struct Gcd {
+    pub degree: NaiveDegree,
+    pub power: Power,
+    pub rounds: Rounds,
 }
 
 // The GCD of f and g over a field: h goes to a slice of as many words as the longest list has, zeros after word w.
@@ -37,7 +41,7 @@ pub fn gcd_over(field: u8, f: &[u16], g: &[u16], h: &mut [u16]) -> Result<Gcd, R
     ensures greatest { Greatest (field_at field) f.now g.now h.new result }
 {
     judge_gcd(field, f, g, h)?;
-    gcd_into(field, f, g, h)
+    Ok(gcd_into(field, f, g, h))
 }
 
 // Whether f and g are both zero.
@@ -81,21 +85,18 @@ fn common_power(f: &[u16], g: &[u16]) -> Power
         return pf;
     }
     let pg = lists::power_in(g);
-    if pf.0 < pg.0 {
-        return pf;
-    }
-    pg
+    Power(pf.0.min(pg.0))
 }
 
 // The words of the scaled form of a list, to a buffer of zeros.
-fn scale_into(field: u8, whole: &[u16], part: &[u16], list: &[u16], buffer: &mut [u16])
-    requires tables { Tables (field_at field) (length buffer.old) whole.now part.now }
+fn scale_into(field: u8, list: &[u16], buffer: &mut [u16])
     requires list_in_bounds { (length list.now ≤ length buffer.old) × (length buffer.old ≤ longest field) }
     requires by_index { (k : ℕ) → get_or buffer.old k 0 ≡ 0 }
     ensures { Holds (field_at field) (length buffer.old) buffer.new (scaled (field_at field) list.now) }
 {
-    let n = list.len();
-    word_scaling::weigh(field, list, whole, part, &mut buffer[..n]);
+    let whole = field_tables::factorials(field);
+    let part = field_tables::inverse_factorials(field);
+    word_scaling::weigh(field, list, whole, part, &mut buffer[..list.len()]);
 }
 
 // Where the rounds ended: how many they were, whether the last x stands in the first buffer, and how many words of quotients were kept.
@@ -174,21 +175,15 @@ struct Monic {
 }
 
 // h from the last x: made to end in 1, unscaled, zeros after it.
-fn write_gcd(
-    field: u8,
-    whole: &[u16],
-    part: &[u16],
-    inverses: &[u16],
-    last: &mut [u16],
-    h: &mut [u16],
-) -> Monic
-    requires tables { Tables (field_at field) (length last.old) whole.now part.now }
+fn write_gcd(field: u8, inverses: &[u16], last: &mut [u16], h: &mut [u16]) -> Monic
     requires buffer { Buffer (field_at field) (length last.old) last.old × (length last.old ≤ longest field) }
     requires last_nonzero { (0 < significant last.old) × (length h.old ≡ longest field) }
     ensures degree_value { result.degree + 1 ≡ significant last.old }
     ensures inverse_value { residue (field_at field) result.inverse ≡ last_inverse (field_at field) last.old }
     ensures h_after { h.new ≡ monic_words (field_at field) (longest field) last.old }
 {
+    let whole = field_tables::factorials(field);
+    let part = field_tables::inverse_factorials(field);
     let n = lists::significant_words(last);
     let inv = field_inverse::inverse_or_zero(field, inverses, last[n - 1]);
     euclid_round::write_list(field, whole, part, last, inv, n, h);
@@ -201,15 +196,12 @@ fn write_gcd(
 // The same from the buffer that holds the last x.
 fn write_last(
     field: u8,
-    whole: &[u16],
-    part: &[u16],
     inverses: &[u16],
     first: bool,
     x: &mut [u16],
     y: &mut [u16],
     h: &mut [u16],
 ) -> Monic
-    requires tables { Tables (field_at field) (length (cond first x.old y.old)) whole.now part.now }
     requires buffer { Buffer (field_at field) (length (cond first x.old y.old)) (cond first x.old y.old) × (length (cond first x.old y.old) ≤ longest field) }
     requires nonzero { (0 < significant (cond first x.old y.old)) × (length h.old ≡ longest field) }
     ensures degree_value { result.degree + 1 ≡ significant (cond first x.old y.old) }
@@ -217,16 +209,14 @@ fn write_last(
     ensures h_after { h.new ≡ monic_words (field_at field) (longest field) (cond first x.old y.old) }
 {
     if first {
-        return write_gcd(field, whole, part, inverses, x, h);
+        return write_gcd(field, inverses, x, h);
     }
-    write_gcd(field, whole, part, inverses, y, h)
+    write_gcd(field, inverses, y, h)
 }
 
 // Euclid's rounds on the scaled forms of g and f, in buffers x and y of zeros, with their quotients kept.
 fn find_last(
     field: u8,
-    whole: &[u16],
-    part: &[u16],
     inverses: &[u16],
     f: &[u16],
     g: &[u16],
@@ -234,25 +224,21 @@ fn find_last(
     y: &mut [u16],
     kept: &mut [u16],
 ) -> Ended
-    requires tables { Tables (field_at field) (length x.old) whole.now part.now }
     requires ready { Ready (field_at field) (length x.old) f.now g.now × (length x.old ≤ longest field) }
     requires zeros { Zeros (length x.old) x.old y.old kept.old }
     ensures rounds_value { result.rounds ≡ rounds_of (field_at field) f.now g.now }
     ensures last_of { LastOf (field_at field) (length x.old) f.now g.now (cond result.first x.new y.new) }
     ensures trail_of { TrailOf (field_at field) (length x.old) f.now g.now (take result.kept kept.new) × (result.kept ≤ length kept.old) }
 {
-    scale_into(field, whole, part, g, x);
-    scale_into(field, whole, part, f, y);
+    scale_into(field, g, x);
+    scale_into(field, f, y);
     all_rounds(field, inverses, x, y, kept)
 }
 
-// What the GCD by way of buffers finds: w, c and the number of rounds, the inverse of the last word of the last x, and how many words of
-// quotients were kept.
+// What the GCD by way of buffers finds: its answer, the inverse of the last word of the last x, and how many words of quotients were kept.
 #[derive(Clone, Copy)]
 pub struct Found {
-    pub degree: usize,
-    pub power: usize,
-    pub rounds: usize,
+    pub gcd: Gcd,
     pub inverse: u16,
     pub kept: usize,
 }
@@ -260,8 +246,6 @@ pub struct Found {
 // The GCD by way of buffers, with the quotients kept.
 pub fn gcd_in(
     field: u8,
-    whole: &[u16],
-    part: &[u16],
     inverses: &[u16],
     f: &[u16],
     g: &[u16],
@@ -269,36 +253,25 @@ pub fn gcd_in(
     y: &mut [u16],
     kept: &mut [u16],
     h: &mut [u16],
-) -> Result<Search, Refusal>
-    requires tables { Tables (field_at field) (length x.old) whole.now part.now }
+) -> Found
     requires ready { Ready (field_at field) (length x.old) f.now g.now × (length x.old ≤ longest field) }
     requires zeros { Zeros (length x.old) x.old y.old kept.old }
     requires h_len { length h.old ≡ longest field }
-    ensures numbers { Numbers (field_at field) f.now g.now result.degree result.power result.rounds result.inverse }
+    ensures numbers { Numbers (field_at field) f.now g.now result.gcd.degree.0 result.gcd.power.0 result.gcd.rounds.0 result.inverse }
     ensures h_after { h.new ≡ padded (longest field) (gcd_of (field_at field) f.now g.now) }
     ensures trail_of { TrailOf (field_at field) (length x.old) f.now g.now (take result.kept kept.new) × (result.kept ≤ length kept.old) }
 {
-    let ended = find_last(field, whole, part, inverses, f, g, x, y, kept);
-    let made = write_last(field, whole, part, inverses, ended.first, x, y, h);
-    let c = common_power(f, g);
+    let ended = find_last(field, inverses, f, g, x, y, kept);
+    let made = write_last(field, inverses, ended.first, x, y, h);
     Found {
-        degree: made.degree,
-        power: c.0,
-        rounds: ended.rounds,
+        gcd: Gcd {
+            degree: NaiveDegree(made.degree),
+            power: common_power(f, g),
+            rounds: Rounds(ended.rounds),
+        },
         inverse: made.inverse,
         kept: ended.kept,
     }
-}
-
-// The answer of a GCD that was found.
-pub fn answer_of(found: Result<Search, Refusal>) -> Result<Gcd, Refusal>
-    ensures { result ≡ Done (record { 0 = found.degree }) (record { 0 = found.power }) (record { 0 = found.rounds }) }
-{
-    Ok(
-        NaiveDegree(found.degree),
-        Power(found.power),
-        Rounds(found.rounds),
-    )
 }
 
 // The words of a buffer: as many as the longer list has, and zeros after them, so that a row can be added in groups of 8 words.
@@ -306,71 +279,36 @@ pub fn buffer_words(field: u8, f: &[u16], g: &[u16]) -> usize
     requires { (length f.now ≤ longest field) × (length g.now ≤ longest field) }
     ensures { result ≡ min (longest field) (max (length f.now) (length g.now) + 7) }
 {
-    words::smaller(
-        field::longest_of(field),
-        words::larger(f.len(), g.len()) + 7,
-    )
+    (f.len().max(g.len()) + 7).min(field::longest_of(field))
 }
 
-// The GCD of short lists, where nothing is refused, in buffers of n words, with small tables and small arrays: tables are copied, and arrays are
-// filled with zeros.
-fn gcd_few(field: u8, f: &[u16], g: &[u16], n: usize, h: &mut [u16]) -> Result<Gcd, Refusal>
-    requires ready { Ready (field_at field) n f.now g.now × (n ≤ few_words) }
-    requires h_len { length h.old ≡ longest field }
-    ensures value { result ≡ gcd_done (field_at field) f.now g.now }
-    ensures h_after { h.new ≡ padded (longest field) (gcd_of (field_at field) f.now g.now) }
-{
-    let whole = field_tables::few_factorials(field);
-    let part = field_tables::few_inverse_factorials(field);
-    let inverses = field_tables::inverses(field);
-    let mut x = [0u16; refusal::FEW_WORDS];
-    let mut y = [0u16; refusal::FEW_WORDS];
-    let mut kept = [0u16; 3 * refusal::FEW_WORDS];
-    let found = gcd_in(
-        field,
-        &whole,
-        &part,
-        &inverses,
-        f,
-        g,
-        &mut x[..n],
-        &mut y[..n],
-        &mut kept[..3 * n],
-        h,
-    );
-    answer_of(found)
-}
-
-// The GCD of any lists, where nothing is refused, in buffers of n words.
-fn gcd_many(field: u8, f: &[u16], g: &[u16], n: usize, h: &mut [u16]) -> Result<Gcd, Refusal>
+// The GCD where nothing is refused, in buffers of n words, in arrays of N words, which are filled with zeros; of quotients K words are kept.
+fn gcd_sized<const N: usize, const K: usize>(field: u8, f: &[u16], g: &[u16], n: usize, h: &mut [u16]) -> Gcd
     requires ready { Ready (field_at field) n f.now g.now × (n ≤ longest field) }
+    requires sizes { (n ≤ N) × (3 * n ≤ K) }
     requires h_len { length h.old ≡ longest field }
     ensures value { result ≡ gcd_done (field_at field) f.now g.now }
     ensures h_after { h.new ≡ padded (longest field) (gcd_of (field_at field) f.now g.now) }
 {
-    let whole = field_tables::factorials(field);
-    let part = field_tables::inverse_factorials(field);
     let inverses = field_tables::inverses(field);
-    let mut x = [0u16; refusal::MAX_WORDS];
-    let mut y = [0u16; refusal::MAX_WORDS];
-    let mut kept = [0u16; 3 * refusal::MAX_WORDS];
-    let found = gcd_in(
+    let mut x = [0u16; N];
+    let mut y = [0u16; N];
+    let mut kept = [0u16; K];
+    gcd_in(
         field,
-        &whole,
-        &part,
-        &inverses,
+        inverses,
         f,
         g,
         &mut x[..n],
         &mut y[..n],
         &mut kept[..3 * n],
         h,
-    );
-    answer_of(found)
+    )
+    .gcd
 }
 
-// The same with tables and arrays of the size that the longer list needs.
-fn gcd_into(field: u8, f: &[u16], g: &[u16], h: &mut [u16]) -> Result<Gcd, Refusal>
+// The same with arrays of the size that the longer list needs.
+fn gcd_into(field: u8, f: &[u16], g: &[u16], h: &mut [u16]) -> Gcd
     requires ready { Ready (field_at field) (longest field) f.now g.now }
     requires h_len { length h.old ≡ longest field }
     ensures value { result ≡ gcd_done (field_at field) f.now g.now }
@@ -378,7 +316,7 @@ fn gcd_into(field: u8, f: &[u16], g: &[u16], h: &mut [u16]) -> Result<Gcd, Refus
 {
     let n = buffer_words(field, f, g);
     if n <= refusal::FEW_WORDS {
-        return gcd_few(field, f, g, n, h);
+        return gcd_sized::<{ refusal::FEW_WORDS }, { FEW_KEPT }>(field, f, g, n, h);
     }
-    gcd_many(field, f, g, n, h)
+    gcd_sized::<{ refusal::MAX_WORDS }, { ALL_KEPT }>(field, f, g, n, h)
 }

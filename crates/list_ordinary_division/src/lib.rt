@@ -2,7 +2,7 @@
 #![tactic(auto)]
 
 ghost use Rattle.std.specs.Prelude.{Ok, ◌≡◌, true, ◌++◌, ◌≤◌, length, take, drop};
-ghost use Rattle.refusal.specs.Limits.{max_words, few_words};
+ghost use Rattle.refusal.specs.Limits.{max_words};
 ghost use Rattle.refusal.specs.Refusal.{outcome_reply};
 ghost use Rattle.refusal.specs.Lowest.{lowest};
 ghost use Rattle.field.specs.Fields.{modulus, field_at, longest};
@@ -52,32 +52,25 @@ fn judge_ordinary(field: u8, g: &[u16], f: &[u16], q: &[u16], r: &[u16]) -> Resu
 }
 
 // The powers of t of a list, at the front of a buffer.
-fn place(field: u8, whole: &[u16], part: &[u16], list: &[u16], x: &mut [u16])
-    requires tables_for { TablesFor field whole.now part.now }
-    requires list_in_bounds { (length list.now ≤ length x.old) × (length list.now ≤ length whole.now) }
+fn place(field: u8, list: &[u16], x: &mut [u16])
+    requires list_in_bounds { (length list.now ≤ length x.old) × (length list.now ≤ longest field) }
     ensures { x.new ≡ powers_into (modulus field) whole.now part.now list.now (take (length list.now) x.old) ++ drop (length list.now) x.old }
 {
-    let n = list.len();
-    list_powers::powers_of_t(field, whole, part, list, &mut x[..n]);
+    list_powers::powers_of_t(field, list, &mut x[..list.len()]);
 }
 
 // The list of a polynomial whose powers of t are at the front of a buffer.
-fn write_back(field: u8, whole: &[u16], part: &[u16], x: &mut [u16], out: &mut [u16])
-    requires tables_for { TablesFor field whole.now part.now }
-    requires out_in_bounds { (length out.old ≤ length x.old) × (length out.old ≤ length whole.now) }
+fn write_back(field: u8, x: &mut [u16], out: &mut [u16])
+    requires out_in_bounds { (length out.old ≤ length x.old) × (length out.old ≤ longest field) }
     ensures { out.new ≡ weighed_into (modulus field) (expanded_into (modulus field) true (take (length out.old) x.old)) part.now whole.now out.old }
 {
-    let n = out.len();
-    list_powers::list_of_powers(field, whole, part, &mut x[..n], out);
+    list_powers::list_of_powers(field, &mut x[..out.len()], out);
 }
 
 // The powers of t of g and f in x and y, their quotient in k and their remainder in x, and back into q and r. The buffers are 0 and equally
 // long, as a round of Euclid's wants them.
 fn divide_in(
     field: u8,
-    whole: &[u16],
-    part: &[u16],
-    inverses: &[u16],
     g: &[u16],
     f: &[u16],
     x: &mut [u16],
@@ -86,87 +79,42 @@ fn divide_in(
     q: &mut [u16],
     r: &mut [u16],
 )
-    requires tables_for { TablesFor field whole.now part.now }
-    requires ordinary_fits { OrdinaryFits (field_at field) (length whole.now) g.now f.now q.old r.old }
+    requires ordinary_fits { OrdinaryFits (field_at field) (longest field) g.now f.now q.old r.old }
     requires buffers { Buffers (length g.now) (length f.now) x.old y.old k.old }
     ensures quotient { q.new ≡ ordinary_quotient (field_at field) g.now f.now }
     ensures remainder { r.new ≡ ordinary_remainder (field_at field) g.now f.now }
 {
     let l = x.len();
-    place(field, whole, part, g, x);
-    place(field, whole, part, f, y);
-    euclid_round::shorten(field, inverses, x, l, y, l, k);
-    write_back(field, whole, part, k, q);
-    write_back(field, whole, part, x, r);
+    place(field, g, x);
+    place(field, f, y);
+    euclid_round::shorten(field, field_tables::inverses(field), x, l, y, l, k);
+    write_back(field, k, q);
+    write_back(field, x, r);
 }
 
-// The division of short lists, where nothing is refused, in buffers of l words, with small tables and small arrays: tables are copied, and
-// arrays are filled with zeros.
-fn divide_few(field: u8, g: &[u16], f: &[u16], l: usize, q: &mut [u16], r: &mut [u16])
+// The division where nothing is refused, in buffers of l words, in arrays of N words, which are filled with zeros.
+fn divide_sized<const N: usize>(field: u8, g: &[u16], f: &[u16], l: usize, q: &mut [u16], r: &mut [u16])
     requires ordinary_fits { OrdinaryFits (field_at field) (longest field) g.now f.now q.old r.old }
-    requires g_len_bound { (length g.now ≤ l) × (length f.now ≤ l) × (l ≤ few_words) }
+    requires g_len_bound { (length g.now ≤ l) × (length f.now ≤ l) × (l ≤ N) × (l ≤ max_words) }
     ensures quotient { q.new ≡ ordinary_quotient (field_at field) g.now f.now }
     ensures remainder { r.new ≡ ordinary_remainder (field_at field) g.now f.now }
 {
-    let whole = field_tables::few_factorials(field);
-    let part = field_tables::few_inverse_factorials(field);
-    let inverses = field_tables::inverses(field);
-    let mut x = [0u16; refusal::FEW_WORDS];
-    let mut y = [0u16; refusal::FEW_WORDS];
-    let mut k = [0u16; refusal::FEW_WORDS];
-    divide_in(
-        field,
-        &whole,
-        &part,
-        &inverses,
-        g,
-        f,
-        &mut x[..l],
-        &mut y[..l],
-        &mut k[..l],
-        q,
-        r,
-    );
+    let mut x = [0u16; N];
+    let mut y = [0u16; N];
+    let mut k = [0u16; N];
+    divide_in(field, g, f, &mut x[..l], &mut y[..l], &mut k[..l], q, r);
 }
 
-// The division of any lists, where nothing is refused, in buffers of l words.
-fn divide_many(field: u8, g: &[u16], f: &[u16], l: usize, q: &mut [u16], r: &mut [u16])
-    requires ordinary_fits { OrdinaryFits (field_at field) (longest field) g.now f.now q.old r.old }
-    requires g_len_bound { (length g.now ≤ l) × (length f.now ≤ l) × (l ≤ max_words) }
-    ensures quotient { q.new ≡ ordinary_quotient (field_at field) g.now f.now }
-    ensures remainder { r.new ≡ ordinary_remainder (field_at field) g.now f.now }
-{
-    let whole = field_tables::factorials(field);
-    let part = field_tables::inverse_factorials(field);
-    let inverses = field_tables::inverses(field);
-    let mut x = [0u16; refusal::MAX_WORDS];
-    let mut y = [0u16; refusal::MAX_WORDS];
-    let mut k = [0u16; refusal::MAX_WORDS];
-    divide_in(
-        field,
-        &whole,
-        &part,
-        &inverses,
-        g,
-        f,
-        &mut x[..l],
-        &mut y[..l],
-        &mut k[..l],
-        q,
-        r,
-    );
-}
-
-// The same with tables and arrays of the size that the longer list needs.
+// The same in arrays of the size that the longer list needs.
 fn divide_into(field: u8, g: &[u16], f: &[u16], q: &mut [u16], r: &mut [u16])
     requires { OrdinaryFits (field_at field) (longest field) g.now f.now q.old r.old }
     ensures quotient { q.new ≡ ordinary_quotient (field_at field) g.now f.now }
     ensures remainder { r.new ≡ ordinary_remainder (field_at field) g.now f.now }
 {
-    let l = words::larger(g.len(), f.len());
+    let l = g.len().max(f.len());
     if l <= refusal::FEW_WORDS {
-        divide_few(field, g, f, l, q, r);
+        divide_sized::<{ refusal::FEW_WORDS }>(field, g, f, l, q, r);
         return;
     }
-    divide_many(field, g, f, l, q, r);
+    divide_sized::<{ refusal::MAX_WORDS }>(field, g, f, l, q, r);
 }

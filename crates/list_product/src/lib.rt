@@ -7,8 +7,6 @@ ghost use Rattle.refusal.specs.Refusal.{outcome_reply};
 ghost use Rattle.refusal.specs.Lowest.{lowest};
 ghost use Rattle.lists.specs.Degrees.{naive_degree};
 ghost use Rattle.lists.specs.Operations as of;
-ghost use Rattle.refusal.specs.Limits.{few_words};
-ghost use Rattle.field_tables.specs.Factorials.{TablesFor};
 ghost use Rattle.list_product.specs.Calls.{product_rows, raise_rows, product_answer, product_written, raise_answer, raise_written};
 ghost use Rattle.list_product.specs.Internal.{ProductFits, RaiseFits};
 
@@ -70,8 +68,6 @@ fn judge_raise(field: u8, f: &[u16], to: NaiveDegree, out: &[u16]) -> Result<(),
 // The scaled forms of f and g in a and b, their product in s, and back into out.
 fn product_in(
     field: u8,
-    whole: &[u16],
-    part: &[u16],
     f: &[u16],
     g: &[u16],
     a: &mut [u16],
@@ -79,119 +75,50 @@ fn product_in(
     s: &mut [u16],
     out: &mut [u16],
 )
-    requires tables_for { TablesFor field whole.now part.now }
-    requires product_fits { ProductFits (length whole.now) f.now g.now out.old }
+    requires product_fits { ProductFits (longest field) f.now g.now out.old }
     requires a_len { (length a.old ≡ length f.now) × (length b.old ≡ length g.now) × (length s.old ≡ length out.old) }
     ensures { out.new ≡ of.product (field_at field) f.now g.now }
 {
+    let whole = field_tables::factorials(field);
+    let part = field_tables::inverse_factorials(field);
     word_scaling::weigh(field, f, whole, part, a);
     word_scaling::weigh(field, g, whole, part, b);
     word_karatsuba::convolve(field, a, b, s);
     word_scaling::weigh(field, s, part, whole, out);
 }
 
-// The product where nothing is refused, with tables that are lent, in small arrays, since each is filled with zeros.
-fn product_few(field: u8, whole: &[u16], part: &[u16], f: &[u16], g: &[u16], out: &mut [u16])
-    requires tables_for { TablesFor field whole.now part.now }
-    requires product_fits { ProductFits (length whole.now) f.now g.now out.old × (length out.old ≤ few_words) }
+// The product where nothing is refused, in arrays of N words, which are filled with zeros.
+fn product_sized<const N: usize>(field: u8, f: &[u16], g: &[u16], out: &mut [u16])
+    requires { ProductFits (longest field) f.now g.now out.old × (length out.old ≤ N) }
     ensures { out.new ≡ of.product (field_at field) f.now g.now }
 {
     let d = f.len();
     let e = g.len();
     let n = out.len();
-    let mut a = [0u16; refusal::FEW_WORDS];
-    let mut b = [0u16; refusal::FEW_WORDS];
-    let mut s = [0u16; refusal::FEW_WORDS];
-    product_in(
-        field,
-        whole,
-        part,
-        f,
-        g,
-        &mut a[..d],
-        &mut b[..e],
-        &mut s[..n],
-        out,
-    );
-}
-
-// The same in arrays that take any list.
-fn product_many(field: u8, whole: &[u16], part: &[u16], f: &[u16], g: &[u16], out: &mut [u16])
-    requires tables_for { TablesFor field whole.now part.now }
-    requires product_fits { ProductFits (length whole.now) f.now g.now out.old }
-    ensures { out.new ≡ of.product (field_at field) f.now g.now }
-{
-    let d = f.len();
-    let e = g.len();
-    let n = out.len();
-    let mut a = [0u16; refusal::MAX_WORDS];
-    let mut b = [0u16; refusal::MAX_WORDS];
-    let mut s = [0u16; refusal::MAX_WORDS];
-    product_in(
-        field,
-        whole,
-        part,
-        f,
-        g,
-        &mut a[..d],
-        &mut b[..e],
-        &mut s[..n],
-        out,
-    );
+    let mut a = [0u16; N];
+    let mut b = [0u16; N];
+    let mut s = [0u16; N];
+    product_in(field, f, g, &mut a[..d], &mut b[..e], &mut s[..n], out);
 }
 
 // The same in arrays of the size that the result needs.
-fn product_with(field: u8, whole: &[u16], part: &[u16], f: &[u16], g: &[u16], out: &mut [u16])
-    requires tables_for { TablesFor field whole.now part.now }
-    requires product_fits { ProductFits (length whole.now) f.now g.now out.old }
-    ensures { out.new ≡ of.product (field_at field) f.now g.now }
-{
-    if out.len() <= refusal::FEW_WORDS {
-        product_few(field, whole, part, f, g, out);
-        return;
-    }
-    product_many(field, whole, part, f, g, out);
-}
-
-// The same with our own tables, of the size that the result needs.
 fn product_into(field: u8, f: &[u16], g: &[u16], out: &mut [u16])
     requires { ProductFits (longest field) f.now g.now out.old }
     ensures { out.new ≡ of.product (field_at field) f.now g.now }
 {
     if out.len() <= refusal::FEW_WORDS {
-        let whole = field_tables::few_factorials(field);
-        let part = field_tables::few_inverse_factorials(field);
-        product_with(field, &whole, &part, f, g, out);
+        product_sized::<{ refusal::FEW_WORDS }>(field, f, g, out);
         return;
     }
-    let whole = field_tables::factorials(field);
-    let part = field_tables::inverse_factorials(field);
-    product_with(field, &whole, &part, f, g, out);
+    product_sized::<{ refusal::MAX_WORDS }>(field, f, g, out);
 }
 
-// f raised to the naive degree of out, with tables that are lent: f times a list of ones, which means 1.
-fn raise_with(field: u8, whole: &[u16], part: &[u16], f: &[u16], out: &mut [u16])
-    requires tables_for { TablesFor field whole.now part.now }
-    requires raise_fits { RaiseFits (modulus field) (length whole.now) f.now out.old }
-    ensures { out.new ≡ of.raise (field_at field) (naive_degree out.old) f.now }
-{
-    let ones = [1u16; refusal::MAX_WORDS];
-    let m = out.len() - f.len() + 1;
-    product_with(field, whole, part, f, &ones[..m], out);
-}
-
-// The same with our own tables, of the size that the result needs.
+// f raised to the naive degree of out: f times a list of ones, which means 1.
 fn raise_into(field: u8, f: &[u16], out: &mut [u16])
     requires { RaiseFits (modulus field) (longest field) f.now out.old }
     ensures { out.new ≡ of.raise (field_at field) (naive_degree out.old) f.now }
 {
-    if out.len() <= refusal::FEW_WORDS {
-        let whole = field_tables::few_factorials(field);
-        let part = field_tables::few_inverse_factorials(field);
-        raise_with(field, &whole, &part, f, out);
-        return;
-    }
-    let whole = field_tables::factorials(field);
-    let part = field_tables::inverse_factorials(field);
-    raise_with(field, &whole, &part, f, out);
+    let ones = [1u16; refusal::MAX_WORDS];
+    let m = out.len() - f.len() + 1;
+    product_into(field, f, &ones[..m], out);
 }

@@ -8,14 +8,12 @@ ghost use Rattle.field.specs.Field.{word_reply};
 ghost use Rattle.lists.specs.Lists.{word};
 ghost use Rattle.lists.specs.Operations as of;
 ghost use Rattle.lists.specs.Refused.{IsList};
-ghost use Rattle.refusal.specs.Limits.{few_words};
-ghost use Rattle.field_tables.specs.Factorials.{TablesFor};
 ghost use Rattle.list_value.specs.Calls.{evaluate_rows, evaluate_answer};
 ghost use Rattle.list_value.specs.Internal.{homogeneous_of, power_of, powers_of, weights_of, most_of_product, most_of_group, products_of, groups, Terms};
 
 use refusal::Refusal;
 
-// The same over a field.
+// The value over a field.
 pub fn evaluate_over(field: u8, f: &[u16], x: u16) -> Result<u16, Refusal>
     ensures answer { word_reply result ≡ evaluate_answer field f.now x }
 {
@@ -164,51 +162,36 @@ fn homogeneous(field: u8, s: &[u16], x: u16, y: u16, c: u16) -> u16
 }
 
 // The scaled form of f in s, but for the factor c, and its value: t is x, and 1 - t is y.
-fn value_in(field: u8, whole: &[u16], part: &[u16], f: &[u16], x: u16, s: &mut [u16]) -> u16
-    requires tables_for { TablesFor field whole.now part.now }
-    requires list { IsList (modulus field) (length whole.now) f.now }
+fn value_in(field: u8, f: &[u16], x: u16, s: &mut [u16]) -> u16
+    requires list { IsList (modulus field) (longest field) f.now }
     requires s_len { length s.old ≡ length f.now }
-    ensures { result ≡ of.evaluate (field_at field) f.now x }
-{
-    let n = f.len();
-    word_scaling::weigh_partly(field, f, part, s);
-    let c = field::mul(field, whole[n - 1], field::square_of(field));
-    let y = field::sub(field, 1, x);
-    homogeneous(field, s, x, y, c)
-}
-
-// The value of a short list that is not refused, with small tables and a small array: tables are copied, and the array is filled with
-// zeros.
-fn value_few(field: u8, f: &[u16], x: u16) -> u16
-    requires { IsList (modulus field) few_words f.now }
-    ensures { result ≡ of.evaluate (field_at field) f.now x }
-{
-    let whole = field_tables::few_factorials(field);
-    let part = field_tables::few_inverse_factorials(field);
-    let n = f.len();
-    let mut s = [0u16; refusal::FEW_WORDS];
-    value_in(field, &whole, &part, f, x, &mut s[..n])
-}
-
-// The value of any list that is not refused.
-fn value_many(field: u8, f: &[u16], x: u16) -> u16
-    requires { IsList (modulus field) (longest field) f.now }
     ensures { result ≡ of.evaluate (field_at field) f.now x }
 {
     let whole = field_tables::factorials(field);
     let part = field_tables::inverse_factorials(field);
-    let n = f.len();
-    let mut s = [0u16; refusal::MAX_WORDS];
-    value_in(field, &whole, &part, f, x, &mut s[..n])
+    word_scaling::weigh_partly(field, f, part, s);
+    let c = field::mul(field, whole[f.len() - 1], field::square_of(field));
+    let y = field::sub(field, 1, x);
+    homogeneous(field, s, x, y, c)
 }
 
-// The same with tables and an array of the size that the list needs.
+// The value of a list that is not refused, in an array of N words, which is filled with zeros.
+fn value_sized<const N: usize>(field: u8, f: &[u16], x: u16) -> u16
+    requires { IsList (modulus field) (longest field) f.now × (length f.now ≤ N) }
+    ensures { result ≡ of.evaluate (field_at field) f.now x }
+{
+    let n = f.len();
+    let mut s = [0u16; N];
+    value_in(field, f, x, &mut s[..n])
+}
+
+// The same in an array of the size that the list needs.
 fn value_at(field: u8, f: &[u16], x: u16) -> u16
     requires { IsList (modulus field) (longest field) f.now }
     ensures { result ≡ of.evaluate (field_at field) f.now x }
 {
     if f.len() <= refusal::FEW_WORDS {
-        return value_few(field, f, x);
+        return value_sized::<{ refusal::FEW_WORDS }>(field, f, x);
     }
-    value_many(field, f, x)
+    value_sized::<{ refusal::MAX_WORDS }>(field, f, x)
 }

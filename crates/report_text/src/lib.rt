@@ -85,7 +85,7 @@ fn put_answer(field: u8, album: &[u8], h: &mut [u16], at: usize, out: &mut [u8])
     ensures { Put (answer_lines (field_at field) (lists_of album.now)) at out.old out.new result }
 {
     match album_gcd::album_gcd_over(field, album, h) {
-        Ok(w, c, _) => put_gcd(field, &h[..w.0 + 1], c, at, out),
+        Ok(gcd) => put_gcd(field, &h[..gcd.degree.0 + 1], gcd.power, at, out),
         Err(why) => put_refused(why, at, out),
     }
 }

@@ -312,11 +312,12 @@ fn note_found(found: Result<Search, Refusal>, answer: &mut [usize]) -> u8
     ensures values { answer.new ≡ fitted (extent_reply found).values answer.old }
 {
     match found {
-        Found::At(extent, _) => {
-            note_one(extent.0, answer);
+        Ok(search) => {
+            if let Some(extent) = search.extent {
+                note_one(extent.0, answer);
+            }
             COMPLETED
         }
-        Found::Zero(_) => COMPLETED,
         Err(why) => u8::from(why),
     }
 }
@@ -326,12 +327,8 @@ fn note_searched(found: Result<Search, Refusal>, answer: &mut [usize]) -> u8
     ensures values { answer.new ≡ fitted (searched_reply found).values answer.old }
 {
     match found {
-        Found::At(_, searched) => {
-            note_one(searched.0, answer);
-            COMPLETED
-        }
-        Found::Zero(searched) => {
-            note_one(searched.0, answer);
+        Ok(search) => {
+            note_one(search.read.0, answer);
             COMPLETED
         }
         Err(why) => u8::from(why),
@@ -369,8 +366,8 @@ fn note_gcd(found: Result<Gcd, Refusal>, answer: &mut [usize]) -> u8
     ensures values { answer.new ≡ fitted (gcd_reply found).values answer.old }
 {
     match found {
-        Ok(w, c, rounds) => {
-            note_three(w.0, c.0, rounds.0, answer);
+        Ok(gcd) => {
+            note_three(gcd.degree.0, gcd.power.0, gcd.rounds.0, answer);
             COMPLETED
         }
         Err(why) => u8::from(why),

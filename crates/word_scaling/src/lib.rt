@@ -1,5 +1,5 @@
 // Words weighed with tables: with those of factorials, a list's scaled form, and the list of a scaled form. Total: where the slices' lengths do
-// not fit, nothing is written.
+// not fit, nothing is written. The loops go over places: of what a `zip` over `iter_mut` has written a proof knows nothing.
 #![tactic(auto)]
 
 ghost use Rattle.std.specs.Prelude.{◌≡◌, ◌*◌, ◌%◌, ◌<◌, ◌≤◌, length};

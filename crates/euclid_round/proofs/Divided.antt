@@ -1,11 +1,11 @@
 -- A round: its guard, the case of no step, and the division of the significant words.
---     zeros-front, zeros-padded     the zeros after the words of y
+--     zeros-padded                  the zeros after the words of y
 --     Answer                        what a round is to hand back: the number of steps, the words left and the words of the quotient
 -- Assumes nothing.
 use mathlib.Core.Path.{◌≡◌, refl, sym, ◌∙◌, ap}
 use mathlib.Core.Bool.{true, false, cond, ◌&&◌}
 use mathlib.Core.List.{List, ◌++◌, append_assoc}
-use Prim.Native.Nat.{ℕ, min, ◌+◌, ◌-◌, ◌≤◌, ◌<◌}
+use Prim.Native.Nat.{ℕ, ◌+◌, ◌-◌, ◌≤◌, ◌<◌}
 use native.Mathlib.Nat.{pos_of_ne-zero}
 use native.Mathlib.Decide.{dec_le, dec_lt}
 use native.Mathlib.Omega.{arith}
@@ -36,17 +36,8 @@ unfit p x y q h = go (dec_le 1 (significant y)) (dec_lt (last_word y) p) (dec_le
         rw (le-leb 1 (significant y) a, lt-ltb (last_word y) p b, lt-leb (round_steps x y) (length q) (omega arith))
     go (yes a) (yes b) (yes c) = absurd (h a b c)
 
--- zeros that go on
+-- zeros that go on, from the last word that is not 0, in a part
 module _ {n : ℕ} {y : List ℕ} (z : ZeroFrom n y) where
-  -- n being a number of words or all of them
-  pub zeros-front : {m : ℕ} → m ≡ min n (length y) → ZeroFrom m y
-  zeros-front {m} e = record { at = λ k l. go k l (dec_lt k (length y)) }
-    where
-      go : (k : ℕ) → m ≤ k → Dec (k < length y) → get_or y k 0 ≡ 0
-      go k l (yes h) = z.at k (omega arith)
-      go k l (no h) = get_or-eq_default y 0 (omega arith)
-
-  -- from the last word that is not 0, in a part
   pub zeros-padded : (wide : ℕ) {m : ℕ} → m ≡ significant (take n y) → ZeroFrom m (take wide y)
   zeros-padded wide {m} e = record { at = λ k l. go k l (dec_lt k wide) (dec_lt k n) }
     where

@@ -1,18 +1,17 @@
 -- Top zeros left out: the first n words of a list, n being at least the number of its significant words, say all that the list says.
 --     Rounded                                the round on x and y: its steps, and x and q after it
 -- Theorems:
---     shorten-front                          so many words of a list, or all of them
 --     steps-part, fits-part, quotient-part   one of Euclid's rounds on such parts is the round on the lists
 --     shortened                              so is `shorten`, given the numbers of significant words
 -- Assumes nothing.
 use mathlib.Core.Path.{◌≡◌, sym, ◌∙◌, ap, ap₂}
 use mathlib.Core.Bool.{Bool, true, false, cond}
-use mathlib.Core.List.{List, [], ◌++◌, append_assoc}
-use Prim.Native.Nat.{ℕ, min, ◌+◌, ◌-◌, ◌≤◌, ◌<◌}
+use mathlib.Core.List.{List, ◌++◌, append_assoc}
+use Prim.Native.Nat.{ℕ, ◌+◌, ◌-◌, ◌≤◌, ◌<◌}
 use native.Mathlib.Decide.{dec_le, dec_lt}
 use native.Mathlib.Omega.{arith}
-use lib.ListN.{length, get_or, take, drop, length-append, length-take, length-drop, take-append-drop, drop_of_length-le, get_or-eq_default}
-use lib.Seq.{take_all, take-take, take_at, drop-append-le, get_or-take, get_or-drop}
+use lib.ListN.{length, get_or, take, drop, length-append, length-take, length-drop, take-append-drop, get_or-eq_default}
+use lib.Seq.{take-take, take_at, drop-append-le, get_or-take, get_or-drop}
 use Rattle.algebra.specs.PrimeField.{PrimeField}
 use Rattle.field.specs.Fields.{modulus, field_at}
 use Rattle.lists.specs.Degrees.{significant, extent}
@@ -92,20 +91,6 @@ module _ (nx ny : ℕ) (x y : List ℕ) (lx : significant x ≤ nx) (ly : signif
         go true = remaining-part
         go false = take-append-drop nx x
 
--- the first m words, m being n or all
-front : (n : ℕ) (x : List ℕ) {m : ℕ} → m ≡ min n (length x) → (take m x ≡ take n x) × (drop m x ≡ drop n x)
-front n x {m} e = go (dec_le n (length x))
-  where
-    none : (i : ℕ) → length x ≤ i → drop i x ≡ []
-    none i l = drop_of_length-le x l
-
-    go : Dec (n ≤ length x) → (take m x ≡ take n x) × (drop m x ≡ drop n x)
-    go (yes l) = let same : m ≡ n = omega arith in (ap (λ i. take i x) same, ap (λ i. drop i x) same)
-    go (no l) = (
-      take_all m x (omega arith) ∙ sym (take_all n x (omega arith)),
-      none m (omega arith) ∙ sym (none n (omega arith)),
-    )
-
 pub record Rounded (k : ℕ) (x y q : List ℕ) (steps left : ℕ) (x' q' : List ℕ) : Type 0 where
   pub steps-made : steps ≡ steps_made k x y q
   pub count : left ≡ significant x'
@@ -119,28 +104,6 @@ module _ (k nx ny : ℕ) (x y q : List ℕ) where
       (steps ≡ steps_made k (take nx x) (take ny y) q)
       × ((left ≡ significant (take nx x'))
       × ((x' ≡ words_left k (take nx x) (take ny y) q ++ drop nx x) × (q' ≡ quotient_left k (take nx x) (take ny y) q)))
-
-  -- its numbers may be too large
-  pub shorten-front : {mx my steps left : ℕ} {x' q' : List ℕ} → mx ≡ min nx (length x) → my ≡ min ny (length y) → length x' ≡ length x
-      → steps ≡ steps_made k (take mx x) (take my y) q → left ≡ significant (take mx x')
-      → x' ≡ words_left k (take mx x) (take my y) q ++ drop mx x → q' ≡ quotient_left k (take mx x) (take my y) q
-      → Shorten steps left x' q'
-  shorten-front {mx} {my} {x' = x'} ex ey same es el ew eq = (
-    es ∙ ap₂ (λ a b. steps_made k a b q) fx fy,
-    (
-      el ∙ ap significant (front nx x' all).0,
-      (ew ∙ ap₂ ◌++◌ (ap₂ (λ a b. words_left k a b q) fx fy) (front nx x ex).1, eq ∙ ap₂ (λ a b. quotient_left k a b q) fx fy),
-    ),
-  )
-    where
-      fx : take mx x ≡ take nx x
-      fx = (front nx x ex).0
-
-      fy : take my y ≡ take ny y
-      fy = (front ny y ey).0
-
-      all : mx ≡ min nx (length x')
-      all = omega arith
 
   pub shortened : {steps left : ℕ} {x' q' : List ℕ} → nx ≡ significant x → ny ≡ significant y → length x' ≡ length x
       → Shorten steps left x' q' → Rounded k x y q steps left x' q'

@@ -1,21 +1,22 @@
 -- The writing of a result: its guard, the words times m, and the zeros after the list.
 -- Assumes nothing.
 use mathlib.Core.Path.{◌≡◌, sym, ◌∙◌, ap, ap₂}
-use mathlib.Core.Bool.{true, false, cond, ◌&&◌}
+use mathlib.Core.Bool.{true, cond}
 use mathlib.Core.List.{List, ◌++◌}
-use Prim.Native.Nat.{ℕ, ◌*◌, ◌%◌, ◌≤◌, ◌<◌}
-use native.Mathlib.Decide.{dec_le, dec_lt}
+use Prim.Native.Nat.{ℕ, min, ◌-◌, ◌*◌, ◌%◌, ◌≤◌, ◌<◌}
+use native.Mathlib.Decide.{dec_lt}
 use native.Mathlib.Omega.{arith}
-use lib.Dec.{leb, ltb}
-use lib.ListN.{length, get_or, take, drop, length-append, length-drop, get_or-append, get_or-eq_default}
-use lib.Seq.{length-take-le}
-use borrow.Author.Tests.{le-leb, lt-leb, lt-ltb, le-ltb}
+use lib.Dec.{ltb}
+use lib.ListN.{length, get_or, take, drop, replicate, length-append, length-take, length-drop, get_or-append, get_or-eq_default}
+use lib.Seq.{get_or-take, length-take-le}
+use borrow.Author.Tests.{le-leb, lt-ltb, le-ltb}
 use Rattle.algebra.specs.RingLaws as R
 use Rattle.algebra.specs.Series.{C}
 use Rattle.algebra.proofs.Series.{ext, coeff-C-mul}
 use Rattle.algebra.specs.PrimeField.{PrimeField, scalars, residue}
 use Rattle.algebra.proofs.PrimeField.{residue-0, residue-mul-mod}
-use Rattle.lists.proofs.Tabulate.{length-tabulate, get_or-tabulate}
+use Rattle.lists.proofs.Parts.{get_or-zeros, get_or-then-zeros}
+use Rattle.lists.proofs.Tabulate.{tabulated, length-tabulate, get_or-tabulate}
 use Rattle.lists.specs.Lists.{unscaled}
 use Rattle.lists.specs.Words.{series_of}
 use Rattle.lists.proofs.Words.{coeff-series_of}
@@ -24,36 +25,25 @@ use Rattle.word_scaling.specs.Scaling.{weighted, weigh_fits}
 use Rattle.word_scaling.proofs.Weights.{length-weighted, unscaled-is}
 use Rattle.lists.specs.Padded.{padded}
 use Rattle.lists.proofs.Padded.{padded-is}
+use Rattle.words.proofs.Transfer.{cleared, length-cleared}
 use Rattle.euclid_round.specs.Round.{multiplied, zeroed_from, write_fits, written_words, written_list}
 
-module _ (words : ℕ) (whole part form out : List ℕ) where
-  pub write-fits : words ≤ length form → words ≤ length out → words ≤ length whole → words ≤ length part → write_fits words whole part form out ≡ true
-  unfolding write_fits
-  write-fits f o w p = rw (le-leb words (length form) f, le-leb words (length out) o, le-leb words (length whole) w, le-leb words (length part) p)
+pub write-fits : (words : ℕ) (whole part form out : List ℕ) → words ≤ length form → words ≤ length out → words ≤ length whole → words ≤ length part
+    → write_fits words whole part form out ≡ true
+unfolding write_fits
+write-fits words whole part form out f o w p =
+    rw (le-leb words (length form) f, le-leb words (length out) o, le-leb words (length whole) w, le-leb words (length part) p)
 
-  pub unfit : (words ≤ length form → words ≤ length out → words ≤ length whole → words ≤ length part → ⊥) → write_fits words whole part form out ≡ false
-  unfolding write_fits
-  unfit h = go (dec_le words (length form)) (dec_le words (length out)) (dec_le words (length whole)) (dec_le words (length part))
-    where
-      go : Dec (words ≤ length form) → Dec (words ≤ length out) → Dec (words ≤ length whole) → Dec (words ≤ length part)
-          → (leb words (length form) && (leb words (length out) && (leb words (length whole) && leb words (length part)))) ≡ false
-      go (no a) b c d = rw (lt-leb words (length form) (omega arith))
-      go (yes a) (no b) c d = rw (le-leb words (length form) a, lt-leb words (length out) (omega arith))
-      go (yes a) (yes b) (no c) d = rw (le-leb words (length form) a, le-leb words (length out) b, lt-leb words (length whole) (omega arith))
-      go (yes a) (yes b) (yes c) (no d) =
-          rw (le-leb words (length form) a, le-leb words (length out) b, le-leb words (length whole) c, lt-leb words (length part) (omega arith))
-      go (yes a) (yes b) (yes c) (yes d) = absurd (h a b c d)
-
--- the rule of zeroed_from before and from the word on
-module _ (from : ℕ) (x : List ℕ) where
-  abbrev pub kept : ℕ → ℕ
-  kept i = cond (ltb i from) (get_or x i 0) 0
-
-  pub kept_low : (i : ℕ) → i < from → get_or x i 0 ≡ kept i
-  kept_low i l = rw (lt-ltb i from l)
-
-  pub kept_high : (i : ℕ) → from ≤ i → 0 ≡ kept i
-  kept_high i l = rw (le-ltb i from l)
+-- zeros from a word on
+pub zeroed : (from : ℕ) (x z : List ℕ) (n : ℕ) → n ≡ min from (length x) → z ≡ replicate (length (take (length x - n) (drop n x))) 0
+    → take n x ++ (z ++ drop (length x - n) (drop n x)) ≡ zeroed_from from x
+unfolding zeroed_from
+zeroed from x z n e h = cleared x z n h ∙ tabulated _ (length x) _ (length-cleared x n (omega arith)) (λ k l.
+    get_or-then-zeros (take n x) (replicate (length x - n) 0) (get_or-zeros (length x - n)) k ∙ go k l (dec_lt k n))
+  where
+    go : (k : ℕ) → k < length x → Dec (k < n) → get_or (take n x) k 0 ≡ cond (ltb k from) (get_or x k 0) 0
+    go k l (yes p) = get_or-take n x k 0 p ∙ simp (lt-ltb k from (omega arith))
+    go k l (no p) = get_or-eq_default (take n x) 0 (simp length-take (omega arith)) ∙ simp (le-ltb k from (omega arith))
 
 -- zeros after a part
 zeros-after : (w rest : List ℕ) → zeroed_from (length w) (w ++ rest) ≡ padded (length (w ++ rest)) w

@@ -31,8 +31,8 @@ pub fn shorten(
     ensures left { x.new ≡ words_left field (take nx x.old) (take ny y.now) q.old ++ drop nx x.old }
     ensures quotient { q.new ≡ quotient_left field (take nx x.old) (take ny y.now) q.old }
 {
-    let mx = words::smaller(nx, x.len());
-    let my = words::smaller(ny, y.len());
+    let mx = nx.min(x.len());
+    let my = ny.min(y.len());
     let steps = round(field, inverses, x, mx, y, my, q);
     let left = lists::significant_words(&x[..mx]);
     Shortened { steps, left }
@@ -85,11 +85,12 @@ fn whole_groups(n: usize, most: usize) -> usize
     if most - n < 7 {
         return most;
     }
-    (n + 7) / 8 * 8
+    n.next_multiple_of(8)
 }
 
 // With the factorials as whole and their inverses as part: the list of `words` words whose scaled form is m times the words of form, and zeros
 // after it.
+#[tactic(auto, unfolding(crate::specs::Round::write_fits))]
 pub fn write_list(
     field: u8,
     whole: &[u16],
@@ -123,10 +124,8 @@ pub fn write_list(
 fn times_word(field: u8, x: &mut [u16], m: u16)
     ensures { x.new ≡ multiplied (modulus field) m x.old }
 {
-    let mut i = 0;
-    while i < x.len() {
-        x[i] = field::mul(field, x[i], m);
-        i += 1;
+    for word in x.iter_mut() {
+        *word = field::mul(field, *word, m);
     }
 }
 
@@ -134,9 +133,6 @@ fn times_word(field: u8, x: &mut [u16], m: u16)
 fn zero_from(out: &mut [u16], from: usize)
     ensures { out.new ≡ zeroed_from from out.old }
 {
-    let mut i = from;
-    while i < out.len() {
-        out[i] = 0;
-        i += 1;
-    }
+    let start = from.min(out.len());
+    out[start..].fill(0);
 }

@@ -1,26 +1,19 @@
 -- Laws of the loops: the division from the top, and the product taken off row by row.
---     negated-is              minus a word, as the code has it
 --     .. -turn, .. -end       one turn of the loops, and their end
---     .. -fits, .. -unfit     the tests of the lengths
+--     reduce-fits             the test of the lengths
 -- Assumes nothing.
 use mathlib.Core.Path.{◌≡◌, refl, sym, ◌∙◌, ap}
-use mathlib.Core.Bool.{true, false, ◌&&◌}
+use mathlib.Core.Bool.{true}
 use mathlib.Core.List.{List, [], ◌∷◌, ◌++◌, append-nil, append_assoc}
 use Prim.Native.Nat.{ℕ, zero, suc, ◌+◌, ◌-◌, ◌*◌, ◌%◌, ◌≤◌, ◌<◌}
-use native.Mathlib.Nat.{not-suc-le-zero, zero-add, le_antisymm}
+use native.Mathlib.Nat.{not-suc-le-zero, le_antisymm}
 use native.Mathlib.Numerals.{sub-one, add-one}
-use native.Mathlib.Decide.{dec_lt}
 use native.Mathlib.Omega.{arith}
-use lib.Dec.{leb, eqb}
 use lib.ListN.{length, get_or, drop, set, length-set}
 use lib.Seq.{get_or-set_same, drop-length, drop-cons, drop-set-lt}
-use borrow.Author.Tests.{le-leb, lt-leb, eq-eqb, ne_eqb}
+use borrow.Author.Tests.{le-leb, eq-eqb}
 use Rattle.word_row.specs.Rows.{row_from}
 use Rattle.word_division.specs.Reduction.{negated, digit, reduced, digits, less_product_to, less_product, reduce_fits}
-
-pub negated-is : (p a : ℕ) → (0 + (p - a % p)) % p ≡ negated p a
-unfolding negated
-negated-is p a = ap (λ n. n % p) (zero-add (p - a % p))
 
 -- one turn of the division
 digits_step : (p inv : ℕ) (y : List ℕ) (k : ℕ) (x q : List ℕ) → k < length q
@@ -75,15 +68,7 @@ pub less-end : (p k : ℕ) (s q t : List ℕ) {x : List ℕ} → k ≤ length q 
 unfolding less_product
 less-end p k s q t l h e = e ∙ ap (λ n. less_product_to p n s q t) (le_antisymm l h)
 
--- the guards
+-- the test of the lengths
 pub reduce-fits : (x y q : List ℕ) → 1 ≤ length y → length x + 1 ≡ length y + length q → reduce_fits x y q ≡ true
 unfolding reduce_fits
 reduce-fits x y q l e = rw (le-leb 1 (length y) l, eq-eqb (length x + 1) (length y + length q) e)
-
-pub reduce-unfit : (x y q : List ℕ) → (1 ≤ length y → ¬ (length x + 1 ≡ length y + length q)) → reduce_fits x y q ≡ false
-unfolding reduce_fits
-reduce-unfit x y q n = go (dec_lt 0 (length y))
-  where
-    go : Dec (0 < length y) → (leb 1 (length y) && eqb (length x + 1) (length y + length q)) ≡ false
-    go (yes l) = rw (le-leb 1 (length y) l, ne_eqb (length x + 1) (length y + length q) (n l))
-    go (no l) = rw (lt-leb 1 (length y) (omega arith))

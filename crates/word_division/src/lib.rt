@@ -8,11 +8,12 @@ ghost use Rattle.word_division.specs.Reduction.{negated, reduced, digits, less_p
 
 // Division of x by y from the top: the quotient's words go to q, what is left stays in x. `inv` is the inverse of y's last word. Where the
 // slices' lengths do not fit, nothing is written.
+#[tactic(auto, unfolding(crate::specs::Reduction::reduce_fits))]
 pub fn reduce(field: u8, x: &mut [u16], y: &[u16], inv: u16, q: &mut [u16])
     ensures left { x.new ≡ words_reduced (modulus field) inv x.old y.now q.old }
     ensures quotient { q.new ≡ words_of_quotient (modulus field) inv x.old y.now q.old }
 {
-    if y.len() == 0 {
+    if y.is_empty() {
         return;
     }
     let d = y.len() - 1;
@@ -32,9 +33,7 @@ fn reduce_in(field: u8, x: &mut [u16], y: &[u16], inv: u16, q: &mut [u16])
     ensures quotient { q.new ≡ digits (modulus field) inv y.now (length q.old) x.old }
 {
     let d = y.len() - 1;
-    let mut k = q.len();
-    while 0 < k {
-        k -= 1;
+    for k in (0..q.len()).rev() {
         let c = field::mul(field, x[d + k], inv);
         q[k] = c;
         word_row::add_row(field, &mut x[k..], negate(field, c), y);
@@ -51,9 +50,7 @@ pub fn reduce_padded(field: u8, x: &mut [u16], y: &[u16], n: usize, inv: u16, q:
     ensures quotient { q.new ≡ digits (modulus field) inv (take n y.now) (length q.old) x.old }
 {
     let lift = word_row::lift_of(field, inv);
-    let mut k = q.len();
-    while 0 < k {
-        k -= 1;
+    for k in (0..q.len()).rev() {
         let top = x[n - 1 + k];
         q[k] = field::mul(field, top, inv);
         word_row::sub_row(field, &mut x[k..], top, inv, lift, y);
@@ -67,13 +64,12 @@ pub fn sub_product(field: u8, s: &mut [u16], q: &[u16], t: &[u16])
     ensures { s.new ≡ less_product (modulus field) s.old q.now t.now }
 {
     let lift = word_row::lift_of(field, 1);
-    let mut k = 0;
-    while k < q.len() {
-        word_row::sub_row(field, &mut s[k..], q[k], 1, lift, t);
-        k += 1;
+    for (k, c) in q.iter().enumerate() {
+        word_row::sub_row(field, &mut s[k..], *c, 1, lift, t);
     }
 }
 
+#[tactic(auto, unfolding(crate::specs::Reduction::negated))]
 fn negate(field: u8, a: u16) -> u16
     ensures { result ≡ negated (modulus field) a }
 {

@@ -1,51 +1,20 @@
 -- Montgomery's products on words: the difference of two high halves is a product modulo p.
---     sum-most, sum_less          the word that `add_below` chooses
 --     product-halves              with the constants of m, the high half of y · g less that of (y · s modulo 2^16) · p is m · y
 --     added                       the word that a row's turn stores
 --     square-factor               the constants of 2^16 itself
 --     lifted-factor               those of m, from a product with them
 --     factor-below                g is below p
 --     square-below, modulus-at    the constants of a field
---     lift-factor, lift-at        the lift of m, as the constants of -m · 2^16
---     minus-factor                the constants of -a · m, from a product with them
+--     lift-at                     the lift of m, as the constants of -m · 2^16
+--     minus-at                    the constants of -a · m, from a product with them
 -- Assumes nothing.
-use Rattle.std.proofs.Common.{◌≡◌, ℕ, ◌+◌, ◌-◌, ◌*◌, ◌/◌, ◌%◌, ◌<◌, ◌≤◌, min, sym, ap, ◌∙◌, mod-lt, mod-eq_of_lt, mul_comm, zero-add, arith}
+use Rattle.std.proofs.Common.{◌≡◌, ℕ, ◌+◌, ◌-◌, ◌*◌, ◌/◌, ◌%◌, ◌<◌, refl, sym, ap, ◌∙◌, mod-lt, mul_comm, zero-add, arith}
 use native.Mathlib.Nat.{mod-add-div, mod-add-mod, add-mod-mod}
-use native.Mathlib.Decide.{dec_lt}
 use Rattle.field.specs.Fields.{modulus, word_inverse, square}
 use Rattle.field.proofs.Fields.{modulus-half, word-inverse, square-is}
-use Rattle.word_montgomery.proofs.Words.{same, once}
+use Rattle.word_montgomery.proofs.Words.{same}
 use Rattle.word_row.specs.Montgomery.{Modulus, Factor, lift_of}
 use Rattle.word_row.specs.Rows.{minus_product}
-
--- the smaller of the sum, at most 65,535, and the sum less p, both modulo 2^16
-module _ (a b p most sum less : ℕ) (la : a < p) (lb : b < p) (lp : p < 65536) (ll : less < 65536)
-    (em : most ≡ min (a + b) 65535) (es : sum ≡ (a + b) % 65536) (el : (less + p) % 65536 ≡ sum) where
-  sum-short : a + b < p → (most ≡ a + b) × (most < less)
-  sum-short l =
-      let whole : sum ≡ a + b = omega arith in
-      (omega arith, omega arith)
-
-  sum-long : p ≤ a + b → (less ≡ a + b - p) × (less < most)
-  sum-long l = go (dec_lt (a + b) 65536)
-    where
-      go : Dec (a + b < 65536) → (less ≡ a + b - p) × (less < most)
-      go (yes h) = let whole : sum ≡ a + b = omega arith in (omega arith, omega arith)
-      go (no h) = let whole : sum + 65536 ≡ a + b = omega arith in (omega arith, omega arith)
-
-  pub sum-most : most < less → most ≡ (a + b) % p
-  sum-most h = go (dec_lt (a + b) p)
-    where
-      go : Dec (a + b < p) → most ≡ (a + b) % p
-      go (yes l) = (sum-short l).0 ∙ sym (mod-eq_of_lt l)
-      go (no l) = absurd (omega (arith, (sum-long (omega arith)).1))
-
-  pub sum_less : less ≤ most → less ≡ (a + b) % p
-  sum_less h = go (dec_lt (a + b) p)
-    where
-      go : Dec (a + b < p) → less ≡ (a + b) % p
-      go (yes l) = absurd (omega (arith, (sum-short l).1))
-      go (no l) = (sum-long (omega arith)).0 ∙ once (a + b) p (omega arith) (omega arith)
 
 -- over the quotients and remainders of every division
 module _ (p e k m g a s b y l c h t r r' : ℕ)
@@ -129,10 +98,10 @@ module _ {p e r : ℕ} (o : Modulus p e r) (m : ℕ) where
   positive = omega (arith, o.half)
 
   -- -m · 2^16
-  abbrev pub minus : ℕ
+  abbrev minus : ℕ
   minus = (p - m % p) * 65536
 
-  pub lift-factor : {lift s : ℕ} → lift ≡ lift_of p r m → s ≡ lift * e % 65536 → Factor p e minus lift s
+  lift-factor : {lift s : ℕ} → lift ≡ lift_of p r m → s ≡ lift * e % 65536 → Factor p e minus lift s
   unfolding lift_of
   lift-factor el es =
       let below = mod-lt m positive in
@@ -148,7 +117,7 @@ module _ {p e r : ℕ} (o : Modulus p e r) (m : ℕ) where
         side = es;
       }
 
-  pub minus-factor : (a : ℕ) {g s : ℕ} → g ≡ (0 + minus * a) % p → s ≡ g * e % 65536 → Factor p e (minus_product p a m) g s
+  minus-factor : (a : ℕ) {g s : ℕ} → g ≡ (0 + minus * a) % p → s ≡ g * e % 65536 → Factor p e (minus_product p a m) g s
   unfolding minus_product
   minus-factor a eg es =
       let rest = p - a * m % p in
@@ -166,5 +135,11 @@ module _ {p e r : ℕ} (o : Modulus p e r) (m : ℕ) where
         side = es;
       }
 
-pub lift-at : (k : ℕ) {p : ℕ} → p ≡ modulus k → (m : ℕ) {lift : ℕ} → lift ≡ lift_of (modulus k) (square k) m → lift ≡ lift_of p (square k) m
-lift-at k ep m e = e ∙ ap (λ q. lift_of q (square k) m) (sym ep)
+-- the same of a field
+pub lift-at : (k m : ℕ) {p e lift s : ℕ} → p ≡ modulus k → e ≡ word_inverse k → lift ≡ lift_of (modulus k) (square k) m → s ≡ lift * e % 65536
+    → Factor p e ((p - m % p) * 65536) lift s
+lift-at k m ep ee el es = lift-factor (modulus-at k ep ee refl) m (el ∙ ap (λ q. lift_of q (square k) m) (sym ep)) es
+
+pub minus-at : (k m a : ℕ) {p e g s : ℕ} → p ≡ modulus k → e ≡ word_inverse k → g ≡ (0 + (p - m % p) * 65536 * a) % p → s ≡ g * e % 65536
+    → Factor p e (minus_product p a m) g s
+minus-at k m a ep ee eg es = minus-factor (modulus-at k ep ee refl) m a eg es

@@ -1,4 +1,5 @@
-// The row step on words: x plus m times y, by Montgomery's products.
+// The row step on words: x plus m times y, by Montgomery's products. The loops go over places: of what a `zip` over `iter_mut` has written a
+// proof knows nothing.
 #![tactic(auto)]
 
 ghost use Rattle.std.specs.Prelude.{◌≡◌, ℕ, ◌+◌, ◌-◌, ◌*◌, ◌%◌, ◌<◌, ◌≤◌, min, length};
@@ -11,7 +12,7 @@ ghost use Rattle.word_row.specs.Montgomery.{Modulus, Factor, lift_of};
 pub fn add_row(field: u8, x: &mut [u16], m: u16, y: &[u16])
     ensures { x.new ≡ row (modulus field) x.old m y.now }
 {
-    let n = words::smaller(x.len(), y.len());
+    let n = x.len().min(y.len());
     let wide = n - n % 8;
     montgomery_row(
         x,
@@ -43,7 +44,7 @@ pub fn sub_row(field: u8, x: &mut [u16], a: u16, m: u16, lift: u16, y: &[u16])
     let e = field::word_inverse_of(field);
     let g = add_product_below(0, a, lift, word_montgomery::low_half(lift, e), p);
     let s = word_montgomery::low_half(g, e);
-    lifted_row(x, y, words::smaller(x.len(), y.len()), g, s, p);
+    lifted_row(x, y, x.len().min(y.len()), g, s, p);
 }
 
 // The first n words of x, which are below p, gain m times y modulo p, where g is m times 2^16 modulo p, and s is g/p modulo 2^16. Every step
@@ -55,10 +56,8 @@ fn lifted_row(x: &mut [u16], y: &[u16], n: usize, g: u16, s: u16, p: u16)
     requires tight { Tight p x.old }
     ensures { (e m : ℕ) → Factor p e m g s → Partway p x.old m y.now x.new n }
 {
-    let mut j = 0;
-    while j < n {
+    for j in 0..n {
         x[j] = add_product_below(x[j], y[j], g, s, p);
-        j += 1;
     }
 }
 
@@ -66,11 +65,8 @@ fn lifted_row(x: &mut [u16], y: &[u16], n: usize, g: u16, s: u16, p: u16)
 fn add_rest(field: u8, x: &mut [u16], m: u16, y: &[u16])
     ensures { x.new ≡ row (modulus field) x.old m y.now }
 {
-    let n = words::smaller(x.len(), y.len());
-    let mut i = 0;
-    while i < n {
+    for i in 0..x.len().min(y.len()) {
         x[i] = field::add_mul(field, x[i], m, y[i]);
-        i += 1;
     }
 }
 
@@ -84,10 +80,8 @@ fn montgomery_row(x: &mut [u16], m: u16, y: &[u16], n: usize, p: u16, e: u16, sq
     // m times 2^16. LLVM knows that it has 16 bits, since it is a difference of words; of a remainder by p it would not.
     let g = add_product(0, m, square, word_montgomery::low_half(square, e), p);
     let s = word_montgomery::low_half(g, e);
-    let mut j = 0;
-    while j < n {
+    for j in 0..n {
         x[j] = add_product(x[j], y[j], g, s, p);
-        j += 1;
     }
 }
 
@@ -119,15 +113,5 @@ fn add_below(a: u16, b: u16, p: u16) -> u16
     requires { (a < p) × (b < p) }
     ensures { result ≡ (a + b) % p }
 {
-    let most = stopped_sum(a, b);
-    let less = std::num::wrapping_sub_u16(std::num::wrapping_add_u16(a, b), p);
-    if most < less { most } else { less }
-}
-
-// a plus b, but at most 65,535.
-fn stopped_sum(a: u16, b: u16) -> u16
-    ensures { result ≡ min (a + b) 65535 }
-{
-    let sum = std::num::wrapping_add_u16(a, b);
-    if sum < a { 65535 } else { sum }
+    a.saturating_add(b).min(a.wrapping_add(b).wrapping_sub(p))
 }

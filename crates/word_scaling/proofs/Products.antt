@@ -1,4 +1,6 @@
 -- Montgomery's products as products in the field.
+--     halves                the two high halves that Montgomery's product is made of
+--     below-zero, not-below     their difference modulo p, by words that wrap
 --     Constants p e u w     e is 1/p modulo 2^16, u is 1/2^16 modulo p, and w is 2^64 modulo p
 --     part_of k             1/2^16 modulo p of field k
 --     constants             field k has these constants
@@ -6,15 +8,40 @@
 --     squares               2^32 undoes two divisions by 2^16
 --     product-of-three      three words, by two of Montgomery's products, times a fourth and 2^32: the product of the four
 -- Assumes nothing.
-use Rattle.std.proofs.Common.{◌≡◌, ℕ, zero, suc, ◌*◌, ◌%◌, sym, refl, ap, ◌∙◌, subst, ap₂, mod-eq_of_lt}
+use Rattle.std.proofs.Common.{◌≡◌, ℕ, zero, suc, ◌+◌, ◌-◌, ◌*◌, ◌/◌, ◌%◌, ◌<◌, ◌≤◌, sym, refl, ap, ◌∙◌, subst, ap₂, le_refl, le_of_lt, mod-eq_of_lt, arith}
 use Rattle.algebra.specs.RingLaws as R
 use Rattle.algebra.specs.RingLaws.{Ac}
 use Rattle.algebra.specs.PrimeField.{PrimeField, scalars, positive, residue}
 use Rattle.algebra.proofs.PrimeField.{residue-1, residue-mul, residue-mul-mod, residue-eq, residue-injective}
 use Rattle.field.specs.Fields.{modulus, word_inverse, square, fourth}
-use Rattle.word_montgomery.specs.Montgomery.{montgomery}
+use Rattle.word_montgomery.specs.Montgomery.{montgomery, multiplier}
+use Rattle.word_montgomery.proofs.Words.{high-below, sub-less, sub_more}
 use Rattle.word_montgomery.proofs.Montgomery.{montgomery-rule, montgomery-below}
 use Rattle.word_scaling.specs.Scaling.{partly}
+
+-- the two high halves that Montgomery's product is made of
+pub halves : (p e x y : ℕ) {h l m t : ℕ} → x < 65536 → y < p → h ≡ x * y / 65536 → l ≡ x * y % 65536 → m ≡ l * e % 65536 → t ≡ m * p / 65536
+    → (h < p) × (t < p) × ((h + (p - t)) % p ≡ montgomery p e x y)
+unfolding montgomery multiplier
+halves p e x y {m = m} lx ly eh el em et = (
+  rw eh (high-below x lx (le_of_lt ly) (omega arith)),
+  rw et (high-below m (omega arith) (le_refl p) (omega arith)),
+  ap₂ (λ h t. (h + (p - t)) % p) eh (et ∙ ap (λ q. q * p / 65536) (em ∙ ap (λ l. l * e % 65536) el)),
+)
+
+-- h less t modulo p, by differences that wrap
+module _ (p h t : ℕ) (lh : h < p) (lt : t < p) (lp : p < 65536) where
+  pub below-zero : (p + (65536 - t)) % 65536 < (p + (65536 - h)) % 65536 → ((h + (65536 - t)) % 65536 + p) % 65536 ≡ (h + (p - t)) % p
+  below-zero l =
+      let g : h < t = omega arith in
+      let e : ((h + (65536 - t)) % 65536 + p) % 65536 ≡ h + p - t = omega arith in
+      e ∙ sub-less h t p g (omega arith)
+
+  pub not-below : (p + (65536 - h)) % 65536 ≤ (p + (65536 - t)) % 65536 → (h + (65536 - t)) % 65536 ≡ (h + (p - t)) % p
+  not-below l =
+      let g : t ≤ h = omega arith in
+      let e : (h + (65536 - t)) % 65536 ≡ h - t = omega arith in
+      e ∙ sub_more h t p g lh
 
 -- e is 1/p modulo 2^16, u is 1/2^16 modulo p, and w is 2^64 modulo p
 pub record Constants (p e u w : ℕ) : Type 0 where

@@ -1,5 +1,5 @@
 // Words weighed with tables: with those of factorials, a list's scaled form, and the list of a scaled form. Total: where the slices' lengths do
-// not fit, nothing is written.
+// not fit, nothing is written. The loops go over places: of what a `zip` over `iter_mut` has written a proof knows nothing.
 #![tactic(auto)]
 
 ghost use Rattle.std.specs.Prelude.{◌≡◌, ◌*◌, ◌%◌, ◌<◌, ◌≤◌, length};
@@ -19,9 +19,9 @@ fn montgomery_product(x: u16, y: u16, p: u16, e: u16) -> u16
         word_montgomery::low_half(word_montgomery::low_half(x, y), e),
         p,
     );
-    let d = std::num::wrapping_sub_u16(high, less);
-    if std::num::wrapping_sub_u16(p, less) < std::num::wrapping_sub_u16(p, high) {
-        std::num::wrapping_add_u16(d, p)
+    let d = high.wrapping_sub(less);
+    if p.wrapping_sub(less) < p.wrapping_sub(high) {
+        d.wrapping_add(p)
     } else {
         d
     }
@@ -42,6 +42,7 @@ fn product_of_four(field: u8, x: u16, d: u16, a: u16, b: u16) -> u16
 
 // Word k times whole[n], part[k] and part[n - k], n + 1 being the length of out. C(n,k) is n! / (k! (n - k)!): with the factorials as
 // whole and their inverses as part the words are multiplied by C(n,k), and with the two exchanged they are divided by it.
+#[tactic(auto, unfolding(crate::specs::Scaling::weigh_fits))]
 pub fn weigh(field: u8, words: &[u16], whole: &[u16], part: &[u16], out: &mut [u16])
     ensures { out.new ≡ weighed_into (modulus field) words.now whole.now part.now out.old }
 {
@@ -62,15 +63,13 @@ fn weigh_in(field: u8, words: &[u16], whole: &[u16], part: &[u16], out: &mut [u1
     requires { (length out.old ≤ length words.now) × (length out.old ≤ length whole.now) × (length out.old ≤ length part.now) }
     ensures { out.new ≡ weighted (modulus field) whole.now part.now (length out.old) words.now }
 {
-    let n = out.len();
-    if n == 0 {
+    if out.is_empty() {
         return;
     }
+    let n = out.len();
     let d = whole[n - 1];
-    let mut k = 0;
-    while k < n {
+    for k in 0..n {
         out[k] = product_of_four(field, words[k], d, part[k], part[n - 1 - k]);
-        k += 1;
     }
 }
 
@@ -92,9 +91,7 @@ pub fn weigh_partly(field: u8, words: &[u16], part: &[u16], out: &mut [u16])
     ensures { out.new ≡ partly_weighted (modulus field) (word_inverse field) part.now (length out.old) words.now }
 {
     let n = out.len();
-    let mut k = 0;
-    while k < n {
+    for k in 0..n {
         out[k] = product_of_three(field, words[k], part[k], part[n - 1 - k]);
-        k += 1;
     }
 }

@@ -1,5 +1,6 @@
 -- Reading words from bytes and writing words as bytes: what a slice then holds, and the steps of both loops.
 --     chunk-word, read-end     word k from the pair of bytes there, and the slice with zeros after the words
+--     cleared                  a slice whose words from a place on are filled with zeros
 --     two-more                 the bytes of one more word
 -- Theorems:
 --     into-exact      as many words as the bytes have: their words
@@ -73,10 +74,10 @@ chunk-word s c n k e h l =
     ap (from_le_bytes w16) (get_or-take n c k [] l ∙ ap (λ d. get_or d k []) e)
     ∙ chunk_at s (length s / 2) k (omega arith) ∙ word-inside s k (omega arith)
 
--- the words that are there, and zeros after them
-pub read-end : (s w z : List ℕ) (n m : ℕ) → length w ≡ m → n ≡ min (length w) (length s / 2) → Filled w n (words_of s)
-    → z ≡ replicate (length (take (length w - n) (drop n w))) 0 → take n w ++ (z ++ drop (length w - n) (drop n w)) ≡ words_into m s
-read-end s w z n m em en h ez = rw (ez, left, drop_of_length-le (drop n w) short, append-nil, ← em) (into-is s (length w) _ size (record { at = at }))
+-- a slice after `s[n..].fill(0)`
+pub cleared : (w z : List ℕ) (n : ℕ) → z ≡ replicate (length (take (length w - n) (drop n w))) 0
+    → take n w ++ (z ++ drop (length w - n) (drop n w)) ≡ take n w ++ replicate (length w - n) 0
+cleared w z n e = rw (e, left, drop_of_length-le (drop n w) short, append-nil)
   where
     short : length (drop n w) ≤ length w - n
     short = simp length-drop (omega arith)
@@ -84,9 +85,14 @@ read-end s w z n m em en h ez = rw (ez, left, drop_of_length-le (drop n w) short
     left : length (take (length w - n) (drop n w)) ≡ length w - n
     left = simp (length-take, length-drop) (omega arith)
 
-    size : length (take n w ++ replicate (length w - n) 0) ≡ length w
-    size = simp (length-append, length-take, length-replicate) (omega arith)
+pub length-cleared : (w : List ℕ) (n : ℕ) → n ≤ length w → length (take n w ++ replicate (length w - n) 0) ≡ length w
+length-cleared w n l = simp (length-append, length-take, length-replicate) (omega arith)
 
+-- the words that are there, and zeros after them
+pub read-end : (s w z : List ℕ) (n m : ℕ) → length w ≡ m → n ≡ min (length w) (length s / 2) → Filled w n (words_of s)
+    → z ≡ replicate (length (take (length w - n) (drop n w))) 0 → take n w ++ (z ++ drop (length w - n) (drop n w)) ≡ words_into m s
+read-end s w z n m em en h ez = cleared w z n ez ∙ rw (← em) (into-is s (length w) _ (length-cleared w n (omega arith)) (record { at = at }))
+  where
     read : (k : ℕ) → k < length w → Dec (k < n) → get_or (take n w) k 0 ≡ get_or (words_of s) k 0
     read k l (yes p) = get_or-take n w k 0 p ∙ h.at k p
     read k l (no p) = get_or-eq_default (take n w) 0 (simp length-take (omega arith)) ∙ word-past s k (omega arith)

@@ -11,12 +11,6 @@ use Rattle.euclid_round.proofs.round.Goals as goal
 steps_and_left_and_quotient : {A B C : Type 0} → A × (B × C) → record { steps : A; left : B; quotient : C }
 steps_and_left_and_quotient (a, (b, c)) = record { steps = a; left = b; quotient = c }
 
-pub slice_bounds-significant_words-end-2 : goal.slice_bounds-significant_words-end-2
-slice_bounds-significant_words-end-2 c = simp length-take (omega arith)
-
-pub slice_bounds-significant_words-end-3 : goal.slice_bounds-significant_words-end-3
-slice_bounds-significant_words-end-3 c = simp length-take (omega arith)
-
 pub returns-then-ny-eq0 : goal.returns-then-ny-eq0
 returns-then-ny-eq0 c =
     let a = c.args in
@@ -55,12 +49,6 @@ pub whole_groups-wide-requires : goal.whole_groups-wide-requires
 whole_groups-wide-requires c =
     let a = c.args in
     omega (arith, significant-le (take a.my a.y.now), length-take a.my a.y.now)
-
-pub slice_bounds-reduce_padded-end : goal.slice_bounds-reduce_padded-end
-slice_bounds-reduce_padded-end c = simp length-take (omega arith)
-
-pub slice_bounds-reduce_padded-end-3 : goal.slice_bounds-reduce_padded-end-3
-slice_bounds-reduce_padded-end-3 c = simp length-take (omega arith)
 
 pub reduce_padded-requires : goal.reduce_padded-requires
 reduce_padded-requires c =

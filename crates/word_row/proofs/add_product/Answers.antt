@@ -1,11 +1,8 @@
 -- `word_row::add_product` meets its contract: x is reduced first.
 -- Assumes nothing.
-use Rattle.std.proofs.Common.{◌+◌, ◌*◌, ◌%◌, ap, ◌∙◌, mod-lt, arith}
+use Rattle.std.proofs.Common.{◌+◌, ◌*◌, ◌%◌, ap, ◌∙◌}
 use native.Mathlib.Nat.{mod-add-mod}
 use Rattle.word_row.proofs.add_product.Goals as goal
-
-pub add_product_below-requires : goal.add_product_below-requires
-add_product_below-requires c = (omega arith, omega arith, rw c.once_reduced.ensures (mod-lt _ (omega arith)))
 
 pub returns : goal.returns
 returns c =

@@ -1,19 +1,9 @@
 -- `word_row::add_product_below` meets its contract: the difference of the high halves is the product.
 -- Assumes nothing.
-use Rattle.std.proofs.Common.{◌*◌, ◌/◌, ◌<◌, ap, ◌∙◌, le_refl, le_of_lt, mod-lt, arith}
+use Rattle.std.proofs.Common.{◌*◌, ◌/◌, ◌<◌, ap, ◌∙◌, le_refl, mod-lt, arith}
 use Rattle.word_montgomery.proofs.Words.{high-below}
 use Rattle.word_row.proofs.Montgomery.{added}
 use Rattle.word_row.proofs.add_product_below.Goals as goal
-
-pub sub_below-requires : goal.sub_below-requires
-sub_below-requires c =
-    let less-below : c.high_half-less.result < c.args.p = rw c.high_half-less.ensures (high-below c.low_half.result (omega arith) (le_refl _) (omega arith)) in
-    (omega arith, le_of_lt less-below)
-
-pub add_below-requires : goal.add_below-requires
-add_below-requires c =
-    let more-below : c.high_half.result < c.args.p = rw c.high_half.ensures (high-below c.args.y c.ranges.y.fits (le_of_lt c.requires.1) (omega arith)) in
-    (rw c.sub_below.ensures (mod-lt _ (omega arith)), more-below)
 
 pub returns : goal.returns
 returns c =

@@ -1,31 +1,26 @@
 -- `word_row::sub_row` meets its contract: g and s are the constants of -a · m.
 -- Assumes nothing.
-use Rattle.std.proofs.Common.{refl, ap, ◌∙◌, le_refl, arith}
-use Rattle.field.specs.Fields.{square}
+use Rattle.std.proofs.Common.{ap, ◌∙◌, le_refl, arith}
 use Rattle.lists.proofs.Tight.{tight-at}
-use Rattle.word_row.specs.Montgomery.{Modulus, Factor}
 use Rattle.word_row.specs.Rows.{row, minus_product}
 use Rattle.word_row.proofs.Loops.{finish}
-use Rattle.word_row.proofs.Montgomery.{modulus-at, lift-factor, lift-at, minus, minus-factor, factor-below}
+use Rattle.word_row.proofs.Montgomery.{lift-at, minus-at, factor-below}
 use Rattle.word_row.proofs.sub_row.Goals as goal
 
 pub add_product_below-g-requires : goal.add_product_below-g-requires
 add_product_below-g-requires c =
-    let constants : Modulus c.modulus_of-p.result c.word_inverse_of-e.result (square c.args.field) = modulus-at _ c.modulus_of-p.ensures c.word_inverse_of-e.ensures refl in
-    let lifted : Factor c.modulus_of-p.result c.word_inverse_of-e.result (minus constants c.args.m) c.args.lift c.low_half.result = lift-factor constants _ (lift-at _ c.modulus_of-p.ensures _ c.requires.lift_value) c.low_half.ensures in
+    let lifted = lift-at c.args.field _ c.modulus_of-p.ensures c.word_inverse_of-e.ensures c.requires.lift_value c.low_half.ensures in
     (lifted.half, factor-below lifted, omega (arith, lifted.half))
 
 pub lifted_row-requires : goal.lifted_row-requires
 lifted_row-requires c =
-    let constants : Modulus c.modulus_of-p.result c.word_inverse_of-e.result (square c.args.field) = modulus-at _ c.modulus_of-p.ensures c.word_inverse_of-e.ensures refl in
-    let lifted : Factor c.modulus_of-p.result c.word_inverse_of-e.result (minus constants c.args.m) c.args.lift c.low_half.result = lift-factor constants _ (lift-at _ c.modulus_of-p.ensures _ c.requires.lift_value) c.low_half.ensures in
+    let lifted = lift-at c.args.field _ c.modulus_of-p.ensures c.word_inverse_of-e.ensures c.requires.lift_value c.low_half.ensures in
     record { le_p = (lifted.half, c.add_product_below-g.ensures.0); n_in_bounds = (omega arith, omega arith); tight = tight-at c.modulus_of-p.ensures c.requires.tight }
 
 pub returns : goal.returns
 returns c =
-    let constants : Modulus c.modulus_of-p.result c.word_inverse_of-e.result (square c.args.field) = modulus-at _ c.modulus_of-p.ensures c.word_inverse_of-e.ensures refl in
-    let lifted : Factor c.modulus_of-p.result c.word_inverse_of-e.result (minus constants c.args.m) c.args.lift c.low_half.result = lift-factor constants _ (lift-at _ c.modulus_of-p.ensures _ c.requires.lift_value) c.low_half.ensures in
-    let turned : Factor c.modulus_of-p.result c.word_inverse_of-e.result (minus_product c.modulus_of-p.result c.args.a c.args.m) c.add_product_below-g.result c.low_half-s.result = minus-factor constants _ _ (c.add_product_below-g.ensures.1 _ _ lifted) c.low_half-s.ensures in
     let a = c.args in
-    finish _ _ _ _ _ _ _ c.smaller.ensures (le_refl _) (c.lifted_row.ensures _ _ turned)
+    let lifted = lift-at a.field _ c.modulus_of-p.ensures c.word_inverse_of-e.ensures c.requires.lift_value c.low_half.ensures in
+    let turned = minus-at a.field _ a.a c.modulus_of-p.ensures c.word_inverse_of-e.ensures (c.add_product_below-g.ensures.1 _ _ lifted) c.low_half-s.ensures in
+    finish _ _ _ _ _ _ _ c.min.ensures (le_refl _) (c.lifted_row.ensures _ _ turned)
     ∙ ap (λ p. row p a.x.now (minus_product p a.a a.m) a.y.now) c.modulus_of-p.ensures

@@ -3,13 +3,12 @@
 #![tactic(auto)]
 
 ghost use Rattle.std.specs.Prelude.{◌≡◌, length};
-ghost use Rattle.field.specs.Fields.{longest};
-ghost use Rattle.refusal.specs.Limits.{max_words};
-ghost use Rattle.report_text.specs.Calls.{max_text, text_reply};
+ghost use Rattle.report_text.specs.Calls.{text_reply};
 ghost use Rattle.report_text.specs.Internal.{Put};
 ghost use Rattle.line_text.specs.Calls.{line_of, value_text, line_text, line_text_answer, line_text_written};
 
 use refusal::Refusal;
+use report_text::Page;
 
 const LINE_END: u8 = 10;
 
@@ -21,54 +20,44 @@ pub fn line_text_over(field: u8, input: &[u8], out: &mut [u8]) -> Result<usize, 
     if out.len() != report_text::MAX_TEXT {
         return Err(Refusal::Misfit);
     }
-    let mut list = [0u16; refusal::MAX_WORDS];
-    let n = put_text(field, input, &mut list, out);
-    report_text::clear(n, out);
-    Ok(n)
+    let mut page = Page::new();
+    put_text(field, input, &mut page);
+    out.copy_from_slice(&page.bytes);
+    Ok(page.used)
 }
 
-// The text by way of as much of an array as the longest list takes.
-fn put_text(field: u8, input: &[u8], list: &mut [u16], out: &mut [u8]) -> usize
-    requires { (length list.old ≡ max_words) × (length out.old ≡ max_text) }
-    ensures { Put (line_text field input.now) 0 out.old out.new result }
-{
-    let n = field::longest_of(field);
-    put_parts(field, input, &mut list[..n], out)
-}
-
-// The same by way of a buffer for the value: the input is cut into the line and the album. Without a byte 0A no album is left.
-fn put_parts(field: u8, input: &[u8], list: &mut [u16], out: &mut [u8]) -> usize
-    requires { (length list.old ≡ longest field) × (length out.old ≡ max_text) }
-    ensures { Put (line_text field input.now) 0 out.old out.new result }
+// The text: the input is cut into the line and the album. Without a byte 0A no album is left.
+fn put_text(field: u8, input: &[u8], page: &mut Page)
+    requires { page.old.used ≡ 0 }
+    ensures { Put (line_text field input.now) page.old.used page.old.bytes page.new.bytes page.new.used }
 {
     let end = line_end(input);
-    let start = words::smaller(end + 1, input.len());
+    let start = (end + 1).min(input.len());
     let line = &input[..end];
     let album = &input[start..];
-    put_value(field, album, line, list, out)
+    put_value(field, album, line, page);
 }
 
 // Where the line ends: at the first byte 0A, or with the input.
 fn line_end(input: &[u8]) -> usize
     ensures { result ≡ length (line_of input.now) }
 {
-    let mut i = 0;
-    while i < input.len() {
-        if input[i] == LINE_END {
+    for (i, &byte) in input.iter().enumerate() {
+        if byte == LINE_END {
             return i;
         }
-        i += 1;
     }
-    i
+    input.len()
 }
 
-// The words of the value, or the line of its refusal; `list` is room for the value.
-fn put_value(field: u8, album: &[u8], line: &[u8], list: &mut [u16], out: &mut [u8]) -> usize
-    requires { (length list.old ≡ longest field) × (length out.old ≡ max_text) }
-    ensures { Put (value_text field album.now line.now) 0 out.old out.new result }
+// The words of the value, or the line of its refusal.
+fn put_value(field: u8, album: &[u8], line: &[u8], page: &mut Page)
+    requires { page.old.used ≡ 0 }
+    ensures { Put (value_text field album.now line.now) page.old.used page.old.bytes page.new.bytes page.new.used }
 {
-    match line_values::line_value_over(field, album, line, list) {
-        Ok(n) => report_text::put_words(&list[..n.0 + 1], 0, out),
-        Err(why) => report_text::put_refused(why, 0, out),
+    let mut list = [0u16; refusal::MAX_WORDS];
+    match line_values::line_value_over(field, album, line, &mut list) {
+        Ok(n) => page.put_words(&list[..n.0 + 1]),
+        Err(why) => page.put_refused(why),
     }
 }

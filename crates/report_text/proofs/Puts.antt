@@ -3,12 +3,16 @@
 -- Assumes nothing.
 use mathlib.Core.Path.{◌≡◌, refl, sym, ◌∙◌, ap, subst}
 use mathlib.Core.List.{List, [], ◌∷◌, ◌++◌, append_assoc, append-nil}
-use Prim.Native.Nat.{ℕ, ◌+◌, ◌-◌, ◌≤◌, ◌<◌, min}
+use Prim.Native.Nat.{ℕ, ◌+◌, ◌≤◌, ◌<◌}
 use native.Mathlib.Numerals.{add-one}
+use native.Mathlib.Decide.{dec_lt}
 use native.Mathlib.Omega.{arith}
-use lib.ListN.{length, get_or, take, set, replicate, length-append, length-set, length-take, length-replicate, replicate-append-replicate}
-use lib.Seq.{take-suc, take-suc-set, take_all}
+use lib.ListN.{length, get_or, take, set, replicate, length-append, length-set, length-replicate, get_or-replicate, get_or-eq_default}
+use lib.Seq.{take-suc-set}
+use Rattle.std.proofs.lemmas.List.{get_or-take}
 use Rattle.lists.specs.Padded.{padded}
+use Rattle.lists.specs.Words.{ZeroFrom}
+use Rattle.lists.proofs.Padded.{padded-is}
 use Rattle.report_text.specs.Internal.{Room, Put}
 
 -- nothing
@@ -41,33 +45,27 @@ room-first t u w = record { fits = omega (arith, w.fits, length-append t u) }
 pub put_is : {t u : List ℕ} {at r k : ℕ} {a b : List ℕ} → t ≡ u → r ≡ k → Put t at a b r → Put u at a b k
 put_is {t} {u} {at} {r} {k} {a} {b} e q x = subst (λ l. Put l at a b k) e (subst (λ n. Put t at a b n) q x)
 
--- one byte more of a text
-pub put_next : (s : List ℕ) {at i : ℕ} {a b : List ℕ} → Put (take i s) at a b (at + i) → i < length s → at + i < length b
-    → Put (take (i + 1) s) at a (set b (at + i) (get_or s i 0)) (at + (i + 1))
-put_next s {at} {i} {a} {b} x ls lb =
-    put_is (rw (add-one, take-suc s i 0)) (omega arith) (put_then x (put_byte (get_or s i 0) (at + i) b lb))
+-- the bytes of a page with no text
+abbrev zeros : ℕ → List ℕ
+zeros n = replicate n 0
 
--- no zeros
-pub zeros-start : (from : ℕ) (a : List ℕ) → Put (replicate (from - from) 0) from a a from
-zeros-start from a = put_is (let e : 0 ≡ from - from = omega arith in ap (λ n. replicate n 0) e) refl (put-none from a)
+zero-at : (n k : ℕ) → Dec (k < n) → get_or (zeros n) k 0 ≡ 0
+zero-at n k (yes l) = get_or-replicate n k 0 0 l
+zero-at n k (no l) = get_or-eq_default (zeros n) 0 (omega (arith, length-replicate {A = ℕ} n 0))
 
--- one zero more
-pub zeros-next : {from i : ℕ} {a b : List ℕ} → Put (replicate (i - from) 0) from a b i → i < length b
-    → Put (replicate (i + 1 - from) 0) from a (set b i 0) (i + 1)
-zeros-next {from} {i} {a} {b} x l =
-    let e : i + 1 - from ≡ i - from + 1 = omega (arith, x.next, length-replicate {A = ℕ} (i - from) 0) in
-    put_is (replicate-append-replicate (i - from) 1 0 ∙ ap (λ n. replicate n 0) (sym e)) refl (put_then x (put_byte 0 i b l))
+pub all-zero : (n : ℕ) → ZeroFrom 0 (replicate n 0)
+all-zero n = record { at = λ k l. zero-at n k (dec_lt k n) }
 
--- a slice that is whole
-pub put_whole : {t a b : List ℕ} {at r : ℕ} → Put t at a b r → length b ≤ r → b ≡ take at a ++ t
-put_whole {t} {a} {b} {at} {r} x l = sym (take_all r b l) ∙ x.bytes
-
-pub zeros-end : {from i : ℕ} {a b : List ℕ} → Put (replicate (i - from) 0) from a b i → from ≤ length a → length b ≤ i
-    → i ≤ length b → b ≡ padded (length a) (take from a)
-unfolding padded
-zeros-end {from} {i} {a} {b} x lf l m =
-    let e : i - from ≡ length a - length (take from a) = simp length-take (omega (arith, x.same)) in
-    put_whole x l ∙ ap (λ n. take from a ++ replicate n 0) e
+-- the bytes of a page are its text, zeros after it
+pub page-is : {t a b : List ℕ} {r : ℕ} → Put t 0 a b r → r ≤ length b → ZeroFrom r b → b ≡ padded (length b) t
+page-is {t} {a} {b} {r} x l z =
+    let text : take r b ≡ t = x.bytes in
+    let size : length t ≡ r = omega (arith, x.next) in
+    padded-is (length b) t b (omega (arith, l)) refl (λ i j. same text size i (dec_lt i r))
+  where
+    same : take r b ≡ t → length t ≡ r → (k : ℕ) → Dec (k < r) → get_or b k 0 ≡ get_or t k 0
+    same e n k (yes h) = sym (get_or-take r b k 0 h) ∙ ap (λ l. get_or l k 0) e
+    same e n k (no h) = z.at k (omega arith) ∙ sym (get_or-eq_default t 0 (omega arith))
 
 -- the same room, written otherwise
 pub room-is : {t u : List ℕ} {at : ℕ} {a : List ℕ} → t ≡ u → Room t at a → Room u at a
@@ -99,9 +97,3 @@ module _ {whole : List ℕ} {at : ℕ} {a : List ℕ} where
 
 pub left_end : {whole : List ℕ} {at k : ℕ} {a b : List ℕ} → Left whole [] at a b k → Put whole at a b k
 left_end w = put_is (sym (append-nil w.text) ∙ w.is) refl w.put
-
--- a text that is put lies in the slice
-pub put-inside : {t : List ℕ} {at r : ℕ} {a b : List ℕ} → Put t at a b r → at ≤ length a → r ≤ length b
-put-inside {t} {at} {r} {a} {b} x l =
-    let e : min r (length b) ≡ min at (length a) + length t = simp (length-take, length-append) at (ap length x.bytes) in
-    omega (arith, x.next)

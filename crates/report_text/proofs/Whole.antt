@@ -1,10 +1,10 @@
 -- The whole report: the room of its parts, and what the call answers.
 -- Assumes nothing.
-use mathlib.Core.Path.{◌≡◌, refl, sym, ◌∙◌, ap, ap₂}
+use mathlib.Core.Path.{◌≡◌, refl, sym, ◌∙◌, ap}
 use mathlib.Core.List.{List, [], ◌∷◌, ◌++◌}
 use Prim.Native.Nat.{ℕ, ◌+◌, ◌*◌, ◌≤◌}
 use native.Mathlib.Omega.{arith}
-use lib.ListN.{length, get_or, take}
+use lib.ListN.{length, get_or}
 use borrow.Author.Tests.{eq-eqb, ne_eqb}
 use Rattle.std.specs.Prelude.{Ok, Err, Result}
 use Rattle.algebra.specs.PrimeField.{PrimeField}
@@ -13,6 +13,7 @@ use Rattle.refusal.specs.Refusal.{reply, written, Outcome}
 use Rattle.refusal.specs.Lowest.{lower, lowest}
 use Rattle.refusal.specs.declared.Refusal.{Refusal}
 use Rattle.refusal.specs.declared.Refusal.TheVariants.{Misfit}
+use Rattle.lists.specs.Words.{ZeroFrom}
 use Rattle.lists.specs.Padded.{padded}
 use Rattle.lists.proofs.Padded.{padded-inside}
 use Rattle.album_layout.specs.Layout.{count, lists_of}
@@ -24,7 +25,7 @@ use Rattle.report_text.specs.Text.{decimal, line}
 use Rattle.report_text.specs.Report.{⟨lists⟩, list_lines, refused_line, sound_report, report_of}
 use Rattle.report_text.specs.Calls.{max_text, report_rows, text_reply}
 use Rattle.report_text.specs.Internal.{Room, Put, max_answer, answer_lines}
-use Rattle.report_text.proofs.Puts.{put_is, put_then}
+use Rattle.report_text.proofs.Puts.{put_is, put_then, page-is}
 use Rattle.report_text.proofs.Fits.{named-fits, lines_fit}
 use Rattle.report_text.proofs.Sound.{sound-lines}
 
@@ -42,19 +43,19 @@ module _ (p : ℕ) (s : List ℕ) (e : Passed p s) where
       let fits = lines_fit (lists_of s) 0 (omega arith) (λ j l. let h = (passed-each p s e max_words (omega arith) j l).short in omega arith) in
       omega arith
 
-  module _ {a : List ℕ} (q : length a ≡ max_text) where
-    pub first-room : Room first 0 a
+  module _ {at : ℕ} {a : List ℕ} (z : at ≡ 0) (q : length a ≡ max_text) where
+    pub first-room : Room first at a
     first-room = record { fits = omega (arith, first_fits) }
 
-    module _ {b : List ℕ} {k : ℕ} (x : Put first 0 a b k) where
+    module _ {b : List ℕ} {k : ℕ} (x : Put first at a b k) where
       pub lists-room : Room (list_lines 0 (lists_of s)) k b
       lists-room = record { fits = omega (arith, first_fits, lists-fit, x.next, x.same) }
 
       pub answer-room : {c : List ℕ} {r : ℕ} → Put (list_lines 0 (lists_of s)) k b c r → r + max_answer ≤ length c
       answer-room y = omega (arith, first_fits, lists-fit, x.next, x.same, y.next, y.same)
 
-pub put-whole-report : (F : PrimeField) (s : List ℕ) {a b c d : List ℕ} {k l r : ℕ} → Put (line (⟨lists⟩ ∷ decimal (count s) ∷ [])) 0 a b k
-    → Put (list_lines 0 (lists_of s)) k b c l → Put (answer_lines F (lists_of s)) l c d r → Put (sound_report F (lists_of s)) 0 a d r
+pub put-whole-report : (F : PrimeField) (s : List ℕ) {a b c d : List ℕ} {at k l r : ℕ} → Put (line (⟨lists⟩ ∷ decimal (count s) ∷ [])) at a b k
+    → Put (list_lines 0 (lists_of s)) k b c l → Put (answer_lines F (lists_of s)) l c d r → Put (sound_report F (lists_of s)) at a d r
 put-whole-report F s x y z =
     put_is
     (ap (λ n. line (⟨lists⟩ ∷ decimal n ∷ []) ++ (list_lines 0 (lists_of s) ++ answer_lines F (lists_of s))) (sym (length-lists s))
@@ -85,12 +86,12 @@ pub misfit : (t a : List ℕ) → ¬ (length a ≡ max_text)
     → (text_reply (Err Misfit) ≡ reply (lowest (report_rows a)) (length t ∷ [])) × (a ≡ written (lowest (report_rows a)) (padded max_text t) a)
 misfit t a f = rw (report-misfit a f) (refl, refl)
 
--- and where zeros follow the text t
-pub cleared : {t a b c : List ℕ} {r : ℕ} → length a ≡ max_text → Put t 0 a b r → c ≡ padded (length b) (take r b)
-    → (text_reply (Ok r) ≡ reply (lowest (report_rows a)) (length t ∷ [])) × (c ≡ written (lowest (report_rows a)) (padded max_text t) a)
-cleared {t} {a} {b} {c} {r} q x z =
+-- and where the slice is a page with the text t
+pub paged : (a : List ℕ) {t b c d : List ℕ} {r : ℕ} → length a ≡ max_text → Put t 0 b c r → length c ≡ max_text → r ≤ max_text → ZeroFrom r c → d ≡ c
+    → (text_reply (Ok r) ≡ reply (lowest (report_rows a)) (length t ∷ [])) × (d ≡ written (lowest (report_rows a)) (padded max_text t) a)
+paged a {t} {b} {c} {d} {r} q x w l z e =
     let n : r ≡ length t = omega (arith, x.next) in
-    rw (report-done a q) (ap (λ k. text_reply (Ok k)) n, z ∙ ap₂ padded (x.same ∙ q) x.bytes)
+    rw (report-done a q) (ap (λ k. text_reply (Ok k)) n, e ∙ page-is x (omega (arith, w)) z ∙ ap (λ m. padded m t) w)
 
 -- for a caller: the text that an answer names lies in the slice
 inside-so : (t a : List ℕ) (o : Outcome) {c : List ℕ} {k : ℕ} → text_reply (Ok k) ≡ reply o (length t ∷ [])

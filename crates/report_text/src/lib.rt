@@ -12,8 +12,11 @@ ghost use Rattle.report_text.specs.Report.{list_line, list_lines, gcd_degree, gc
 ghost use Rattle.report_text.specs.Calls.{max_text, report_answer, report_written, text_reply};
 ghost use Rattle.report_text.specs.Internal.{Room, Put, line_end, max_answer, answer_lines};
 
+mod page;
+
 use list_gcd::Gcd;
 use lists::Power;
+pub use page::Page;
 use refusal::Refusal;
 
 // The bytes of the result slice, eight for each word of the longest list: a word of h takes at most six, five digits and a space, and the
@@ -28,167 +31,71 @@ pub fn report_over(field: u8, album: &[u8], out: &mut [u8]) -> Result<usize, Ref
     if out.len() != MAX_TEXT {
         return Err(Refusal::Misfit);
     }
-    let mut list = [0u16; refusal::MAX_WORDS];
-    let mut h = [0u16; refusal::MAX_WORDS];
-    let n = report_between(field, album, &mut list, &mut h, out);
-    clear(n, out);
-    Ok(n)
+    let mut page = Page::new();
+    put_report(field, album, &mut page);
+    out.copy_from_slice(&page.bytes);
+    Ok(page.used)
 }
 
-// Zeros from a place on.
-pub fn clear(from: usize, out: &mut [u8])
-    requires { from ≤ length out.old }
-    ensures { out.new ≡ padded (length out.old) (take from out.old) }
-{
-    let mut i = from;
-    while i < out.len() {
-        out[i] = 0;
-        i += 1;
-    }
-}
-
-// The report by way of as much of two arrays as the longest list takes.
-fn report_between(field: u8, album: &[u8], list: &mut [u16], h: &mut [u16], out: &mut [u8]) -> usize
-    requires { (length list.old ≡ max_words) × (length h.old ≡ max_words) × (length out.old ≡ max_text) }
-    ensures { Put (report_of (modulus field) (field_at field) album.now) 0 out.old out.new result }
-{
-    let n = field::longest_of(field);
-    report_in(field, album, &mut list[..n], &mut h[..n], out)
-}
-
-// The same by way of buffers for a list and for h.
-fn report_in(field: u8, album: &[u8], list: &mut [u16], h: &mut [u16], out: &mut [u8]) -> usize
-    requires { (length list.old ≡ longest field) × (length h.old ≡ longest field) × (length out.old ≡ max_text) }
-    ensures { Put (report_of (modulus field) (field_at field) album.now) 0 out.old out.new result }
+// The report, which may be that the album is refused.
+fn put_report(field: u8, album: &[u8], page: &mut Page)
+    requires { page.old.used ≡ 0 }
+    ensures { Put (report_of (modulus field) (field_at field) album.now) page.old.used page.old.bytes page.new.bytes page.new.used }
 {
     match album_layout::judge_album(field, album) {
-        Err(why) => put_refused(why, 0, out),
-        Ok(()) => put_sound(field, album, list, h, out),
+        Err(why) => page.put_refused(why),
+        Ok(()) => put_sound(field, album, page),
     }
 }
 
 // The report on an album that is not refused.
-fn put_sound(field: u8, album: &[u8], list: &mut [u16], h: &mut [u16], out: &mut [u8]) -> usize
-    requires passed { Passed (modulus field) album.now }
-    requires list_len { (length list.old ≡ longest field) × (length h.old ≡ longest field) × (length out.old ≡ max_text) }
-    ensures { Put (sound_report (field_at field) (lists_of album.now)) 0 out.old out.new result }
+fn put_sound(field: u8, album: &[u8], page: &mut Page)
+    requires { Passed (modulus field) album.now × (page.old.used ≡ 0) }
+    ensures { Put (sound_report (field_at field) (lists_of album.now)) page.old.used page.old.bytes page.new.bytes page.new.used }
 {
-    let first = put_named(b"lists", words::byte_at(album, 0), 0, out);
-    let at = put_lists(field, album, list, first, out);
-    put_answer(field, album, h, at, out)
+    let mut h = [0u16; refusal::MAX_WORDS];
+    page.put_named(b"lists", words::byte_at(album, 0));
+    put_lists(field, album, page);
+    put_answer(field, album, &mut h, page);
 }
 
 // What the report says of the GCD; h is room for it.
-fn put_answer(field: u8, album: &[u8], h: &mut [u16], at: usize, out: &mut [u8]) -> usize
-    requires passed { (Passed (modulus field) album.now) × (length h.old ≡ longest field) }
-    requires max_answer_in_bounds { at + max_answer ≤ length out.old }
-    ensures { Put (answer_lines (field_at field) (lists_of album.now)) at out.old out.new result }
+fn put_answer(field: u8, album: &[u8], h: &mut [u16], page: &mut Page)
+    requires passed { Passed (modulus field) album.now × (length h.old ≡ longest field) }
+    requires max_answer_in_bounds { page.old.used + max_answer ≤ max_text }
+    ensures { Put (answer_lines (field_at field) (lists_of album.now)) page.old.used page.old.bytes page.new.bytes page.new.used }
 {
     match album_gcd::album_gcd_over(field, album, h) {
-        Ok(gcd) => put_gcd(field, &h[..gcd.degree.0 + 1], gcd.power, at, out),
-        Err(why) => put_refused(why, at, out),
+        Ok(gcd) => put_gcd(field, &h[..gcd.degree.0 + 1], gcd.power, page),
+        Err(why) => page.put_refused(why),
     }
-}
-
-// One byte.
-fn put(byte: u8, at: usize, out: &mut [u8]) -> usize
-    requires { Room (byte ∷ []) at out.old }
-    ensures { Put (byte ∷ []) at out.old out.new result }
-{
-    out[at] = byte;
-    at + 1
-}
-
-// Some bytes.
-fn put_bytes(bytes: &[u8], at: usize, out: &mut [u8]) -> usize
-    requires { Room bytes.now at out.old }
-    ensures { Put bytes.now at out.old out.new result }
-{
-    let mut i = 0;
-    while i < bytes.len() {
-        out[at + i] = bytes[i];
-        i += 1;
-    }
-    at + i
-}
-
-// A number in decimal digits.
-fn put_number(n: usize, at: usize, out: &mut [u8]) -> usize
-    requires { Room (decimal n) at out.old }
-    ensures { Put (decimal n) at out.old out.new result }
-{
-    if n < 10 {
-        return put(48 + n as u8, at, out);
-    }
-    let last = put_number(n / 10, at, out);
-    put(48 + (n % 10) as u8, last, out)
-}
-
-// A space and a number.
-fn put_field(n: usize, at: usize, out: &mut [u8]) -> usize
-    requires { Room (32 ∷ decimal n) at out.old }
-    ensures { Put (32 ∷ decimal n) at out.old out.new result }
-{
-    let next = put(32, at, out);
-    put_number(n, next, out)
-}
-
-// A line of a name and a number.
-fn put_named(name: &[u8], n: usize, at: usize, out: &mut [u8]) -> usize
-    requires { Room (line (name.now ∷ decimal n ∷ [])) at out.old }
-    ensures { Put (line (name.now ∷ decimal n ∷ [])) at out.old out.new result }
-{
-    let named = put_bytes(name, at, out);
-    let end = put_field(n, named, out);
-    put(10, end, out)
-}
-
-// The line of a refusal.
-pub fn put_refused(why: Refusal, at: usize, out: &mut [u8]) -> usize
-    requires { Room (refused_line why) at out.old }
-    ensures { Put (refused_line why) at out.old out.new result }
-{
-    put_named(b"refused", u8::from(why) as usize, at, out)
 }
 
 // The extent and the power of a list, `-` for each where it is zero, and the end of its line.
-fn put_extent(list: &[u16], at: usize, out: &mut [u8]) -> usize
-    requires { Room (line_end list.now) at out.old }
-    ensures { Put (line_end list.now) at out.old out.new result }
+fn put_extent(list: &[u16], page: &mut Page)
+    requires { Room (line_end list.now) page.old.used page.old.bytes }
+    ensures { Put (line_end list.now) page.old.used page.old.bytes page.new.bytes page.new.used }
 {
     if lists::significant_words(list) == 0 {
-        return put_bytes(b" - -\n", at, out);
+        page.put_bytes(b" - -\n");
+        return;
     }
     let extent = lists::extent_of(list);
     let power = lists::power_in(list);
-    let next = put_field(extent.0, at, out);
-    let end = put_field(power.0, next, out);
-    put(10, end, out)
+    page.put_field(extent.0);
+    page.put_field(power.0);
+    page.put(b'\n');
 }
 
 // The line of list i.
-fn put_list(i: usize, list: &[u16], at: usize, out: &mut [u8]) -> usize
-    requires { (0 < length list.now) × (Room (list_line i list.now) at out.old) }
-    ensures { Put (list_line i list.now) at out.old out.new result }
+fn put_list(i: usize, list: &[u16], page: &mut Page)
+    requires { (0 < length list.now) × (Room (list_line i list.now) page.old.used page.old.bytes) }
+    ensures { Put (list_line i list.now) page.old.used page.old.bytes page.new.bytes page.new.used }
 {
-    let number = put_number(i, at, out);
+    page.put_number(i);
     let degree = lists::degree_of(list);
-    let next = put_field(degree.0, number, out);
-    put_extent(list, next, out)
-}
-
-// The words of h, one space between them.
-pub fn put_words(h: &[u16], at: usize, out: &mut [u8]) -> usize
-    requires { (0 < length h.now) × (Room (line (map decimal h.now)) at out.old) }
-    ensures { Put (line (map decimal h.now)) at out.old out.new result }
-{
-    let mut place = put_number(h[0] as usize, at, out);
-    let mut k = 1;
-    while k < h.len() {
-        place = put_field(h[k] as usize, place, out);
-        k += 1;
-    }
-    put(10, place, out)
+    page.put_field(degree.0);
+    put_extent(list, page);
 }
 
 // The degree in t of (1-t)^c · h.
@@ -200,31 +107,27 @@ fn gcd_degree(field: u8, h: &[u16], c: Power) -> usize
 }
 
 // The two lines of the GCD.
-fn put_gcd(field: u8, h: &[u16], c: Power, at: usize, out: &mut [u8]) -> usize
+fn put_gcd(field: u8, h: &[u16], c: Power, page: &mut Page)
     requires h_nonzero { (0 < length h.now) × (length h.now ≤ longest field) × (c.0 < max_words) }
-    requires room { Room (gcd_lines (field_at field) h.now c.0) at out.old }
-    ensures { Put (gcd_lines (field_at field) h.now c.0) at out.old out.new result }
+    requires room { Room (gcd_lines (field_at field) h.now c.0) page.old.used page.old.bytes }
+    ensures { Put (gcd_lines (field_at field) h.now c.0) page.old.used page.old.bytes page.new.bytes page.new.used }
 {
-    let named = put_bytes(b"gcd", at, out);
-    let degree = put_field(gcd_degree(field, h, c), named, out);
-    let power = put_field(c.0, degree, out);
-    let end = put(10, power, out);
-    put_words(h, end, out)
+    page.put_bytes(b"gcd");
+    page.put_field(gcd_degree(field, h, c));
+    page.put_field(c.0);
+    page.put(b'\n');
+    page.put_words(h);
 }
 
-// The lines of the lists; `list` is room for one.
-fn put_lists(field: u8, album: &[u8], list: &mut [u16], at: usize, out: &mut [u8]) -> usize
-    requires passed { (Passed (modulus field) album.now) × (length list.old ≡ longest field) }
-    requires room { Room (list_lines 0 (lists_of album.now)) at out.old }
-    ensures { Put (list_lines 0 (lists_of album.now)) at out.old out.new result }
+// The lines of the lists.
+fn put_lists(field: u8, album: &[u8], page: &mut Page)
+    requires passed { Passed (modulus field) album.now }
+    requires room { Room (list_lines 0 (lists_of album.now)) page.old.used page.old.bytes }
+    ensures { Put (list_lines 0 (lists_of album.now)) page.old.used page.old.bytes page.new.bytes page.new.used }
 {
-    let n = words::byte_at(album, 0);
-    let mut place = at;
-    let mut i = 0;
-    while i < n {
-        let m = album_reader::read_at(album, i, list);
-        place = put_list(i, &list[..m], place, out);
-        i += 1;
+    let mut list = [0u16; refusal::MAX_WORDS];
+    for i in 0..words::byte_at(album, 0) {
+        let m = album_reader::read_at(album, i, &mut list);
+        put_list(i, &list[..m], page);
     }
-    place
 }

@@ -1,15 +1,22 @@
--- `line_text::put_text` meets its contract: it lends a part of the array.
+-- `line_text::put_text` meets its contract: the line and the album are parts of the input.
 -- Assumes nothing.
+use mathlib.Core.Path.{refl, sym}
+use Prim.Native.Nat.{◌≤◌}
 use native.Mathlib.Omega.{arith}
-use lib.ListN.{length-take}
-use Rattle.field.proofs.Fields.{longest-room}
+use lib.ListN.{length}
+use lib.Seq.{length-take-le}
+use Rattle.report_text.proofs.Puts.{put_is}
+use Rattle.line_text.proofs.Parts.{line-inside}
+use Rattle.line_text.proofs.Texts.{parts-text}
 use Rattle.line_text.proofs.put_text.Goals as goal
 
-pub slice_bounds-put_parts-end : goal.slice_bounds-put_parts-end
-slice_bounds-put_parts-end c = omega (arith, longest-room c.args.field)
+pub overflow_add-end : goal.overflow_add-end
+overflow_add-end c = omega (arith, c.line_end-end.ensures, line-inside c.args.input.now)
 
-pub slice_bounds-put_parts-end-2 : goal.slice_bounds-put_parts-end-2
-slice_bounds-put_parts-end-2 c = simp length-take (omega (arith, longest-room c.args.field))
+pub slice_bounds-line-end : goal.slice_bounds-line-end
+slice_bounds-line-end c =
+    let inside : c.line_end-end.result ≤ length c.args.input.now = omega (arith, c.line_end-end.ensures, line-inside c.args.input.now) in
+    sym (length-take-le _ _ inside)
 
-pub put_parts-requires : goal.put_parts-requires
-put_parts-requires c = (simp length-take (omega (arith, longest-room c.args.field, c.requires.0, c.longest_of-n.ensures)), c.requires.1)
+pub returns : goal.returns
+returns c = put_is (parts-text c.args.field c.args.input.now c.line_end-end.ensures c.min-start.ensures) refl c.put_value.ensures

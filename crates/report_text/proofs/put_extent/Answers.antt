@@ -14,24 +14,24 @@ put_bytes-requires c = room-is (end-zero _ c.significant_words.ensures c.if-sign
 pub returns-then-significant_words-eq0 : goal.returns-then-significant_words-eq0
 returns-then-significant_words-eq0 c = put_is (sym (end-zero _ c.significant_words.ensures c.if-significant_words-eq0.true)) refl c.put_bytes.ensures
 
-pub put_field-next-requires : goal.put_field-next-requires
-put_field-next-requires c =
+pub put_field-requires : goal.put_field-requires
+put_field-requires c =
     let numbers : line_end c.args.list.now ≡ (32 ∷ decimal c.extent_of-extent.result.0) ++ ((32 ∷ decimal c.power_in-power.result.0) ++ (10 ∷ [])) = end-nonzero _ c.significant_words.ensures c.if-significant_words-eq0.false c.extent_of-extent.ensures c.power_in-power.ensures in
     room-first _ _ (room-is numbers c.requires)
 
-pub put_field-end-requires : goal.put_field-end-requires
-put_field-end-requires c =
+pub put_field-requires-2 : goal.put_field-requires-2
+put_field-requires-2 c =
     let numbers : line_end c.args.list.now ≡ (32 ∷ decimal c.extent_of-extent.result.0) ++ ((32 ∷ decimal c.power_in-power.result.0) ++ (10 ∷ [])) = end-nonzero _ c.significant_words.ensures c.if-significant_words-eq0.false c.extent_of-extent.ensures c.power_in-power.ensures in
-    let extent-room : Room ((32 ∷ decimal c.power_in-power.result.0) ++ (10 ∷ [])) c.put_field-next.result c.put_field-next.new.out = room-then (room-is numbers c.requires) c.put_field-next.ensures in
+    let extent-room : Room ((32 ∷ decimal c.power_in-power.result.0) ++ (10 ∷ [])) c.put_field.new.self.used c.put_field.new.self.bytes = room-then (room-is numbers c.requires) c.put_field.ensures in
     room-first _ _ extent-room
 
 pub put-requires : goal.put-requires
 put-requires c =
     let numbers : line_end c.args.list.now ≡ (32 ∷ decimal c.extent_of-extent.result.0) ++ ((32 ∷ decimal c.power_in-power.result.0) ++ (10 ∷ [])) = end-nonzero _ c.significant_words.ensures c.if-significant_words-eq0.false c.extent_of-extent.ensures c.power_in-power.ensures in
-    let extent-room : Room ((32 ∷ decimal c.power_in-power.result.0) ++ (10 ∷ [])) c.put_field-next.result c.put_field-next.new.out = room-then (room-is numbers c.requires) c.put_field-next.ensures in
-    room-then extent-room c.put_field-end.ensures
+    let extent-room : Room ((32 ∷ decimal c.power_in-power.result.0) ++ (10 ∷ [])) c.put_field.new.self.used c.put_field.new.self.bytes = room-then (room-is numbers c.requires) c.put_field.ensures in
+    room-then extent-room c.put_field-2.ensures
 
 pub returns : goal.returns
 returns c =
     let numbers : line_end c.args.list.now ≡ (32 ∷ decimal c.extent_of-extent.result.0) ++ ((32 ∷ decimal c.power_in-power.result.0) ++ (10 ∷ [])) = end-nonzero _ c.significant_words.ensures c.if-significant_words-eq0.false c.extent_of-extent.ensures c.power_in-power.ensures in
-    put_is (sym numbers) refl (put_then c.put_field-next.ensures (put_then c.put_field-end.ensures c.put.ensures))
+    put_is (sym numbers) refl (put_then c.put_field.ensures (put_then c.put_field-2.ensures c.put.ensures))

@@ -22,33 +22,33 @@ afterDegree h c = (32 ∷ decimal c) ++ afterPower h
 abbrev afterName : List ℕ → (d c : ℕ) → List ℕ
 afterName h d c = (32 ∷ decimal d) ++ afterDegree h c
 
-pub put_bytes-named-requires : goal.put_bytes-named-requires
-put_bytes-named-requires c = room-first ⟨gcd⟩ _ (room-is (gcd-lines (field_at _) c.args.h.now c.args.c.0 refl) c.requires.room)
+pub put_bytes-requires : goal.put_bytes-requires
+put_bytes-requires c = room-first ⟨gcd⟩ _ (room-is (gcd-lines (field_at _) c.args.h.now c.args.c.0 refl) c.requires.room)
 
-pub put_field-degree-requires : goal.put_field-degree-requires
-put_field-degree-requires c =
-    let name-room : Room (afterName c.args.h.now c.gcd_degree.result c.args.c.0) c.put_bytes-named.result c.put_bytes-named.new.out = room-then (room-is (gcd-lines (field_at _) c.args.h.now c.args.c.0 c.gcd_degree.ensures) c.requires.room) c.put_bytes-named.ensures in
+pub put_field-requires : goal.put_field-requires
+put_field-requires c =
+    let name-room : Room (afterName c.args.h.now c.gcd_degree.result c.args.c.0) c.put_bytes.new.self.used c.put_bytes.new.self.bytes = room-then (room-is (gcd-lines (field_at _) c.args.h.now c.args.c.0 c.gcd_degree.ensures) c.requires.room) c.put_bytes.ensures in
     room-first _ _ name-room
 
-pub put_field-power-requires : goal.put_field-power-requires
-put_field-power-requires c =
-    let name-room : Room (afterName c.args.h.now c.gcd_degree.result c.args.c.0) c.put_bytes-named.result c.put_bytes-named.new.out = room-then (room-is (gcd-lines (field_at _) c.args.h.now c.args.c.0 c.gcd_degree.ensures) c.requires.room) c.put_bytes-named.ensures in
-    let degree-room : Room (afterDegree c.args.h.now c.args.c.0) c.put_field-degree.result c.put_field-degree.new.out = room-then name-room c.put_field-degree.ensures in
+pub put_field-requires-2 : goal.put_field-requires-2
+put_field-requires-2 c =
+    let name-room : Room (afterName c.args.h.now c.gcd_degree.result c.args.c.0) c.put_bytes.new.self.used c.put_bytes.new.self.bytes = room-then (room-is (gcd-lines (field_at _) c.args.h.now c.args.c.0 c.gcd_degree.ensures) c.requires.room) c.put_bytes.ensures in
+    let degree-room : Room (afterDegree c.args.h.now c.args.c.0) c.put_field.new.self.used c.put_field.new.self.bytes = room-then name-room c.put_field.ensures in
     room-first _ _ degree-room
 
-pub put-end-requires : goal.put-end-requires
-put-end-requires c =
-    let name-room : Room (afterName c.args.h.now c.gcd_degree.result c.args.c.0) c.put_bytes-named.result c.put_bytes-named.new.out = room-then (room-is (gcd-lines (field_at _) c.args.h.now c.args.c.0 c.gcd_degree.ensures) c.requires.room) c.put_bytes-named.ensures in
-    let degree-room : Room (afterDegree c.args.h.now c.args.c.0) c.put_field-degree.result c.put_field-degree.new.out = room-then name-room c.put_field-degree.ensures in
-    let power-room : Room (afterPower c.args.h.now) c.put_field-power.result c.put_field-power.new.out = room-then degree-room c.put_field-power.ensures in
+pub put-requires : goal.put-requires
+put-requires c =
+    let name-room : Room (afterName c.args.h.now c.gcd_degree.result c.args.c.0) c.put_bytes.new.self.used c.put_bytes.new.self.bytes = room-then (room-is (gcd-lines (field_at _) c.args.h.now c.args.c.0 c.gcd_degree.ensures) c.requires.room) c.put_bytes.ensures in
+    let degree-room : Room (afterDegree c.args.h.now c.args.c.0) c.put_field.new.self.used c.put_field.new.self.bytes = room-then name-room c.put_field.ensures in
+    let power-room : Room (afterPower c.args.h.now) c.put_field-2.new.self.used c.put_field-2.new.self.bytes = room-then degree-room c.put_field-2.ensures in
     room-first (10 ∷ []) _ power-room
 
 pub put_words-requires : goal.put_words-requires
 put_words-requires c =
-    let name-room : Room (afterName c.args.h.now c.gcd_degree.result c.args.c.0) c.put_bytes-named.result c.put_bytes-named.new.out = room-then (room-is (gcd-lines (field_at _) c.args.h.now c.args.c.0 c.gcd_degree.ensures) c.requires.room) c.put_bytes-named.ensures in
-    let degree-room : Room (afterDegree c.args.h.now c.args.c.0) c.put_field-degree.result c.put_field-degree.new.out = room-then name-room c.put_field-degree.ensures in
-    let power-room : Room (afterPower c.args.h.now) c.put_field-power.result c.put_field-power.new.out = room-then degree-room c.put_field-power.ensures in
-    (search rules, room-then power-room c.put-end.ensures)
+    let name-room : Room (afterName c.args.h.now c.gcd_degree.result c.args.c.0) c.put_bytes.new.self.used c.put_bytes.new.self.bytes = room-then (room-is (gcd-lines (field_at _) c.args.h.now c.args.c.0 c.gcd_degree.ensures) c.requires.room) c.put_bytes.ensures in
+    let degree-room : Room (afterDegree c.args.h.now c.args.c.0) c.put_field.new.self.used c.put_field.new.self.bytes = room-then name-room c.put_field.ensures in
+    let power-room : Room (afterPower c.args.h.now) c.put_field-2.new.self.used c.put_field-2.new.self.bytes = room-then degree-room c.put_field-2.ensures in
+    (search rules, room-then power-room c.put.ensures)
 
 pub returns : goal.returns
-returns c = put_is (sym (gcd-lines (field_at _) _ _ c.gcd_degree.ensures)) refl (put_then c.put_bytes-named.ensures (put_then c.put_field-degree.ensures (put_then c.put_field-power.ensures (put_then c.put-end.ensures c.put_words.ensures))))
+returns c = put_is (sym (gcd-lines (field_at _) _ _ c.gcd_degree.ensures)) refl (put_then c.put_bytes.ensures (put_then c.put_field.ensures (put_then c.put_field-2.ensures (put_then c.put.ensures c.put_words.ensures))))

@@ -1,16 +1,13 @@
--- `report_text::report_over` meets its contract: zeros follow the text.
+-- `report_text::report_over` meets its contract: the page's bytes are the report and zeros after it.
 -- Assumes nothing.
-use native.Mathlib.Omega.{arith}
-use Rattle.report_text.proofs.Puts.{put-inside}
-use Rattle.report_text.proofs.Whole.{misfit, cleared}
+use Rattle.report_text.proofs.Whole.{misfit, paged}
 use Rattle.refusal.proofs.Clauses.{answer_and_writes}
 use Rattle.report_text.proofs.report_over.Goals as goal
 
 pub returns-then-out-ne-MAX_TEXT : goal.returns-then-out-ne-MAX_TEXT
 returns-then-out-ne-MAX_TEXT c = answer_and_writes (misfit _ _ c.if-out-ne-MAX_TEXT.true)
 
-pub clear-requires : goal.clear-requires
-clear-requires c = put-inside c.report_between-n.ensures (omega arith)
-
 pub returns : goal.returns
-returns c = answer_and_writes (cleared c.if-out-ne-MAX_TEXT.false c.report_between-n.ensures c.clear.ensures)
+returns c =
+    let page = c.put_report.new.page in
+    answer_and_writes (paged c.args.out.now c.if-out-ne-MAX_TEXT.false (rw c.new-page.ensures.used at c.put_report.ensures) page.whole page.inside page.rest c.copy_from_slice.ensures.after)

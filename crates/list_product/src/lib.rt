@@ -3,6 +3,7 @@
 
 ghost use Rattle.std.specs.Prelude.{◌≡◌, ◌≤◌, length};
 ghost use Rattle.field.specs.Fields.{modulus, field_at, longest};
+ghost use Rattle.refusal.specs.Limits.{max_words};
 ghost use Rattle.refusal.specs.Refusal.{outcome_reply};
 ghost use Rattle.refusal.specs.Lowest.{lowest};
 ghost use Rattle.lists.specs.Degrees.{naive_degree};
@@ -89,7 +90,7 @@ fn product_in(
 
 // The product where nothing is refused, in arrays of N words, which are filled with zeros.
 fn product_sized<const N: usize>(field: u8, f: &[u16], g: &[u16], out: &mut [u16])
-    requires { ProductFits (longest field) f.now g.now out.old × (length out.old ≤ N) }
+    requires { ProductFits (longest field) f.now g.now out.old × (length out.old ≤ N) × (N ≤ max_words) }
     ensures { out.new ≡ of.product (field_at field) f.now g.now }
 {
     let d = f.len();

@@ -1,18 +1,27 @@
--- `list_product::raise_into` meets its contract, whichever tables are fetched.
+-- `list_product::raise_into` meets its contract: the product with a list of ones.
 -- Assumes nothing.
-use mathlib.Core.Path.{◌≡◌}
+use mathlib.Core.Path.{refl, sym}
+use Prim.Native.Nat.{◌+◌, ◌-◌}
 use native.Mathlib.Omega.{arith}
-use lib.ListN.{length}
-use Rattle.refusal.specs.Limits.{max_words, few_words}
-use Rattle.field.specs.Fields.{longest}
-use Rattle.field_tables.proofs.Entries.{tables-for}
-use Rattle.list_product.proofs.Products.{raise-in}
+use lib.ListN.{length, replicate}
+use Rattle.field.specs.Fields.{field_at}
+use Rattle.field.proofs.Fields.{longest-room}
+use Rattle.refusal.specs.Limits.{max_words}
+use Rattle.lists.proofs.Parts.{prefix-length}
+use Rattle.list_product.proofs.Products.{raise-is}
 use Rattle.list_product.proofs.raise_into.Goals as goal
 
-pub raise_with-requires : goal.raise_with-requires
-unfolding longest
-raise_with-requires c = let size : length c.few_factorials-whole.result ≡ few_words = omega arith in record { tables_for = tables-for c.args.field few_words size (omega arith) c.few_factorials-whole.ensures c.few_inverse_factorials-part.ensures; raise_fits = raise-in few_words c.few_factorials-whole.result size c.requires c.if-out-le-FEW_WORDS.true }
+pub slice_bounds-ones-end : goal.slice_bounds-ones-end
+slice_bounds-ones-end c = omega (arith, longest-room c.args.field)
 
-pub raise_with-requires-2 : goal.raise_with-requires-2
-unfolding longest
-raise_with-requires-2 c = let size : length c.factorials-whole.result ≡ max_words = omega arith in record { tables_for = tables-for c.args.field max_words size (omega arith) c.factorials-whole.ensures c.inverse_factorials-part.ensures; raise_fits = raise-in max_words c.factorials-whole.result size c.requires c.requires.short }
+pub slice_bounds-product_into-end : goal.slice_bounds-product_into-end
+slice_bounds-product_into-end c = sym (prefix-length _ max_words _ refl (omega (arith, longest-room c.args.field)))
+
+pub product_into-requires : goal.product_into-requires
+product_into-requires c =
+    let room = longest-room c.args.field in
+    let m = prefix-length (length c.args.out.now - length c.args.f.now + 1) max_words (replicate max_words 1) refl (omega arith) in
+    record { first = omega arith; second = omega arith; size = omega arith; short = omega arith }
+
+pub returns : goal.returns
+returns c = raise-is (field_at _) max_words (longest-room c.args.field) _ _ _ c.requires refl c.product_into.ensures

@@ -35,6 +35,7 @@ pub fn raise_over(field: u8, f: &[u16], to: NaiveDegree, out: &mut [u16]) -> Res
 }
 
 // What the product refuses.
+#[tactic(auto, unfolding(field::specs::Fields::longest))]
 fn judge_product(field: u8, f: &[u16], g: &[u16], out: &[u16]) -> Result<(), Refusal>
     ensures { result ≡ lowest (product_rows (modulus field) (longest field) f.now g.now out.now) }
 {
@@ -103,6 +104,7 @@ fn product_sized<const N: usize>(field: u8, f: &[u16], g: &[u16], out: &mut [u16
 }
 
 // The same in arrays of the size that the result needs.
+#[tactic(auto, unfolding(field::specs::Fields::longest))]
 fn product_into(field: u8, f: &[u16], g: &[u16], out: &mut [u16])
     requires { ProductFits (longest field) f.now g.now out.old }
     ensures { out.new ≡ of.product (field_at field) f.now g.now }
@@ -115,6 +117,7 @@ fn product_into(field: u8, f: &[u16], g: &[u16], out: &mut [u16])
 }
 
 // f raised to the naive degree of out: f times a list of ones, which means 1.
+#[tactic(auto, unfolding(field::specs::Fields::longest))]
 fn raise_into(field: u8, f: &[u16], out: &mut [u16])
     requires { RaiseFits (modulus field) (longest field) f.now out.old }
     ensures { out.new ≡ of.raise (field_at field) (naive_degree out.old) f.now }

@@ -1,19 +1,23 @@
--- The loops of the writer, one turn on, and the parts of the album together.
---     high-here, high-on, high_end     the search for a degree above the limit
---     sum-next, sum-end                the sum of the degrees
---     entries_next, entries-end        the entries
---     album-parts                      the count, the entries and the bodies, one after the other
+-- The loops of the writer, and the parts of the album together.
+--     high-any                   the search for a degree above the limit
+--     words-sum                  the sum of the degrees, each plus 1
+--     entries_next, entries-end  the entries, one turn on and at the end
+--     album-parts                the count, the entries and the bodies, one after the other
 -- Assumes nothing.
-use mathlib.Core.Path.{◌≡◌, sym, ◌∙◌, ap, ap₂}
-use mathlib.Core.Bool.{true, false, ◌||◌}
+use mathlib.Core.Path.{◌≡◌, refl, sym, ◌∙◌, ap, ap₂}
+use mathlib.Core.Bool.{◌||◌}
 use mathlib.Core.List.{List, [], ◌∷◌, ◌++◌, append_assoc, append-nil}
-use Prim.Native.Nat.{ℕ, suc, ◌+◌, ◌-◌, ◌*◌, ◌/◌, ◌%◌, ◌≤◌, ◌<◌}
+use Prim.Native.Nat.{ℕ, suc, ◌+◌, ◌-◌, ◌*◌, ◌<◌, ◌≤◌}
 use native.Mathlib.Numerals.{add-one}
 use native.Mathlib.Omega.{arith}
 use lib.Dec.{ltb}
-use lib.ListN.{length, get_or, set, take, drop, length-set, drop_of_length-le}
-use borrow.Author.Tests.{lt-ltb, le-ltb}
-use lib.Seq.{drop-cons, drop-length, take-suc-set, take_all, take_at, drop-drop}
+use lib.ListN.{length, get_or, set, take, drop, length-take, length-drop, drop_of_length-le}
+use lib.Seq.{drop-cons, drop-length, take_all, take_at, drop-drop}
+use borrow.Rule.Slice.PartMut.{put_mid}
+use Rattle.std.specs.Int.{w16, to_le_bytes}
+use Rattle.std.specs.List.{list_any, sum_by}
+use Rattle.std.proofs.lemmas.Slice.{take-put_mid}
+use Rattle.std.proofs.lemmas.List.Recursion.{same_from_clauses, is_sum_by}
 use Rattle.refusal.specs.Limits.{entry_bytes}
 use Rattle.lists.specs.Bytes.{bytes_of}
 use Rattle.album_layout.specs.Layout.{entry_at}
@@ -22,85 +26,53 @@ use Rattle.album_writer.specs.Calls.{has_high}
 use Rattle.album_writer.specs.Internal.{entries_by, album_by}
 use Rattle.album_writer.proofs.Album.{length-entries_by}
 
--- ---- the search
-module _ (most : ℕ) (degrees : List ℕ) (k : ℕ) where
-  high-next : k < length degrees → has_high most (drop k degrees) ≡ ltb most (get_or degrees k 0) || has_high most (drop (k + 1) degrees)
-  unfolding has_high
-  high-next l = ap (has_high most) (drop-cons degrees k 0 l) ∙ ap (λ i. ltb most (get_or degrees k 0) || has_high most (drop i degrees)) (sym (add-one k))
+-- ---- the search and the sum
+pub high-any : (most : ℕ) (degrees : List ℕ) → list_any (ltb most) degrees ≡ has_high most degrees
+unfolding has_high
+high-any most = same_from_clauses (list_any (ltb most)) (has_high most) (λ d b. ltb most d || b) refl (λ _ _. refl) (λ _ _. refl)
 
-  pub high-here : k < length degrees → most < get_or degrees k 0 → has_high most (drop k degrees) ≡ true
-  high-here l h = high-next l ∙ simp (lt-ltb most (get_or degrees k 0) h)
-
-  pub high-on : k < length degrees → get_or degrees k 0 ≤ most → has_high most (drop k degrees) ≡ has_high most (drop (k + 1) degrees)
-  high-on l h = high-next l ∙ simp (le-ltb most (get_or degrees k 0) h)
-
-  pub high_end : length degrees ≤ k → has_high most (drop k degrees) ≡ false
-  unfolding has_high
-  high_end l = ap (has_high most) (drop_of_length-le degrees l)
-
--- ---- the sum
-pub sum-next : (degrees : List ℕ) (k : ℕ) → k < length degrees → words_for (drop k degrees) ≡ get_or degrees k 0 + 1 + words_for (drop (k + 1) degrees)
+pub words-sum : (degrees : List ℕ) → words_for degrees ≡ sum_by (λ d. d + 1) degrees
 unfolding words_for
-sum-next degrees k l =
-    ap words_for (drop-cons degrees k 0 l) ∙ ap (λ i. get_or degrees k 0 + 1 + words_for (drop i degrees)) (sym (add-one k))
-
-pub sum-end : (degrees : List ℕ) (k : ℕ) → k ≡ length degrees → words_for (drop k degrees) ≡ 0
-unfolding words_for
-sum-end degrees k e = rw (e, drop-length)
+words-sum = is_sum_by words_for (λ d. d + 1) refl (λ _ _. refl)
 
 -- ---- the entries
-four-set : (out : List ℕ) (i a b c d : ℕ) → i + 3 < length out
-    → take (suc (suc (suc (suc i)))) (set (set (set (set out i a) (suc i) b) (suc (suc i)) c) (suc (suc (suc i))) d) ≡ take i out ++ (a ∷ b ∷ c ∷ d ∷ [])
-four-set out i a b c d l =
-    take-suc-set (set (set (set out i a) (suc i) b) (suc (suc i)) c) (suc (suc (suc i))) d (simp length-set (omega arith))
-    ∙ ap (λ r. r ++ (d ∷ []))
-    (take-suc-set (set (set out i a) (suc i) b) (suc (suc i)) c (simp length-set (omega arith))
-    ∙ ap (λ r. r ++ (c ∷ []))
-    (take-suc-set (set out i a) (suc i) b (simp length-set (omega arith)) ∙ ap (λ r. r ++ (b ∷ [])) (take-suc-set out i a (omega arith))))
-    ∙ simp append_assoc
+two-bytes : (w : ℕ) → w < 65536 → to_le_bytes w16 w ≡ bytes_of (w ∷ [])
+unfolding bytes_of
+two-bytes w l = ap₂ (λ a b. a ∷ b ∷ []) (omega arith) (omega arith)
 
--- the slice with the four bytes of an entry in it, at the places i, j, m and n
-abbrev entered : (out : List ℕ) (i j m n a b c d : ℕ) → List ℕ
-entered out i j m n a b c d = set (set (set (set out i a) j b) m c) n d
+-- two halves of two bytes, written one after the other to a part of four bytes
+halves : (b c part : List ℕ) → length b ≡ 2 → length part ≡ 4 → put_mid 2 (length (b ++ drop 2 part) - 2) (b ++ drop 2 part) c ≡ b ++ c
+halves b c part eb ep =
+    ap₂ (λ x y. x ++ (c ++ y)) (take_at b (drop 2 part) 2 eb) (drop_of_length-le (drop 2 (b ++ drop 2 part)) (omega (arith, length-drop 2 (b ++ drop 2 part))))
+    ∙ ap (λ y. b ++ y) (append-nil c)
 
 module _ (degrees out : List ℕ) (k place : ℕ) where
-  -- the four bytes of entry k
-  pub entries_next : {i j m n a b c d next : ℕ} → i ≡ entry_bytes * k → j ≡ i + 1 → m ≡ i + 2 → n ≡ i + 3 → k < length degrees → i + 3 < length out
-      → a ≡ get_or degrees k 0 % 256 → b ≡ get_or degrees k 0 / 256 → c ≡ place % 256 → d ≡ place / 256 → next ≡ place + 2 * (get_or degrees k 0 + 1)
-      → take (entry_bytes * (k + 1)) (entered out i j m n a b c d) ++ bytes_of (entries_by next (drop (k + 1) degrees))
+  -- the bytes that entry k is written to
+  abbrev part : List ℕ
+  part = take (entry_bytes * (k + 1) - entry_bytes * k) (drop (entry_bytes * k) out)
+
+  pub entries_next : {next : ℕ} {b c : List ℕ} → k < length degrees → length out ≡ entry_bytes * length degrees → get_or degrees k 0 < 65536 → place < 65536
+      → b ≡ to_le_bytes w16 (get_or degrees k 0) → c ≡ to_le_bytes w16 place → next ≡ place + 2 * (get_or degrees k 0 + 1)
+      → take (entry_bytes * (k + 1)) (put_mid (entry_bytes * k) (entry_bytes * (k + 1) - entry_bytes * k) out (put_mid 2 (length (b ++ drop 2 part) - 2) (b ++ drop 2 part) c))
+      ++ bytes_of (entries_by next (drop (k + 1) degrees))
       ≡ take (entry_bytes * k) out ++ bytes_of (entries_by place (drop k degrees))
   unfolding entries_by bytes_of
-  entries_next {i} {j} {m} {n} {a} {b} {c} {d} {next} ei ej em en l h ea eb ec ed ex =
-      ap (λ r. r ++ left) front
-      ∙ append_assoc (take (entry_bytes * k) out) (a ∷ b ∷ c ∷ d ∷ []) left
+  entries_next {next} {b} {c} l size ld lp eb ec ex =
+      ap (λ r. r ++ left) (take-put_mid (entry_bytes * k) (entry_bytes * (k + 1) - entry_bytes * k) out _ (entry_bytes * (k + 1)) (omega (arith, ap length four)) (omega arith))
+      ∙ append_assoc (take (entry_bytes * k) out) _ left
       ∙ ap (λ r. take (entry_bytes * k) out ++ r) rest
     where
       left : List ℕ
       left = bytes_of (entries_by next (drop (k + 1) degrees))
 
-      one : j ≡ suc i
-      one = omega arith
+      four : put_mid 2 (length (b ++ drop 2 part) - 2) (b ++ drop 2 part) c ≡ bytes_of (get_or degrees k 0 ∷ place ∷ [])
+      four =
+          halves b c part (ap length eb) (simp (length-take, length-drop) (omega arith))
+          ∙ ap₂ ◌++◌ (eb ∙ two-bytes (get_or degrees k 0) ld) (ec ∙ two-bytes place lp)
 
-      two : m ≡ suc (suc i)
-      two = omega arith
-
-      three : n ≡ suc (suc (suc i))
-      three = omega arith
-
-      four : entry_bytes * (k + 1) ≡ suc (suc (suc (suc i)))
-      four = omega arith
-
-      front : take (entry_bytes * (k + 1)) (entered out i j m n a b c d) ≡ take (entry_bytes * k) out ++ (a ∷ b ∷ c ∷ d ∷ [])
-      front =
-          ap₂ (λ t u. take t (entered out i u m n a b c d)) four one
-          ∙ ap₂ (λ u v. take (suc (suc (suc (suc i)))) (entered out i (suc i) u v a b c d)) two three
-          ∙ four-set out i a b c d (omega arith)
-          ∙ ap (λ t. take t out ++ (a ∷ b ∷ c ∷ d ∷ [])) ei
-
-      rest : a ∷ b ∷ c ∷ d ∷ left ≡ bytes_of (entries_by place (drop k degrees))
+      rest : put_mid 2 (length (b ++ drop 2 part) - 2) (b ++ drop 2 part) c ++ left ≡ bytes_of (entries_by place (drop k degrees))
       rest =
-          ap₂ (λ x y. x ∷ y ∷ c ∷ d ∷ left) ea eb
-          ∙ ap₂ (λ x y. get_or degrees k 0 % 256 ∷ get_or degrees k 0 / 256 ∷ x ∷ y ∷ left) ec ed
+          ap (λ r. r ++ left) four
           ∙ ap₂ (λ x t. bytes_of (get_or degrees k 0 ∷ place ∷ entries_by x (drop t degrees))) ex (add-one k)
           ∙ sym (ap (λ x. bytes_of (entries_by place x)) (drop-cons degrees k 0 l))
 

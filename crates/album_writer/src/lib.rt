@@ -13,18 +13,19 @@ ghost use Rattle.album_writer.specs.Internal.{entries_by, album_by, Low, Room};
 use refusal::Refusal;
 
 // The album of the lists that the degrees cut from the words. The bytes of the target after the album stay as they are.
-pub fn write_album_over(field: u8, words: &[u16], degrees: &[u16], out: &mut [u8]) -> Result<usize, Refusal>
+pub fn write_album_over(
+    field: u8,
+    words: &[u16],
+    degrees: &[u16],
+    out: &mut [u8],
+) -> Result<usize, Refusal>
     ensures answer { written_reply result ≡ write_answer field words.now degrees.now out.old }
     ensures writes { out.new ≡ write_written field words.now degrees.now out.old }
 {
-    match judge_write(field, words, degrees, out) {
-        Ok(()) => {
-            let size = 1 + refusal::ENTRY_BYTES * degrees.len() + 2 * words.len();
-            write_parts(words, degrees, &mut out[..size]);
-            Ok(size)
-        }
-        Err(why) => Err(why),
-    }
+    judge_write(field, words, degrees, out)?;
+    let size = 1 + refusal::ENTRY_BYTES * degrees.len() + 2 * words.len();
+    write_parts(words, degrees, &mut out[..size]);
+    Ok(size)
 }
 
 // What writing an album refuses.
@@ -53,24 +54,16 @@ fn judge_write(field: u8, words: &[u16], degrees: &[u16], out: &[u8]) -> Result<
 fn wrong_lists(degrees: &[u16]) -> bool
     ensures { result ≡ wrong_lists (length degrees.now) }
 {
-    if degrees.len() == 0 {
-        return true;
-    }
-    refusal::MAX_LISTS < degrees.len()
+    degrees.is_empty() || refusal::MAX_LISTS < degrees.len()
 }
 
 // Whether a degree is above the limit.
 fn has_high(degrees: &[u16]) -> bool
     ensures { result ≡ has_high max_degree degrees.now }
 {
-    let mut k = 0;
-    while k < degrees.len() {
-        if refusal::MAX_DEGREE < degrees[k] as usize {
-            return true;
-        }
-        k += 1;
-    }
-    false
+    degrees
+        .iter()
+        .any(|&degree| refusal::MAX_DEGREE < usize::from(degree))
 }
 
 // The number of words of the lists together.
@@ -78,13 +71,7 @@ fn words_for(degrees: &[u16]) -> usize
     requires { length degrees.now ≤ max_lists }
     ensures { result ≡ words_for degrees.now }
 {
-    let mut total: usize = 0;
-    let mut k = 0;
-    while k < degrees.len() {
-        total += degrees[k] as usize + 1;
-        k += 1;
-    }
-    total
+    degrees.iter().map(|&degree| usize::from(degree) + 1).sum()
 }
 
 // The count, the entries and the bodies: the words of all lists stand as they do in the buffer.
@@ -105,15 +92,10 @@ fn write_entries(degrees: &[u16], first: usize, out: &mut [u8])
     ensures { out.new ≡ bytes_of (entries_by first degrees.now) }
 {
     let mut place = first;
-    let mut k = 0;
-    while k < degrees.len() {
-        let e = refusal::ENTRY_BYTES * k;
-        let degree = degrees[k];
-        out[e] = words::low(degree);
-        out[e + 1] = words::high(degree);
-        out[e + 2] = words::low(place as u16);
-        out[e + 3] = words::high(place as u16);
-        place += 2 * (degree as usize + 1);
-        k += 1;
+    for (k, &degree) in degrees.iter().enumerate() {
+        let entry = &mut out[refusal::ENTRY_BYTES * k..refusal::ENTRY_BYTES * (k + 1)];
+        entry[..2].copy_from_slice(&degree.to_le_bytes());
+        entry[2..].copy_from_slice(&(place as u16).to_le_bytes());
+        place += 2 * (usize::from(degree) + 1);
     }
 }

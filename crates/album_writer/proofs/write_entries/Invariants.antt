@@ -1,10 +1,10 @@
 -- `album_writer::write_entries` meets its contract. The loop's invariant: the first k entries are written, and the next body starts at
--- `place`. The measure is the number of degrees left.
+-- `place`.
 -- Assumes nothing.
 use mathlib.Core.Path.{◌≡◌}
 use mathlib.Core.List.{◌++◌}
-use Prim.Native.Nat.{◌+◌, ◌*◌, ◌-◌, ◌≤◌}
-use lib.ListN.{length, take, drop}
+use Prim.Native.Nat.{◌+◌, ◌*◌, ◌≤◌}
+use lib.ListN.{take, drop}
 use Rattle.refusal.specs.Limits.{max_words, entry_bytes}
 use Rattle.lists.specs.Bytes.{bytes_of}
 use Rattle.album_writer.specs.Internal.{entries_by}
@@ -12,8 +12,5 @@ use Rattle.album_writer.proofs.write_entries.Given as goal
 
 abbrev pub invariant-loop-k : goal.invariant-loop-k
 invariant-loop-k l =
-    (l.k ≤ length l.degrees) × (length l.out ≡ entry_bytes * length l.degrees) × (l.place ≤ l.first + 2 * max_words * l.k)
+    (l.place ≤ l.first + 2 * max_words * l.k)
     × (take (entry_bytes * l.k) l.out ++ bytes_of (entries_by l.place (drop l.k l.degrees)) ≡ bytes_of (entries_by l.first l.degrees))
-
-abbrev pub decreases-loop-k : goal.decreases-loop-k
-decreases-loop-k l = length l.degrees - l.k

@@ -1,13 +1,13 @@
--- `album_writer::wrong_lists` meets its contract.
+-- `album_writer::wrong_lists` meets its contract: its tests are those of `wrong_lists`.
 -- Assumes nothing.
-use borrow.Author.Tests.{eq-eqb, ne_eqb}
+use Rattle.std.proofs.Common.{rules}
 use Rattle.album_writer.specs.Calls.{wrong_lists}
 use Rattle.album_writer.proofs.wrong_lists.Goals as goal
 
-pub returns-then-degrees-eq0 : goal.returns-then-degrees-eq0
+pub returns-then-is_empty : goal.returns-then-is_empty
 unfolding wrong_lists
-returns-then-degrees-eq0 c = simp (eq-eqb _ _ c.if-degrees-eq0.true)
+returns-then-is_empty c = search rules
 
-pub returns : goal.returns
+pub returns-else-is_empty : goal.returns-else-is_empty
 unfolding wrong_lists
-returns c = simp (ne_eqb _ _ c.if-degrees-eq0.false)
+returns-else-is_empty c = search rules

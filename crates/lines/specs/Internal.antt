@@ -14,18 +14,15 @@
 --     Got                 what was read from a place on: its tree, where it ends, and the program that was written for it
 --     said_factor, ..     what the function that reads a factor, a term or an expression says
 -- Assumes nothing.
-use Rattle.std.specs.Prelude.{◌≡◌, Bool, true, false, ◌⊎◌, List, [], ◌∷◌, ◌++◌, ℕ, ◌+◌, ◌<◌, ◌≤◌, length, get_or, take, drop}
+use Rattle.std.specs.Prelude.{◌≡◌, Bool, true, false, ◌⊎◌, List, [], ◌∷◌, ◌++◌, ℕ, ◌+◌, ◌<◌, ◌≤◌, length, get_or, take, drop, Option, Some, None}
 use Rattle.lines.specs.declared.Token.{Token}
 use Rattle.lines.specs.declared.Token.TheVariants.{Number, Plus, Minus, Times, Derive, Open, Close, Wrong}
-use Rattle.lines.specs.declared.Next.{Next}
-use Rattle.lines.specs.declared.Next.TheVariants as next
-use Rattle.lines.specs.declared.Sign.{Sign}
-use Rattle.lines.specs.declared.Sign.TheVariants.{Operator, Other}
+use Rattle.lines.specs.declared.Operator.{Operator}
+use Rattle.lines.specs.declared.Operator.TheVariants.{Add, Subtract}
 use Rattle.lines.specs.declared.Parsed.{Parsed}
-use Rattle.lines.specs.declared.Parsed.TheVariants.{Read, Nothing}
 use Rattle.lines.specs.Grammar.{tokens, Tree}
 use Rattle.lines.specs.Reader.{outside, SumPlace, TermPlace, FactorPlace, first_factor, first_term, want, have}
-use Rattle.lines.specs.Program.{add_byte, subtract_byte, multiply_byte, postfix}
+use Rattle.lines.specs.Program.{postfix}
 
 abbrev pub ends_term : List Token → Bool
 ends_term [] = true
@@ -63,18 +60,18 @@ pub record Follows (line : List ℕ) (at : ℕ) (token : Token) (after : ℕ) : 
   pub past : at < after
   pub within : after ≤ length line
 
-abbrev pub Begins : List ℕ → ℕ → Next → Type 0
-Begins line at (next.Token token after) = Follows line at token after
-Begins line at next.End = rest_of line at ≡ []
+abbrev pub Begins : List ℕ → ℕ → Option (Token × ℕ) → Type 0
+Begins line at (Some (token, after)) = Follows line at token after
+Begins line at None = rest_of line at ≡ []
 
-abbrev pub SumSign : List ℕ → ℕ → Sign → Type 0
-SumSign line at (Operator code after) =
-    ((code ≡ add_byte) × Follows line at Plus after) ⊎ ((code ≡ subtract_byte) × Follows line at Minus after)
-SumSign line at Other = ends_term (rest_of line at) ≡ true → ends_sum (rest_of line at) ≡ true
+abbrev pub SumSign : List ℕ → ℕ → Option (Operator × ℕ) → Type 0
+SumSign line at (Some (operator, after)) =
+    ((operator ≡ Add) × Follows line at Plus after) ⊎ ((operator ≡ Subtract) × Follows line at Minus after)
+SumSign line at None = ends_term (rest_of line at) ≡ true → ends_sum (rest_of line at) ≡ true
 
-abbrev pub ProductSign : List ℕ → ℕ → Sign → Type 0
-ProductSign line at (Operator code after) = (code ≡ multiply_byte) × Follows line at Times after
-ProductSign line at Other = ends_term (rest_of line at) ≡ true
+abbrev pub ProductSign : List ℕ → ℕ → Option ℕ → Type 0
+ProductSign line at (Some after) = Follows line at Times after
+ProductSign line at None = ends_term (rest_of line at) ≡ true
 
 abbrev pub Past : Type 1
 Past = List Token → Tree → List Token → Type 0
@@ -107,14 +104,14 @@ pub record Got (past : Past) (line : List ℕ) (at : ℕ) (old : List ℕ) (n : 
   pub short : m + at ≤ end + n
   pub program : take m new ≡ take n old ++ postfix tree
 
-abbrev pub said_factor : List ℕ → ℕ → List ℕ → ℕ → List ℕ → Parsed → Type 0
-said_factor line at old n new (Read end m) = Got PastFactor line at old n new end m
-said_factor line at old n new Nothing = (k : FactorPlace) → want (rest_of line at) k ≡ outside
+abbrev pub said_factor : List ℕ → ℕ → List ℕ → ℕ → List ℕ → Option Parsed → Type 0
+said_factor line at old n new (Some read) = Got PastFactor line at old n new read.end read.filled
+said_factor line at old n new None = (k : FactorPlace) → want (rest_of line at) k ≡ outside
 
-abbrev pub said_term : List ℕ → ℕ → List ℕ → ℕ → List ℕ → Parsed → Type 0
-said_term line at old n new (Read end m) = Got PastTerm line at old n new end m
-said_term line at old n new Nothing = (k : TermPlace) → want (rest_of line at) (first_factor k) ≡ outside
+abbrev pub said_term : List ℕ → ℕ → List ℕ → ℕ → List ℕ → Option Parsed → Type 0
+said_term line at old n new (Some read) = Got PastTerm line at old n new read.end read.filled
+said_term line at old n new None = (k : TermPlace) → want (rest_of line at) (first_factor k) ≡ outside
 
-abbrev pub said_expression : List ℕ → ℕ → List ℕ → ℕ → List ℕ → Parsed → Type 0
-said_expression line at old n new (Read end m) = Got PastExpression line at old n new end m
-said_expression line at old n new Nothing = (k : SumPlace) → want (rest_of line at) (first_factor (first_term k)) ≡ outside
+abbrev pub said_expression : List ℕ → ℕ → List ℕ → ℕ → List ℕ → Option Parsed → Type 0
+said_expression line at old n new (Some read) = Got PastExpression line at old n new read.end read.filled
+said_expression line at old n new None = (k : SumPlace) → want (rest_of line at) (first_factor (first_term k)) ≡ outside

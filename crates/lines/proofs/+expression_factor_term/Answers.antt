@@ -2,208 +2,113 @@
 -- Assumes nothing.
 use mathlib.Core.Path.{subst}
 use native.Mathlib.Omega.{arith}
+use Rattle.std.proofs.Common.{rules}
 use Rattle.lines.specs.declared.Token.{Token}
 use Rattle.lines.specs.Internal.{rest_of, Follows}
 use Rattle.lines.proofs.Turns.{number_read, derive-read, group-read}
 use Rattle.lines.proofs.Turns.{none-begins, none_left, derive-fails, group-fails, group-ends, group-open}
-use Rattle.lines.proofs.Turns.{products-begin, products-turn, products-end, products-fail}
-use Rattle.lines.proofs.Turns.{sums-begin, sums-turn, sums-end, sums-fail}
-use Rattle.lines.proofs.Turns.{sign-past, token-past, room-on, room_for}
+use Rattle.lines.proofs.Turns.{products-turn, products-fail}
+use Rattle.lines.proofs.Turns.{sums-turn, sums-fail}
+use Rattle.lines.proofs.Turns.{sign-past, token-past, room_for}
 use Rattle.lines.proofs.+expression_factor_term.Goals as goal
 
--- expression begins with a term, a way down at the same place: the measure falls by its rank
-pub expression-term-requires : goal.expression-term-requires
-expression-term-requires t c = (omega (arith, c.decreases), c.requires)
+-- no term behind an operator: nothing is read
+pub expression-returns-in_err-read-2 : goal.expression-returns-in_err-read-2
+expression-returns-in_err-read-2 t c =
+    let loop = c.loop-operator in
+    rw c.from_residual-in_err-read-2.ensures
+    (sums-fail c.args.line.now c.args.at c.args.code.now c.args.n loop.code loop.read.end loop.read.filled c.in-Some.after loop.invariant
+    c.in-Some.operator c.in-Some.ensures c.in_err-read-2.ensures)
 
--- the loop over what follows the first term
-pub expression-loop-operator-init : goal.expression-loop-operator-init
-expression-loop-operator-init t c = sums-begin c.in-Read.ensures
-
-pub expression-sum_sign-requires : goal.expression-sum_sign-requires
-expression-sum_sign-requires t c = c.loop-operator.invariant.within
-
--- neither + nor - comes next: the expression ends here
-pub expression-returns-in_default-sum_sign : goal.expression-returns-in_default-sum_sign
-expression-returns-in_default-sum_sign t c =
-    let g = c.loop-operator.invariant in
-    sums-end c.args.line.now c.args.at c.args.code.now c.args.n c.loop-operator.code c.loop-operator.here c.loop-operator.filled 0 g (c.in_default-sum_sign.ensures g.reading.1)
-
--- the term behind an operator. The operator took a byte, so the measure falls and the program has room
-pub expression-term-requires-in-loop-operator : goal.expression-term-requires-in-loop-operator
-expression-term-requires-in-loop-operator t c =
-    let g = c.loop-operator.invariant in
-    let past = sign-past _ _ _ _ c.in-Operator.ensures in
-    let room = room-on c.requires g past.0 past.1 (omega arith) in
-    (omega (arith, c.decreases, g.further, past.0, past.1), room)
-
--- there is none: nothing is read
-pub expression-returns-in_default-term : goal.expression-returns-in_default-term
-expression-returns-in_default-term t c =
-    sums-fail c.args.line.now c.args.at c.args.code.now c.args.n c.loop-operator.code c.loop-operator.here c.loop-operator.filled _ c.loop-operator.invariant _ c.in-Operator.ensures c.in_default-term.ensures
-
--- the operator goes behind the program of that term
-pub expression-bounds-code-m : goal.expression-bounds-code-m
-expression-bounds-code-m t c =
-    let past = sign-past _ _ _ _ c.in-Operator.ensures in
-    room_for c.requires c.loop-operator.invariant past.0 past.1 (omega arith) _ _ _ c.in-Read-term.ensures (omega arith)
-
-pub expression-overflow_add-filled : goal.expression-overflow_add-filled
-expression-overflow_add-filled t c =
-    let past = sign-past _ _ _ _ c.in-Operator.ensures in
-    let fits = room_for c.requires c.loop-operator.invariant past.0 past.1 (omega arith) _ _ _ c.in-Read-term.ensures (omega arith) in
-    omega (arith, fits)
-
--- a turn: fewer bytes are left, and one term more has been read
-pub expression-loop-operator-smaller : goal.expression-loop-operator-smaller
-expression-loop-operator-smaller t c =
-    let past = sign-past _ _ _ _ c.in-Operator.ensures in
-    let h = c.in-Read-term.ensures in
-    omega (arith, h.further, h.within, past.0)
-
+-- a turn: one term more has been read
 pub expression-loop-operator-preserved : goal.expression-loop-operator-preserved
 expression-loop-operator-preserved t c =
-    let g = c.loop-operator.invariant in
-    let past = sign-past _ _ _ _ c.in-Operator.ensures in
-    let h = c.in-Read-term.ensures in
-    let fits = room_for c.requires g past.0 past.1 (omega arith) _ _ _ h (omega arith) in
-    sums-turn c.args.line.now c.args.at c.args.code.now c.args.n c.loop-operator.code c.loop-operator.here c.loop-operator.filled c.in-Operator.after g
-    c.in-Operator.operator _ _ _ c.in-Operator.ensures h fits
+    let loop = c.loop-operator in
+    let past = sign-past _ _ _ _ c.in-Some.ensures in
+    let h = c.in_ok-read-2.ensures in
+    let fits = room_for c.requires loop.invariant past.0 past.1 (omega arith) _ _ _ h (omega arith) in
+    sums-turn c.args.line.now c.args.at c.args.code.now c.args.n loop.code loop.read.end loop.read.filled c.in-Some.after loop.invariant
+    c.in-Some.operator c.from.result _ _ _ c.in-Some.ensures c.from.ensures h fits
 
--- term begins with a factor, a way down at the same place: the measure falls by its rank
-pub term-factor-requires : goal.term-factor-requires
-term-factor-requires t c = (omega (arith, c.decreases), c.requires)
+-- no factor behind *: nothing is read
+pub term-returns-in_err-read-2 : goal.term-returns-in_err-read-2
+term-returns-in_err-read-2 t c =
+    let loop = c.loop-after in
+    rw c.from_residual-in_err-read-2.ensures
+    (products-fail c.args.line.now c.args.at c.args.code.now c.args.n loop.code loop.read.end loop.read.filled c.in-Some.after loop.invariant
+    c.in-Some.ensures c.in_err-read-2.ensures)
 
--- the loop over what follows the first factor
-pub term-loop-operator-init : goal.term-loop-operator-init
-term-loop-operator-init t c = products-begin c.in-Read.ensures
-
-pub term-product_sign-requires : goal.term-product_sign-requires
-term-product_sign-requires t c = c.loop-operator.invariant.within
-
--- no * comes next: the term ends here
-pub term-returns-in_default-product_sign : goal.term-returns-in_default-product_sign
-term-returns-in_default-product_sign t c =
-    let g = c.loop-operator.invariant in
-    products-end c.args.line.now c.args.at c.args.code.now c.args.n c.loop-operator.code c.loop-operator.here c.loop-operator.filled 0 g c.in_default-product_sign.ensures
-
--- the factor behind an operator. The operator took a byte, so the measure falls and the program has room
-pub term-factor-requires-in-loop-operator : goal.term-factor-requires-in-loop-operator
-term-factor-requires-in-loop-operator t c =
-    let g = c.loop-operator.invariant in
-    let past = token-past c.in-Operator.ensures.1 in
-    let room = room-on c.requires g past.0 past.1 (omega arith) in
-    (omega (arith, c.decreases, g.further, past.0, past.1), room)
-
--- there is none: nothing is read
-pub term-returns-in_default-factor : goal.term-returns-in_default-factor
-term-returns-in_default-factor t c =
-    products-fail c.args.line.now c.args.at c.args.code.now c.args.n c.loop-operator.code c.loop-operator.here c.loop-operator.filled _ c.loop-operator.invariant c.in-Operator.ensures.1 c.in_default-factor.ensures
-
--- the operator goes behind the program of that factor
-pub term-bounds-code-m : goal.term-bounds-code-m
-term-bounds-code-m t c =
-    let past = token-past c.in-Operator.ensures.1 in
-    room_for c.requires c.loop-operator.invariant past.0 past.1 (omega arith) _ _ _ c.in-Read-factor.ensures (omega arith)
-
-pub term-overflow_add-filled : goal.term-overflow_add-filled
-term-overflow_add-filled t c =
-    let past = token-past c.in-Operator.ensures.1 in
-    let fits = room_for c.requires c.loop-operator.invariant past.0 past.1 (omega arith) _ _ _ c.in-Read-factor.ensures (omega arith) in
-    omega (arith, fits)
-
--- a turn: fewer bytes are left, and one factor more has been read
-pub term-loop-operator-smaller : goal.term-loop-operator-smaller
-term-loop-operator-smaller t c =
-    let past = token-past c.in-Operator.ensures.1 in
-    let h = c.in-Read-factor.ensures in
-    omega (arith, h.further, h.within, past.0)
-
-pub term-loop-operator-preserved : goal.term-loop-operator-preserved
-term-loop-operator-preserved t c =
-    let g = c.loop-operator.invariant in
-    let past = token-past c.in-Operator.ensures.1 in
-    let h = c.in-Read-factor.ensures in
-    let fits = room_for c.requires g past.0 past.1 (omega arith) _ _ _ h (omega arith) in
-    products-turn c.args.line.now c.args.at c.args.code.now c.args.n c.loop-operator.code c.loop-operator.here c.loop-operator.filled c.in-Operator.after g
-    c.in-Operator.operator _ _ _ c.in-Operator.ensures h fits
+-- a turn: one factor more has been read
+pub term-loop-after-preserved : goal.term-loop-after-preserved
+term-loop-after-preserved t c =
+    let loop = c.loop-after in
+    let past = token-past c.in-Some.ensures in
+    let h = c.in_ok-read-2.ensures in
+    let fits = room_for c.requires loop.invariant past.0 past.1 (omega arith) _ _ _ h (omega arith) in
+    products-turn c.args.line.now c.args.at c.args.code.now c.args.n loop.code loop.read.end loop.read.filled c.in-Some.after loop.invariant
+    c.from.result _ _ _ c.from.ensures c.in-Some.ensures h fits
 
 -- no token is left: nothing is read
-pub factor-returns-in_default : goal.factor-returns-in_default
-factor-returns-in_default t c = λ k. rw c.in_default.ensures (none_left k)
+pub factor-returns-in_err-token : goal.factor-returns-in_err-token
+factor-returns-in_err-token t c = rw c.from_residual.ensures (λ k. rw c.in_err-token.ensures (none_left k))
 
--- D: the factor behind it
-pub factor-factor-requires : goal.factor-factor-requires
-factor-factor-requires t c =
-    let f = c.in-Token.ensures in
-    let room = c.requires in (
-      omega (arith, f.past, f.within, c.decreases),
-      record { place = f.within; behind = omega (arith, room.behind, f.past); enough = room.enough },
-    )
+-- no factor behind D: nothing is read
+pub factor-returns-in_err-read-in-Derive : goal.factor-returns-in_err-read-in-Derive
+factor-returns-in_err-read-in-Derive t c =
+    let f = subst (λ (u : Token). Follows c.args.line.now c.args.at u c.in_ok-token.after) c.in-Derive.is c.in_ok-token.ensures in
+    rw c.from_residual-in_err-read-in-Derive.ensures
+    (derive-fails c.args.line.now c.args.at c.in_ok-token.after f c.in_err-read-in-Derive.ensures)
 
--- there is none: nothing is read
-pub factor-returns-in_default-factor : goal.factor-returns-in_default-factor
-factor-returns-in_default-factor t c =
-    let f = subst (λ (u : Token). Follows c.args.line.now c.args.at u c.in-Token.after) c.in-Derive.is c.in-Token.ensures in
-    derive-fails c.args.line.now c.args.at c.in-Token.after f c.in_default-factor.ensures
-
--- an opening parenthesis: the expression behind it
-pub factor-expression-requires : goal.factor-expression-requires
-factor-expression-requires t c =
-    let f = c.in-Token.ensures in
-    let room = c.requires in (
-      omega (arith, f.past, f.within, c.decreases),
-      record { place = f.within; behind = omega (arith, room.behind, f.past); enough = room.enough },
-    )
-
--- there is none: nothing is read
-pub factor-returns-in_default-expression : goal.factor-returns-in_default-expression
-factor-returns-in_default-expression t c =
-    let f = subst (λ (u : Token). Follows c.args.line.now c.args.at u c.in-Token.after) c.in-Open.is c.in-Token.ensures in
-    group-fails c.args.line.now c.args.at c.in-Token.after f c.in_default-expression.ensures
+-- no expression behind an opening parenthesis: nothing is read
+pub factor-returns-in_err-read-in-Open : goal.factor-returns-in_err-read-in-Open
+factor-returns-in_err-read-in-Open t c =
+    let f = subst (λ (u : Token). Follows c.args.line.now c.args.at u c.in_ok-token.after) c.in-Open.is c.in_ok-token.ensures in
+    rw c.from_residual-in_err-read-in-Open.ensures
+    (group-fails c.args.line.now c.args.at c.in_ok-token.after f c.in_err-read-in-Open.ensures)
 
 -- no token is left behind the expression: nothing is read
-pub factor-returns-in_default-token_at : goal.factor-returns-in_default-token_at
-factor-returns-in_default-token_at t c =
-    let f = subst (λ (u : Token). Follows c.args.line.now c.args.at u c.in-Token.after) c.in-Open.is c.in-Token.ensures in
-    group-ends c.args.line.now c.args.at c.in-Token.after c.args.code.now c.args.n _ _ _ f c.in-Read-expression.ensures
-    c.in_default-token_at.ensures
+pub factor-returns-in_err-beyond-in-Open : goal.factor-returns-in_err-beyond-in-Open
+factor-returns-in_err-beyond-in-Open t c =
+    let f = subst (λ (u : Token). Follows c.args.line.now c.args.at u c.in_ok-token.after) c.in-Open.is c.in_ok-token.ensures in
+    rw c.from_residual-in_err-beyond-in-Open.ensures
+    (group-ends c.args.line.now c.args.at c.in_ok-token.after c.args.code.now c.args.n _ _ _ f c.in_ok-read-in-Open.ensures
+    c.in_err-beyond-in-Open.ensures)
+
+-- another token than the closing parenthesis: nothing is read
+pub factor-returns-in_default-2 : goal.factor-returns-in_default-2
+factor-returns-in_default-2 t c =
+    let f = subst (λ (u : Token). Follows c.args.line.now c.args.at u c.in_ok-token.after) c.in-Open.is c.in_ok-token.ensures in
+    group-open c.args.line.now c.args.at c.in_ok-token.after c.args.code.now c.args.n _ _ _ f c.in_ok-read-in-Open.ensures
+    _ _ c.in_ok-beyond-in-Open.ensures (search rules)
 
 -- the factor is a number: its byte has room, since a token takes a byte of the line at least
 pub factor-returns-in-Number : goal.factor-returns-in-Number
 factor-returns-in-Number t c =
-    let f = subst (λ (u : Token). Follows c.args.line.now c.args.at u c.in-Token.after) c.in-Number.is c.in-Token.ensures in
-    number_read c.args.line.now c.args.at c.in-Token.after c.args.code.now c.args.n c.args.code.now
+    let f = subst (λ (u : Token). Follows c.args.line.now c.args.at u c.in_ok-token.after) c.in-Number.is c.in_ok-token.ensures in
+    number_read c.args.line.now c.args.at c.in_ok-token.after c.args.code.now c.args.n c.args.code.now
     c.in-Number.list f (omega (arith, f.past, f.within, c.requires))
 
 -- the factor is D and a factor
-pub factor-returns-in-Read : goal.factor-returns-in-Read
-factor-returns-in-Read t c =
-    let f = subst (λ (u : Token). Follows c.args.line.now c.args.at u c.in-Token.after) c.in-Derive.is c.in-Token.ensures in
-    let h = c.in-Read.ensures in
-    derive-read c.args.line.now c.args.at c.in-Token.after c.args.code.now c.args.n _ _ _ f h
-    (omega (arith, c.requires, f.past, h.short, h.within))
+pub factor-returns-in_ok-read-in-Derive : goal.factor-returns-in_ok-read-in-Derive
+factor-returns-in_ok-read-in-Derive t c =
+    let f = subst (λ (u : Token). Follows c.args.line.now c.args.at u c.in_ok-token.after) c.in-Derive.is c.in_ok-token.ensures in
+    let h = c.in_ok-read-in-Derive.ensures in
+    rw c.from.ensures
+    (derive-read c.args.line.now c.args.at c.in_ok-token.after c.args.code.now c.args.n _ _ _ f h
+    (omega (arith, c.requires, f.past, h.short, h.within)))
 
 -- the factor is an expression in parentheses
-pub factor-returns-in-Close : goal.factor-returns-in-Close
-factor-returns-in-Close t c =
-    let f = subst (λ (u : Token). Follows c.args.line.now c.args.at u c.in-Token.after) c.in-Open.is c.in-Token.ensures in
-    let h = c.in-Read-expression.ensures in
-    let closing = subst (λ (u : Token). Follows c.args.line.now c.in-Read-expression.end u c.in-Token-token_at.beyond)
-    c.in-Close.is c.in-Token-token_at.ensures in
-    group-read c.args.line.now c.args.at c.in-Token.after c.args.code.now c.args.n _ _ _ c.in-Token-token_at.beyond f h closing
-
--- another token than the closing parenthesis: nothing is read
-pub factor-returns-in_default-last : goal.factor-returns-in_default-last
-factor-returns-in_default-last t c =
-    let f = subst (λ (u : Token). Follows c.args.line.now c.args.at u c.in-Token.after) c.in-Open.is c.in-Token.ensures in
-    let h = c.in-Read-expression.ensures in
-    group-open c.args.line.now c.args.at c.in-Token.after c.args.code.now c.args.n _ _ _ f h
-    c.in-Token-token_at.last c.in-Token-token_at.beyond c.in-Token-token_at.ensures c.in_default-last.not-Close
+pub factor-returns-in-Close-default : goal.factor-returns-in-Close-default
+factor-returns-in-Close-default t c =
+    let f = subst (λ (u : Token). Follows c.args.line.now c.args.at u c.in_ok-token.after) c.in-Open.is c.in_ok-token.ensures in
+    let closing = subst (λ (u : Token). Follows c.args.line.now c.in_ok-read-in-Open.read.end u c.in_ok-beyond-in-Open.field-0.1)
+    c.in-Close-default.is-0 c.in_ok-beyond-in-Open.ensures in
+    group-read c.args.line.now c.args.at c.in_ok-token.after c.args.code.now c.args.n _ _ _ _ f c.in_ok-read-in-Open.ensures closing
 
 -- a token with which no factor begins
-pub factor-returns-in_default-token : goal.factor-returns-in_default-token
-factor-returns-in_default-token t c =
-    let f = c.in-Token.ensures in
-    let other = c.in_default-token in
-    λ k. rw f.is (none-begins c.in-Token.token other.not-Number other.not-Derive other.not-Open
-    (rest_of c.args.line.now c.in-Token.after) k)
+pub factor-returns-in_default : goal.factor-returns-in_default
+factor-returns-in_default t c =
+    let f = c.in_ok-token.ensures in
+    let other = c.in_default in
+    λ k. rw f.is (none-begins c.in_ok-token.token other.not-Number other.not-Derive other.not-Open
+    (rest_of c.args.line.now c.in_ok-token.after) k)

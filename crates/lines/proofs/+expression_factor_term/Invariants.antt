@@ -1,6 +1,6 @@
 -- The measure of a call is 3 times the bytes left, and the rank of what is read: a factor 0, a term 1, an expression 2. It falls with every
 -- call: a call behind a token has fewer bytes left, and any other one reads what has a lower rank.
--- The invariant of the loops: what has been read up to `here`.
+-- The invariant of the loops: what has been read up to `read.end`.
 -- Assumes nothing.
 use Prim.Native.Nat.{◌+◌, ◌*◌, ◌-◌}
 use lib.ListN.{length}
@@ -17,13 +17,13 @@ abbrev pub decreases-term : goal.decreases-term
 decreases-term l = 3 * (length l.line.now - l.at) + 1
 
 abbrev pub invariant-expression-loop-operator : goal.invariant-expression-loop-operator
-invariant-expression-loop-operator l = Got PastSums l.line l.at l.fn.code l.n l.code l.here l.filled
+invariant-expression-loop-operator l = Got PastSums l.line l.at l.fn.code l.n l.code l.read.end l.read.filled
 
 abbrev pub decreases-expression-loop-operator : goal.decreases-expression-loop-operator
-decreases-expression-loop-operator l = length l.line - l.here
+decreases-expression-loop-operator l = length l.line - l.read.end
 
-abbrev pub invariant-term-loop-operator : goal.invariant-term-loop-operator
-invariant-term-loop-operator l = Got PastProducts l.line l.at l.fn.code l.n l.code l.here l.filled
+abbrev pub invariant-term-loop-after : goal.invariant-term-loop-after
+invariant-term-loop-after l = Got PastProducts l.line l.at l.fn.code l.n l.code l.read.end l.read.filled
 
-abbrev pub decreases-term-loop-operator : goal.decreases-term-loop-operator
-decreases-term-loop-operator l = length l.line - l.here
+abbrev pub decreases-term-loop-after : goal.decreases-term-loop-after
+decreases-term-loop-after l = length l.line - l.read.end

@@ -1,8 +1,9 @@
 -- How readings are put together: one law for each way through the functions that read a factor, a term and an expression.
 --     number_read, derive-read, group-read             a factor that is a number, D and a factor, or an expression in parentheses
 --     none_left, none-begins, derive-fails, group-..   and where there is none
---     products-begin, products-turn, products-end      a term is read factor by factor
---     sums-begin, sums-turn, sums-end                  an expression is read term by term
+--     products-turn, products-fail                     a term is read factor by factor
+--     sums-turn, sums-fail                             an expression is read term by term
+--     sign-past, room_for                              an operator takes a byte, for which the program has room
 -- Assumes nothing.
 use mathlib.Core.Path.{◌≡◌, refl, ap, ◌∙◌, subst}
 use mathlib.Core.Bool.{true}
@@ -25,7 +26,7 @@ use Rattle.lines.specs.Reader.{want, have, ended, term_place, term_tree, sum_pla
 use Rattle.lines.proofs.Readings.{no-term, have-derive, have-times, have-plus, have-minus}
 use Rattle.lines.proofs.Readings.{step-number, step-derive, step-open, step-close, step-times, step-plus, step-minus}
 use Rattle.lines.specs.Program.{multiply_byte, derive_byte, byte_of, postfix}
-use Rattle.lines.specs.Internal.{ends_term, ends_sum, rest_of, Follows, SumSign, Past, Room, Got, PastFactor, PastProducts, PastTerm}
+use Rattle.lines.specs.Internal.{ends_sum, rest_of, Follows, SumSign, Past, Got, PastFactor, PastProducts, PastTerm}
 use Rattle.lines.specs.Internal.{PastSums, PastExpression}
 
 -- where a factor, a term and an expression are wanted
@@ -158,43 +159,8 @@ module _ (line : List ℕ) (at after : ℕ) where
         ends : ends_sum (t ∷ rest_of line beyond) ≡ true
         ends = subst (λ (s : List Token). ends_sum s ≡ true) l.is g.reading.1
 
-pub products-begin : {line : List ℕ} {at : ℕ} {old : List ℕ} {n : ℕ} {new : List ℕ} {end m : ℕ}
-    → Got PastFactor line at old n new end m → Got PastProducts line at old n new end m
-products-begin g =
-    record {
-      tree = g.tree;
-      reading = λ k. g.reading (at_term k);
-      further = g.further;
-      within = g.within;
-      short = g.short;
-      program = g.program;
-    }
-
-pub sums-begin : {line : List ℕ} {at : ℕ} {old : List ℕ} {n : ℕ} {new : List ℕ} {end m : ℕ}
-    → Got PastTerm line at old n new end m → Got PastSums line at old n new end m
-sums-begin g =
-    record {
-      tree = g.tree;
-      reading = (λ k. g.reading.0 (first_term k), g.reading.1);
-      further = g.further;
-      within = g.within;
-      short = g.short;
-      program = g.program;
-    }
-
 module _ (line : List ℕ) (at : ℕ) (old : List ℕ) (n : ℕ) (code : List ℕ) (here filled after : ℕ) where
   module _ (g : Got PastProducts line at old n code here filled) where
-    pub products-end : ends_term (rest_of line here) ≡ true → Got PastTerm line at old n code here filled
-    products-end e =
-        record {
-          tree = g.tree;
-          reading = (g.reading, e);
-          further = g.further;
-          within = g.within;
-          short = g.short;
-          program = g.program;
-        }
-
     pub products-fail : Follows line here Times after → ((k : FactorPlace) → want (rest_of line after) k ≡ outside)
         → (k : TermPlace) → want (rest_of line at) (at_term k) ≡ outside
     products-fail f h k =
@@ -226,17 +192,6 @@ module _ (line : List ℕ) (at : ℕ) (old : List ℕ) (n : ℕ) (code : List �
         }
 
   module _ (g : Got PastSums line at old n code here filled) where
-    pub sums-end : ends_sum (rest_of line here) ≡ true → Got PastExpression line at old n code here filled
-    sums-end e =
-        record {
-          tree = g.tree;
-          reading = (g.reading.0, e);
-          further = g.further;
-          within = g.within;
-          short = g.short;
-          program = g.program;
-        }
-
     plus-read : Follows line here Plus after → (k : SumPlace)
         → want (rest_of line at) (at_sum k) ≡ want (rest_of line after) (at_term (after_plus g.tree k))
     plus-read f k =
@@ -305,16 +260,9 @@ pub sign-past : (line : List ℕ) (at : ℕ) (o : Operator) (after : ℕ) → Su
 sign-past line at o after s = ⊎_elim (λ f. (f.1.past, f.1.within)) (λ f. (f.1.past, f.1.within)) s
 
 module _ {past : Past} {line : List ℕ} {at : ℕ} {old : List ℕ} {n : ℕ} {code : List ℕ} {here filled after : ℕ}
-    (r : Room line at old n) (g : Got past line at old n code here filled) (p : here < after) (e : after ≤ length line)
-    (s : length code ≡ length old) where
-  -- the program has room for what is read on
-  pub room-on : Room line after code filled
-  room-on = record { place = e; behind = omega (arith, r.behind, g.short); enough = omega (arith, r.enough) }
-
-  -- and for an operator behind that
+    (behind : n ≤ at) (enough : length line ≤ length old) (g : Got past line at old n code here filled) (p : here < after)
+    (e : after ≤ length line) (s : length code ≡ length old) where
+  -- the program has room for an operator behind what is read on
   pub room_for : {past' : Past} (next : List ℕ) (end m : ℕ) → Got past' line after code filled next end m → length next ≡ length code
       → m < length next
-  room_for next end m h k = omega (arith, r.behind, r.enough, g.short, h.short, h.within)
-
-pub token-past : {line : List ℕ} {at : ℕ} {t : Token} {after : ℕ} → Follows line at t after → (at < after) × (after ≤ length line)
-token-past f = (f.past, f.within)
+  room_for next end m h k = omega (arith, g.short, h.short, h.within)

@@ -8,9 +8,9 @@ ghost use Rattle.std.specs.Prelude.{◌≡◌, ◌≤◌, ◌<◌, length};
 ghost use Rattle.refusal.specs.Limits.{max_line};
 ghost use Rattle.refusal.specs.Lowest.{lowest};
 ghost use Rattle.lines.specs.Grammar.{sign_of, open_behind, deepest};
-ghost use Rattle.lines.specs.Program.{byte_of};
+ghost use Rattle.lines.specs.Program.{byte_of, operator_at};
 ghost use Rattle.lines.specs.Lines.{line_refusals, read_outcome, judged_outcome, ProgramOf};
-ghost use Rattle.lines.specs.Internal.{Skipped, Begins, SumSign, ProductSign, Room, said_expression, said_term, said_factor};
+ghost use Rattle.lines.specs.Internal.{Skipped, Begins, SumSign, ProductSign, Room, Wrote, said_expression, said_term, said_factor};
 
 use refusal::Refusal;
 
@@ -40,6 +40,23 @@ impl From<Operator> for u8 {
     }
 }
 
+// The operator that a byte is; any other byte is handed back, in a program as the number of a list.
+impl TryFrom<u8> for Operator {
+    type Error = u8;
+
+    ghost try_from_gives = { λ x result. result ≡ operator_at x };
+
+    fn try_from(x: u8) -> Result<Operator, u8> {
+        match x {
+            100 => Ok(Operator::Add),
+            101 => Ok(Operator::Subtract),
+            102 => Ok(Operator::Multiply),
+            103 => Ok(Operator::Derive),
+            _ => Err(x),
+        }
+    }
+}
+
 // A token of a line. A byte that the grammar has no use for is a token of its own.
 #[derive(Clone, Copy, Debug, PartialEq, Eq)]
 pub enum Token {
@@ -53,10 +70,12 @@ pub enum Token {
     Wrong,
 }
 
-// Where in the line a reading ends, and how many bytes of the program are then written.
-#[derive(Clone, Copy)]
-struct Parsed {
-    end: usize,
+// A line that is read from a place on, and its program, of which so many bytes are written.
+#[derive(Drop)]
+struct Parser<'a> {
+    line: &'a [u8],
+    at: usize,
+    code: &'a mut [u8],
     filled: usize,
 }
 
@@ -81,16 +100,20 @@ fn read_into(line: &[u8], code: &mut [u8]) -> Result<usize, Refusal>
     if refusal::MAX_LINE < line.len() {
         return Err(Refusal::Line);
     }
-    let Some(read) = expression(line, 0, code, 0) else {
-        return Err(Refusal::Line);
+    let mut parser = Parser {
+        line,
+        at: 0,
+        code,
+        filled: 0,
     };
-    if token_at(line, read.end).is_some() {
+    parser.expression().ok_or(Refusal::Line)?;
+    if token_at(line, parser.at).is_some() {
         return Err(Refusal::Line);
     }
     if refusal::MAX_OPEN < nesting(line) {
         return Err(Refusal::Nesting);
     }
-    Ok(read.filled)
+    Ok(parser.filled)
 }
 
 // How many parentheses are open behind a byte, of so many open before it.
@@ -192,69 +215,69 @@ fn product_sign(line: &[u8], at: usize) -> Option<usize>
     }
 }
 
-// Reads an expression from a place on: terms, with + or - between them. Its program goes behind the first n bytes of `code`.
-#[cycle(expression_factor_term)]
-fn expression(line: &[u8], at: usize, code: &mut [u8], n: usize) -> Option<Parsed>
-    requires { Room line.now at code.old n }
-    ensures { said_expression line.now at code.old n code.new result }
-{
-    let mut read = term(line, at, code, n)?;
-    while let Some((operator, after)) = sum_sign(line, read.end) {
-        read = term(line, after, code, read.filled)?;
-        code[read.filled] = u8::from(operator);
-        read.filled += 1;
+impl Parser<'_> {
+    // A byte more of the program.
+    fn write(&mut self, x: u8)
+        requires { self.old.filled < length self.old.code.now }
+        ensures { Wrote x self.old self.new }
+    {
+        self.code[self.filled] = x;
+        self.filled += 1;
     }
-    Some(read)
-}
 
-// The same of a term: factors, with * between them.
-#[cycle(expression_factor_term)]
-fn term(line: &[u8], at: usize, code: &mut [u8], n: usize) -> Option<Parsed>
-    requires { Room line.now at code.old n }
-    ensures { said_term line.now at code.old n code.new result }
-{
-    let mut read = factor(line, at, code, n)?;
-    while let Some(after) = product_sign(line, read.end) {
-        read = factor(line, after, code, read.filled)?;
-        code[read.filled] = u8::from(Operator::Multiply);
-        read.filled += 1;
+    // Reads an expression: terms, with + or - between them. None where no expression begins.
+    #[cycle(expression_factor_term)]
+    fn expression(&mut self) -> Option<()>
+        requires { Room self.old }
+        ensures { said_expression self.old self.new result }
+    {
+        self.term()?;
+        while let Some((operator, after)) = sum_sign(self.line, self.at) {
+            self.at = after;
+            self.term()?;
+            self.write(u8::from(operator));
+        }
+        Some(())
     }
-    Some(read)
-}
 
-// The same of a factor: a number, D and a factor, or an expression in parentheses.
-#[cycle(expression_factor_term)]
-fn factor(line: &[u8], at: usize, code: &mut [u8], n: usize) -> Option<Parsed>
-    requires { Room line.now at code.old n }
-    ensures { said_factor line.now at code.old n code.new result }
-{
-    let (token, after) = token_at(line, at)?;
-    match token {
-        Token::Number(list) => {
-            code[n] = list;
-            Some(Parsed {
-                end: after,
-                filled: n + 1,
-            })
+    // The same of a term: factors, with * between them.
+    #[cycle(expression_factor_term)]
+    fn term(&mut self) -> Option<()>
+        requires { Room self.old }
+        ensures { said_term self.old self.new result }
+    {
+        self.factor()?;
+        while let Some(after) = product_sign(self.line, self.at) {
+            self.at = after;
+            self.factor()?;
+            self.write(u8::from(Operator::Multiply));
         }
-        Token::Derive => {
-            let read = factor(line, after, code, n)?;
-            code[read.filled] = u8::from(Operator::Derive);
-            Some(Parsed {
-                end: read.end,
-                filled: read.filled + 1,
-            })
+        Some(())
+    }
+
+    // The same of a factor: a number, D and a factor, or an expression in parentheses.
+    #[cycle(expression_factor_term)]
+    fn factor(&mut self) -> Option<()>
+        requires { Room self.old }
+        ensures { said_factor self.old self.new result }
+    {
+        let (token, after) = token_at(self.line, self.at)?;
+        self.at = after;
+        match token {
+            Token::Number(list) => self.write(list),
+            Token::Derive => {
+                self.factor()?;
+                self.write(u8::from(Operator::Derive));
+            }
+            Token::Open => {
+                self.expression()?;
+                let (Token::Close, beyond) = token_at(self.line, self.at)? else {
+                    return None;
+                };
+                self.at = beyond;
+            }
+            _ => return None,
         }
-        Token::Open => {
-            let read = expression(line, after, code, n)?;
-            let (Token::Close, beyond) = token_at(line, read.end)? else {
-                return None;
-            };
-            Some(Parsed {
-                end: beyond,
-                filled: read.filled,
-            })
-        }
-        _ => None,
+        Some(())
     }
 }

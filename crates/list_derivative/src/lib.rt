@@ -11,7 +11,7 @@ ghost use Rattle.list_derivative.specs.Internal.{DerivativeFits};
 
 use refusal::Refusal;
 
-// The same over a field.
+// The derivative over a field.
 pub fn derivative_over(field: u8, f: &[u16], out: &mut [u16]) -> Result<(), Refusal>
     ensures answer { outcome_reply result ≡ derivative_answer field f.now out.old }
     ensures writes { out.new ≡ derivative_written field f.now out.old }
@@ -26,24 +26,21 @@ fn judge_derivative(field: u8, f: &[u16], out: &[u16]) -> Result<(), Refusal>
     ensures { result ≡ lowest (derivative_rows (modulus field) (longest field) f.now out.now) }
 {
     lists::judge_list(field, f)?;
-    if out.len() != words::larger(f.len() - 1, 1) {
+    if out.len() != (f.len() - 1).max(1) {
         return Err(Refusal::Misfit);
     }
     Ok(())
 }
 
 // n times the difference of each word of f to the next.
+#[tactic(auto, unfolding(field::specs::Fields::longest))]
 fn differences(field: u8, f: &[u16], out: &mut [u16])
     requires { (0 < length out.old) × (length f.now ≡ length out.old + 1) × (length f.now ≤ longest field) }
     ensures { out.new ≡ of.derivative (field_at field) f.now }
 {
-    let n = out.len();
-    let mut k = 0;
-    while k < n {
-        let here = f[k];
-        let next = f[k + 1];
-        out[k] = field::mul(field, n as u16, field::sub(field, next, here));
-        k += 1;
+    let n = out.len() as u16;
+    for (k, word) in out.iter_mut().enumerate() {
+        *word = field::mul(field, n, field::sub(field, f[k + 1], f[k]));
     }
 }
 

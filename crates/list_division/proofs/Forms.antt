@@ -130,9 +130,3 @@ module _ (F : PrimeField) where
             unscale-is F is most wide whole part tables x'' r (omega (arith, nl, nx)) (omega arith) qr
             ∙ ap₂ (unscaled F) words (series_of-carries F cl)
             ∙ ap (λ n. unscaled F (naive_degree f) (remainder F.series (scalar_field F) n (naive_degree f) (scaled F g) (scaled F f))) count
-
--- a division that tables of n entries suffice for
-pub divide-within : {F : PrimeField} (n : ℕ) (whole : List ℕ) {most : ℕ} {g f q r : List ℕ} → length whole ≡ n → DivideFits F most g f q r → length g ≤ n
-    → DivideFits F (length whole) g f q r
-divide-within n whole e h l =
-    record { divisible = h.divisible; short = omega arith; quotient-words = h.quotient-words; remainder-words = h.remainder-words }

@@ -2,6 +2,7 @@
 #![tactic(auto)]
 
 ghost use Rattle.std.specs.Prelude.{Ok, ◌≡◌, ◌≤◌, length};
+ghost use Rattle.refusal.specs.Limits.{max_words};
 ghost use Rattle.field.specs.Fields.{modulus, field_at, longest};
 ghost use Rattle.refusal.specs.Refusal.{outcome_reply};
 ghost use Rattle.refusal.specs.Lowest.{lowest};
@@ -12,7 +13,13 @@ ghost use Rattle.list_division.specs.Internal.{DivideFits};
 use refusal::Refusal;
 
 // g divided by f over a field: the quotient goes to q, the remainder to r.
-pub fn divide_over(field: u8, g: &[u16], f: &[u16], q: &mut [u16], r: &mut [u16]) -> Result<(), Refusal>
+pub fn divide_over(
+    field: u8,
+    g: &[u16],
+    f: &[u16],
+    q: &mut [u16],
+    r: &mut [u16],
+) -> Result<(), Refusal>
     ensures answer { outcome_reply result ≡ divide_answer field g.now f.now q.old r.old }
     ensures quotient { q.new ≡ quotient_written field g.now f.now q.old r.old }
     ensures remainder { r.new ≡ remainder_written field g.now f.now q.old r.old }
@@ -72,7 +79,8 @@ fn divide_in(
 
 // The division where nothing is refused, in arrays of N words, which are filled with zeros.
 fn divide_sized<const N: usize>(field: u8, g: &[u16], f: &[u16], q: &mut [u16], r: &mut [u16])
-    requires { DivideFits (field_at field) (longest field) g.now f.now q.old r.old × (length g.now ≤ N) }
+    requires divide_fits { DivideFits (field_at field) (longest field) g.now f.now q.old r.old }
+    requires size { (length g.now ≤ N) × (N ≤ max_words) }
     ensures quotient { q.new ≡ quotient_of (field_at field) g.now f.now }
     ensures remainder { r.new ≡ remainder_of (field_at field) g.now f.now }
 {

@@ -3,11 +3,12 @@
 use mathlib.Core.Path.{◌≡◌, sym, ◌∙◌}
 use mathlib.Core.Bool.{not}
 use mathlib.Core.List.{List, [], ◌∷◌}
-use Prim.Native.Nat.{ℕ, ◌-◌, ◌<◌}
+use Prim.Native.Nat.{ℕ, ◌-◌, ◌≤◌, ◌<◌}
+use native.Mathlib.Omega.{arith}
 use lib.Dec.{eqb}
 use lib.ListN.{length}
 use borrow.Author.Tests.{eqb-true, not-false, eq-eqb, ne_eqb}
-use Rattle.std.specs.Prelude.{Some, None, Result, Ok, Err}
+use Rattle.std.specs.Prelude.{Option, Some, None, Result, Ok, Err, SomeIff, MatchOption, IsSomeAnd}
 use Rattle.refusal.specs.Refusal.{reply}
 use Rattle.refusal.specs.Lowest.{lowest}
 use Rattle.refusal.specs.declared.Refusal.{Refusal}
@@ -15,6 +16,7 @@ use Rattle.refusal.specs.declared.Refusal.TheVariants.{AllZero, Misfit}
 use Rattle.refusal.proofs.First.{refuse, or_else, first_then, refuse-done, or-else-done}
 use Rattle.lists.specs.Degrees.{significant, extent, searched}
 use Rattle.lists.specs.Refused.{list_refusals}
+use Rattle.lists.specs.declared.Extent.{Extent}
 use Rattle.lists.proofs.Judged.{one-listed}
 use Rattle.list_extent.specs.Calls.{extent_reply, searched_reply, extent_values, extent_rows, trim_rows}
 use Rattle.list_extent.specs.Internal.{TrimFits}
@@ -24,21 +26,27 @@ module _ (p most : ℕ) (f : List ℕ) where
   -- both replies of an answer are those of the list
   abbrev Answers : Result Search Refusal → Type 0
   Answers r =
-      (extent_reply r ≡ reply (lowest (extent_rows p most f)) (extent_values f))
-      × (searched_reply r ≡ reply (lowest (extent_rows p most f)) (searched f ∷ []))
+      record {
+        answer : extent_reply r ≡ reply (lowest (extent_rows p most f)) (extent_values f);
+        read : searched_reply r ≡ reply (lowest (extent_rows p most f)) (searched f ∷ []);
+      }
 
   pub extent-refused : {why : Refusal} → lowest (list_refusals p most (f ∷ [])) ≡ Err why → Answers (Err why)
   unfolding extent_rows
-  extent-refused e = (simp e, simp e)
+  extent-refused e = record { answer = simp e; read = simp e }
 
   module _ {n r : ℕ} (e : lowest (list_refusals p most (f ∷ [])) ≡ Ok tt) (w : n ≡ significant f) (s : r ≡ searched f) where
-    pub extent-zero : n ≡ 0 → Answers (Ok (record { extent = None; read = record { 0 = r } }))
-    unfolding extent_rows extent_values
-    extent-zero z = (simp (e, eq-eqb (significant f) 0 (sym w ∙ z)), simp (e, s))
-
-    pub extent-found : ¬ (n ≡ 0) → Answers (Ok (record { extent = Some (record { 0 = n - 1 }); read = record { 0 = r } }))
+    -- the extent is the number of significant words less 1, where there is one
+    pub extent-found : (top : Option ℕ) (found : Option Extent) → SomeIff top (1 ≤ n) (n - 1)
+        → MatchOption top (found ≡ None) (λ x. IsSomeAnd found (λ y. y.0 ≡ x))
+        → Answers (Ok (record { extent = found; read = record { 0 = r } }))
     unfolding extent_rows extent_values extent
-    extent-found h = (simp (e, ne_eqb (significant f) 0 (λ z. h (w ∙ z)), w), simp (e, s))
+    extent-found None None t h =
+        record { answer = simp (e, eq-eqb (significant f) 0 (omega arith)); read = simp (e, s) }
+    extent-found None (Some y) t h = absurd (cc)
+    extent-found (Some x) None t h = absurd h
+    extent-found (Some x) (Some y) t h =
+        record { answer = simp (e, ne_eqb (significant f) 0 (λ z. absurd (omega arith)), h, t.1, w); read = simp (e, s) }
 
 module _ (p most : ℕ) (f out : List ℕ) where
   trim-judged : lowest (trim_rows p most f out)

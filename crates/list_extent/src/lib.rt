@@ -2,6 +2,7 @@
 #![tactic(auto)]
 
 ghost use Rattle.std.specs.Prelude.{◌≡◌, ◌≤◌, length};
+ghost use Rattle.refusal.specs.Limits.{max_words};
 ghost use Rattle.field.specs.Fields.{modulus, field_at, longest};
 ghost use Rattle.refusal.specs.Refusal.{outcome_reply};
 ghost use Rattle.refusal.specs.Lowest.{lowest};
@@ -75,7 +76,8 @@ fn trim_in(field: u8, f: &[u16], s: &mut [u16], out: &mut [u16])
 
 // The trim of a list that is not refused, in an array of N words, which is filled with zeros.
 fn trim_sized<const N: usize>(field: u8, f: &[u16], out: &mut [u16])
-    requires { TrimFits (longest field) f.now out.old × (length f.now ≤ N) }
+    requires trim_fits { TrimFits (longest field) f.now out.old }
+    requires size { (length f.now ≤ N) × (N ≤ max_words) }
     ensures { out.new ≡ of.trim (field_at field) f.now }
 {
     let n = f.len();

@@ -93,17 +93,3 @@ module _ (F : PrimeField) where
     where
       size : m ≡ suc (naive_degree out - naive_degree f)
       size = let l = fits.list.some in let r = fits.room in omega arith
-
--- a product that tables of n entries suffice for
-pub fits_in : (n : ℕ) (whole : List ℕ) {most : ℕ} {f g out : List ℕ} → length whole ≡ n → ProductFits most f g out → length out ≤ n → ProductFits (length whole) f g out
-fits_in n whole e h l = record { first = h.first; second = h.second; size = h.size; short = omega arith }
-
--- the same of a raise
-pub raise-in : (n : ℕ) (whole : List ℕ) {p most : ℕ} {f out : List ℕ} → length whole ≡ n → RaiseFits p most f out → length out ≤ n → RaiseFits p (length whole) f out
-raise-in n whole e h l =
-    let room = h.room in
-    record {
-      list = record { some = h.list.some; short = omega arith; words = h.list.words };
-      room = room;
-      short = omega arith;
-    }

@@ -3,6 +3,7 @@
 
 ghost use Rattle.std.specs.Prelude.{◌≡◌, ◌≤◌, length};
 ghost use Rattle.field.specs.Fields.{modulus, field_at, longest};
+ghost use Rattle.refusal.specs.Limits.{max_words};
 ghost use Rattle.refusal.specs.Refusal.{outcome_reply};
 ghost use Rattle.refusal.specs.Lowest.{lowest};
 ghost use Rattle.lists.specs.Degrees.{naive_degree};
@@ -34,6 +35,7 @@ pub fn raise_over(field: u8, f: &[u16], to: NaiveDegree, out: &mut [u16]) -> Res
 }
 
 // What the product refuses.
+#[tactic(auto, unfolding(field::specs::Fields::longest))]
 fn judge_product(field: u8, f: &[u16], g: &[u16], out: &[u16]) -> Result<(), Refusal>
     ensures { result ≡ lowest (product_rows (modulus field) (longest field) f.now g.now out.now) }
 {
@@ -89,7 +91,7 @@ fn product_in(
 
 // The product where nothing is refused, in arrays of N words, which are filled with zeros.
 fn product_sized<const N: usize>(field: u8, f: &[u16], g: &[u16], out: &mut [u16])
-    requires { ProductFits (longest field) f.now g.now out.old × (length out.old ≤ N) }
+    requires { ProductFits (longest field) f.now g.now out.old × (length out.old ≤ N) × (N ≤ max_words) }
     ensures { out.new ≡ of.product (field_at field) f.now g.now }
 {
     let d = f.len();
@@ -102,6 +104,7 @@ fn product_sized<const N: usize>(field: u8, f: &[u16], g: &[u16], out: &mut [u16
 }
 
 // The same in arrays of the size that the result needs.
+#[tactic(auto, unfolding(field::specs::Fields::longest))]
 fn product_into(field: u8, f: &[u16], g: &[u16], out: &mut [u16])
     requires { ProductFits (longest field) f.now g.now out.old }
     ensures { out.new ≡ of.product (field_at field) f.now g.now }
@@ -114,6 +117,7 @@ fn product_into(field: u8, f: &[u16], g: &[u16], out: &mut [u16])
 }
 
 // f raised to the naive degree of out: f times a list of ones, which means 1.
+#[tactic(auto, unfolding(field::specs::Fields::longest))]
 fn raise_into(field: u8, f: &[u16], out: &mut [u16])
     requires { RaiseFits (modulus field) (longest field) f.now out.old }
     ensures { out.new ≡ of.raise (field_at field) (naive_degree out.old) f.now }

@@ -1,19 +1,17 @@
--- Sums and differences of raised lists, word by word.
+-- Sums and differences of raised lists, word by word: what the operation of each gives is the word of the sum, or of the difference.
 -- Assumes nothing.
-use mathlib.Core.Path.{◌≡◌, sym, ◌∙◌, ap, ap₂}
-use mathlib.Core.Bool.{Bool, true, false, cond}
+use mathlib.Core.Path.{◌≡◌, sym, ◌∙◌, ap, subst₂}
 use mathlib.Core.List.{List}
-use Prim.Native.Nat.{ℕ, ◌+◌, ◌-◌, ◌%◌, ◌≤◌, ◌<◌}
+use Prim.Native.Nat.{ℕ, suc, ◌+◌, ◌-◌, ◌%◌, ◌≤◌, ◌<◌}
 use native.Mathlib.Nat.{mod-lt}
 use native.Mathlib.Omega.{arith}
-use lib.ListN.{length, get_or}
+use lib.ListN.{length}
 use Rattle.std.specs.Prelude.{Ok}
 use Rattle.algebra.specs.PrimeField.{PrimeField, scalars, positive, residue, value}
 use Rattle.algebra.proofs.PrimeField.{residue-add-mod, residue-neg}
 use Rattle.refusal.specs.Refusal.{written}
 use Rattle.refusal.specs.Lowest.{lowest}
-use Rattle.lists.specs.Tabulate.{tabulate}
-use Rattle.lists.proofs.Tabulate.{length-tabulate, get_or-tabulate}
+use Rattle.lists.proofs.Tabulate.{tabulated}
 use Rattle.lists.specs.Degrees.{naive_degree}
 use Rattle.lists.specs.Lists.{word}
 use Rattle.lists.specs.Operations.{raise, larger_degree, sum_of, difference_of}
@@ -22,20 +20,9 @@ use Rattle.lists.proofs.Words.{value-is}
 use Rattle.lists.proofs.Raises.{length-raise}
 use Rattle.list_product.specs.Calls.{raise_rows}
 use Rattle.list_product.proofs.Judged.{raise-completes}
-use Rattle.list_sum.specs.Internal.{SumFits, combined_words, combined}
+use Rattle.list_sum.specs.Internal.{SumFits, Combines, CombinesRaised}
 
 module _ (F : PrimeField) where
-  open scalars F use {neg as ⊖◌, add as ◌⊕◌}
-
-  infixl 65 ◌⊕◌
-  infix 80 ⊖◌
-  raised : (minus : Bool) (f g : List ℕ) → combined_words F minus (raise F (larger_degree F f g) f) (raise F (larger_degree F f g) g) ≡ combined F minus f g
-  unfolding sum_of difference_of combined_words
-  raised true f g =
-      ap (λ n. tabulate n (λ k. value F (word F (raise F (larger_degree F f g) f) k ⊕ ⊖ word F (raise F (larger_degree F f g) g) k))) (length-raise F (larger_degree F f g) f)
-  raised false f g =
-      ap (λ n. tabulate n (λ k. value F (word F (raise F (larger_degree F f g) f) k ⊕ word F (raise F (larger_degree F f g) g) k))) (length-raise F (larger_degree F f g) f)
-
   -- f and g raised to the naive degree of the result, in buffers as long as it
   module _ {p most : ℕ} (big : 0 < p) (f g out : List ℕ) (fits : SumFits p most f g out) where
     degree : length out - 1 ≡ larger_degree F f g
@@ -56,36 +43,42 @@ module _ (F : PrimeField) where
             let size = fits.size in
             raise-completes p most big c (length out - 1) a l (omega arith) (omega arith) (omega arith)
 
-    -- their sum or difference
-    pub combined-is : (minus : Bool) (a b : List ℕ) {a' b' out' : List ℕ} → length a ≡ length out → length b ≡ length out
+    -- what is combined in the buffers is f and g raised
+    pub combined-raised : (op : ℕ → ℕ → ℕ → Type 0) (a b : List ℕ) {a' b' out' : List ℕ} → length a ≡ length out → length b ≡ length out
         → a' ≡ written (lowest (raise_rows p most f (length out - 1) a)) (raise F (length out - 1) f) a
         → b' ≡ written (lowest (raise_rows p most g (length out - 1) b)) (raise F (length out - 1) g) b
-        → out' ≡ combined_words F minus a' b' → out' ≡ combined F minus f g
-    combined-is minus a b la lb qa qb q =
+        → Combines op a' b' out' → CombinesRaised F op f g out'
+    combined-raised op a b {out' = out'} la lb qa qb h =
         let s = fits.size in
-        q ∙ ap₂ (combined_words F minus) (in_buffer f a fits.first (omega arith) la qa) (in_buffer g b fits.second (omega arith) lb qb)
-        ∙ raised minus f g
+        subst₂ (λ x y. Combines op x y out') (in_buffer f a fits.first (omega arith) la qa) (in_buffer g b fits.second (omega arith) lb qb) h
 
--- one word of a sum and of a difference
+-- where the operation is that of the field
 module _ (F : PrimeField) {m : ℕ} (e : F.p ≡ m) where
   open scalars F use {neg as ⊖◌, add as ◌⊕◌}
 
   infixl 65 ◌⊕◌
   infix 80 ⊖◌
-  pub combined-word : (minus : Bool) (a b : List ℕ) (k : ℕ) {w : ℕ} → k < length a
-      → w ≡ cond minus ((get_or a k 0 + (m - get_or b k 0 % m)) % m) ((get_or a k 0 + get_or b k 0) % m) → w ≡ get_or (combined_words F minus a b) k 0
-  unfolding combined_words word
-  combined-word false a b k {w} l q =
-      let h = mod-lt (get_or a k 0 + get_or b k 0) (positive F) in
-      value-is F w _ (rw (q, ← e) h) (ap (residue F) (q ∙ ap (λ n. (get_or a k 0 + get_or b k 0) % n) (sym e)) ∙ residue-add-mod F _ _)
-      ∙ sym (get_or-tabulate (length a) _ k l)
-  combined-word true a b k {w} l q =
-      let h = mod-lt (get_or a k 0 + (F.p - get_or b k 0 % F.p)) (positive F) in
-      value-is F w _ (rw (q, ← e) h)
-      (ap (residue F) (q ∙ ap (λ n. (get_or a k 0 + (n - get_or b k 0 % n)) % n) (sym e)) ∙ residue-add-mod F _ _
-      ∙ ap (λ x. residue F (get_or a k 0) ⊕ x) (residue-neg F (get_or b k 0)))
-      ∙ sym (get_or-tabulate (length a) _ k l)
+  sum-word : (x y : ℕ) {w : ℕ} → w ≡ (x + y) % m → w ≡ value F (residue F x ⊕ residue F y)
+  sum-word x y {w} q =
+      let h = mod-lt (x + y) (positive F) in
+      value-is F w _ (rw (q, ← e) h) (ap (residue F) (q ∙ ap (λ n. (x + y) % n) (sym e)) ∙ residue-add-mod F _ _)
 
-pub length-combined_words : (F : PrimeField) (minus : Bool) (a b : List ℕ) → length (combined_words F minus a b) ≡ length a
-unfolding combined_words
-length-combined_words F minus a b = length-tabulate (length a) _
+  difference-word : (x y : ℕ) {w : ℕ} → w ≡ (x + (m - y % m)) % m → w ≡ value F (residue F x ⊕ ⊖ residue F y)
+  difference-word x y {w} q =
+      let h = mod-lt (x + (F.p - y % F.p)) (positive F) in
+      value-is F w _ (rw (q, ← e) h)
+      (ap (residue F) (q ∙ ap (λ n. (x + (n - y % n)) % n) (sym e)) ∙ residue-add-mod F _ _
+      ∙ ap (λ z. residue F x ⊕ z) (residue-neg F y))
+
+  module _ (op : ℕ → ℕ → ℕ → Type 0) (f g : List ℕ) {out : List ℕ} (h : CombinesRaised F op f g out) where
+    pub sum-is : ((x y w : ℕ) → op x y w → w ≡ (x + y) % m) → out ≡ sum_of F f g
+    unfolding sum_of word
+    sum-is adds =
+        let size = h.size ∙ length-raise F (larger_degree F f g) f in
+        tabulated out (suc (larger_degree F f g)) _ size (λ k l. sum-word _ _ (adds _ _ _ (h.at k (omega arith))))
+
+    pub difference-is : ((x y w : ℕ) → op x y w → w ≡ (x + (m - y % m)) % m) → out ≡ difference_of F f g
+    unfolding difference_of word
+    difference-is subtracts =
+        let size = h.size ∙ length-raise F (larger_degree F f g) f in
+        tabulated out (suc (larger_degree F f g)) _ size (λ k l. difference-word _ _ (subtracts _ _ _ (h.at k (omega arith))))

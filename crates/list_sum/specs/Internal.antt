@@ -1,35 +1,21 @@
 -- What the functions need and do that work on slices which no call refuses.
---     SumFits                       two lists and a result slice as long as their sum
---     combined_words                two lists of one length, added word by word, or subtracted where `minus`
---     combined                      the sum of two lists, or, where `minus`, their difference
---     combined_written              what the result slice of either holds at the end, over field k
+--     SumFits                two lists and a result slice as long as their sum
+--     Combines op a b c      each word of c is what the operation may give at the words of a and b
+--     CombinesRaised         the same of f and g, raised to one naive degree
 -- Assumes nothing.
-use Rattle.std.specs.Prelude.{◌≡◌, Bool, cond, List, ℕ, max, length}
-use Rattle.refusal.specs.Refusal.{written}
-use Rattle.refusal.specs.Lowest.{lowest}
-use Rattle.field.specs.Fields.{modulus, field_at, longest}
-use Rattle.algebra.specs.PrimeField.{PrimeField, scalars, value}
-use Rattle.lists.specs.Tabulate.{tabulate}
-use Rattle.lists.specs.Lists.{word}
+use Rattle.std.specs.Prelude.{◌≡◌, List, ℕ, ◌<◌, max, length, get_or}
+use Rattle.algebra.specs.PrimeField.{PrimeField}
 use Rattle.lists.specs.Refused.{IsList}
-use Rattle.lists.specs.Operations.{sum_of, difference_of}
-use Rattle.list_sum.specs.Calls.{sum_rows}
+use Rattle.lists.specs.Operations.{raise, larger_degree}
 
 pub record SumFits (p most : ℕ) (f g out : List ℕ) : Type 0 where
   pub first : IsList p most f
   pub second : IsList p most g
   pub size : length out ≡ max (length f) (length g)
 
-module _ (F : PrimeField) where
-  open scalars F use {neg as ⊖◌, add as ◌⊕◌}
+pub record Combines (op : ℕ → ℕ → ℕ → Type 0) (a b c : List ℕ) : Type 0 where
+  pub size : length c ≡ length a
+  pub at : (k : ℕ) → k < length c → op (get_or a k 0) (get_or b k 0) (get_or c k 0)
 
-  infixl 65 ◌⊕◌
-  infix 80 ⊖◌
-  unfoldable pub combined_words : Bool → (a b : List ℕ) → List ℕ
-  combined_words minus a b = tabulate (length a) (λ k. value F (word F a k ⊕ cond minus (⊖ word F b k) (word F b k)))
-
-  abbrev pub combined : Bool → (f g : List ℕ) → List ℕ
-  combined minus f g = cond minus (difference_of F f g) (sum_of F f g)
-
-abbrev pub combined_written : (k : ℕ) → Bool → (f g out : List ℕ) → List ℕ
-combined_written k minus f g out = written (lowest (sum_rows (modulus k) (longest k) f g out)) (combined (field_at k) minus f g) out
+abbrev pub CombinesRaised : PrimeField → (ℕ → ℕ → ℕ → Type 0) → (f g c : List ℕ) → Type 0
+CombinesRaised F op f g c = Combines op (raise F (larger_degree F f g) f) (raise F (larger_degree F f g) g) c

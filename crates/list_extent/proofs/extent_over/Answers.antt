@@ -1,24 +1,16 @@
--- `list_extent::extent_over` meets its contract: a refused list, a zero list, and one whose extent is found.
+-- `list_extent::extent_over` meets its contract: a refused list, and one that is searched.
 -- Assumes nothing.
-use mathlib.Core.Path.{◌≡◌, sym, ◌∙◌}
-use mathlib.Core.List.{[], ◌∷◌}
-use Rattle.std.specs.Prelude.{Ok}
-use Rattle.field.specs.Fields.{modulus, longest}
-use Rattle.refusal.specs.Lowest.{lowest}
-use Rattle.lists.specs.Refused.{list_refusals}
-use Rattle.list_extent.proofs.Judged.{extent-refused, extent-zero, extent-found}
-use Rattle.refusal.proofs.Clauses.{answer_and_read}
+use mathlib.Core.Path.{sym, ◌∙◌}
+use Rattle.std.proofs.lemmas.Result.{err_from_is_err_and}
+use Rattle.list_extent.proofs.Judged.{extent-refused, extent-found}
 use Rattle.list_extent.proofs.extent_over.Goals as goal
 
-pub returns-in-Err : goal.returns-in-Err
-returns-in-Err c = answer_and_read (extent-refused _ _ _ (sym c.judge_list.ensures ∙ c.in-Err.is))
-
-pub returns-then-search-eq0 : goal.returns-then-search-eq0
-returns-then-search-eq0 c =
-    let listed : lowest (list_refusals (modulus c.args.field) (longest c.args.field) (c.args.f.now ∷ [])) ≡ Ok tt = sym c.judge_list.ensures ∙ c.in_default.is in
-    let top = c.search_from_top-search.ensures in answer_and_read (extent-zero _ _ _ listed top.words top.read c.if-search-eq0.true)
+pub returns-in_err-judge_list : goal.returns-in_err-judge_list
+returns-in_err-judge_list c =
+    let p = err_from_is_err_and c.from_residual.result c.from_residual.ensures.1 in
+    rw (p.1, p.2) (extent-refused _ _ _ (sym c.judge_list.ensures ∙ c.in_err-judge_list.was))
 
 pub returns : goal.returns
 returns c =
-    let listed : lowest (list_refusals (modulus c.args.field) (longest c.args.field) (c.args.f.now ∷ [])) ≡ Ok tt = sym c.judge_list.ensures ∙ c.in_default.is in
-    let top = c.search_from_top-search.ensures in answer_and_read (extent-found _ _ _ listed top.words top.read c.if-search-eq0.false)
+    let top = c.search_from_top-search.ensures in
+    extent-found _ _ _ (sym c.judge_list.ensures ∙ c.in_ok-judge_list.was) top.words top.read _ _ c.checked_sub.ensures c.map.ensures.cases

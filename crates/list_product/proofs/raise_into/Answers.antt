@@ -1,18 +1,11 @@
--- `list_product::raise_into` meets its contract, whichever tables are fetched.
+-- `list_product::raise_into` meets its contract: the product with a list of ones.
 -- Assumes nothing.
-use mathlib.Core.Path.{◌≡◌}
-use native.Mathlib.Omega.{arith}
-use lib.ListN.{length}
-use Rattle.refusal.specs.Limits.{max_words, few_words}
-use Rattle.field.specs.Fields.{longest}
-use Rattle.field_tables.proofs.Entries.{tables-for}
-use Rattle.list_product.proofs.Products.{raise-in}
+use mathlib.Core.Path.{refl}
+use Rattle.field.specs.Fields.{field_at}
+use Rattle.field.proofs.Fields.{longest-room}
+use Rattle.refusal.specs.Limits.{max_words}
+use Rattle.list_product.proofs.Products.{raise-is}
 use Rattle.list_product.proofs.raise_into.Goals as goal
 
-pub raise_with-requires : goal.raise_with-requires
-unfolding longest
-raise_with-requires c = let size : length c.few_factorials-whole.result ≡ few_words = omega arith in record { tables_for = tables-for c.args.field few_words size (omega arith) c.few_factorials-whole.ensures c.few_inverse_factorials-part.ensures; raise_fits = raise-in few_words c.few_factorials-whole.result size c.requires c.if-out-le-FEW_WORDS.true }
-
-pub raise_with-requires-2 : goal.raise_with-requires-2
-unfolding longest
-raise_with-requires-2 c = let size : length c.factorials-whole.result ≡ max_words = omega arith in record { tables_for = tables-for c.args.field max_words size (omega arith) c.factorials-whole.ensures c.inverse_factorials-part.ensures; raise_fits = raise-in max_words c.factorials-whole.result size c.requires c.requires.short }
+pub returns : goal.returns
+returns c = raise-is (field_at _) max_words (longest-room c.args.field) _ _ _ c.requires refl c.product_into.ensures

@@ -1,6 +1,6 @@
 -- The bytes that an entry names, and those of a list that can be read.
 -- Assumes nothing.
-use mathlib.Core.Path.{◌≡◌, refl, ap, ap₂, ◌∙◌}
+use mathlib.Core.Path.{◌≡◌, refl, sym, ap, ap₂, ◌∙◌}
 use mathlib.Core.Bool.{true, false, and-false}
 use mathlib.Core.List.{List, []}
 use Prim.Native.Nat.{ℕ, ◌+◌, ◌*◌, ◌-◌, ◌≤◌, ◌<◌}
@@ -9,6 +9,8 @@ use lib.Dec.{ltb}
 use lib.ListN.{length, take, drop}
 use borrow.Author.Tests.{lt-ltb, le-ltb, le-leb, lt-leb}
 use Rattle.std.specs.Prelude.{Ok, Err}
+use Rattle.std.specs.Result.{is_err}
+use Rattle.refusal.specs.Refusal.{Outcome}
 use Rattle.refusal.specs.Lowest.{lowest}
 use Rattle.refusal.specs.declared.Refusal.{Refusal}
 use Rattle.field.specs.Fields.{modulus}
@@ -60,14 +62,23 @@ module _ (s : List ℕ) (i : ℕ) where
     body-some bytes = omega (arith, ap length (body_bytes bytes), length-bytes_of (nth_list s i), length-list s i)
 
 -- a list that can be read, and one that cannot
-module _ (k : ℕ) (s : List ℕ) (i : ℕ) where
-  pub body-done : lowest (check_refusals (modulus k) s i) ≡ Ok tt → (body_at s i ≡ body_of k s i) × (place_at s i ≡ body_place k s i)
+read : (o : Outcome) → is_err o ≡ false → o ≡ Ok tt
+read (Ok tt) e = refl
+read (Err why) e = cc
+
+refused : (o : Outcome) → is_err o ≡ true → (why : Refusal) × (o ≡ Err why)
+refused (Ok tt) e = absurd cc
+refused (Err why) e = (why, refl)
+
+module _ (k : ℕ) (s : List ℕ) (i : ℕ) {o : Outcome} (judged : o ≡ lowest (check_refusals (modulus k) s i)) where
+  pub body-done : is_err o ≡ false → (body_at s i ≡ body_of k s i) × (place_at s i ≡ body_place k s i) × Obeys s × (i < count s)
   unfolding body_of body_place
   body-done e =
-      let fine = call-fine (modulus k) s i e in
+      let d = sym judged ∙ read o e in
+      let fine = call-fine (modulus k) s i d in
       let part = body-start s i fine.0 fine.1 in
-      rw e part
+      rw d (part.0, part.1, fine.0, fine.1)
 
-  pub body_refused : {why : Refusal} → lowest (check_refusals (modulus k) s i) ≡ Err why → ([] ≡ body_of k s i) × (0 ≡ body_place k s i)
+  pub body_refused : is_err o ≡ true → ([] ≡ body_of k s i) × (0 ≡ body_place k s i) × ¬ (lowest (check_refusals (modulus k) s i) ≡ Ok tt)
   unfolding body_of body_place
-  body_refused e = rw e (refl, refl)
+  body_refused e = let w = refused o e in rw (sym judged ∙ w.1) (refl, refl, λ d. cc)

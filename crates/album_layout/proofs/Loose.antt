@@ -1,16 +1,20 @@
 -- The search for a loose word. The bodies touch each other and end the album, so the lists' words are those from the first body to the
 -- end: an album has a loose word in a list where one of these is loose.
---     Left     what is left of the search at a place: the words up to the end answer for all lists
+--     loose-chunks     the pairs of bytes from the first body to the end answer for all lists
 -- Assumes nothing.
 use mathlib.Core.Path.{◌≡◌, refl, sym, ap, ap₂, ◌∙◌}
-use mathlib.Core.Bool.{true, false, ◌||◌, or_assoc}
+use mathlib.Core.Bool.{false, ◌||◌, or_assoc}
 use mathlib.Core.List.{List}
-use Prim.Native.Nat.{ℕ, zero, suc, ◌+◌, ◌*◌, ◌≤◌, ◌<◌}
-use native.Mathlib.Nat.{zero-add}
+use Prim.Native.Nat.{ℕ, zero, suc, ◌+◌, ◌-◌, ◌*◌, ◌/◌}
+use native.Mathlib.Nat.{zero-add, add-zero}
 use native.Mathlib.Omega.{arith}
-use lib.Dec.{leb}
-use lib.ListN.{length}
-use borrow.Author.Tests.{le-leb, lt-leb}
+use lib.Dec.{leb, lit<}
+use lib.ListN.{length, get_or, take, drop}
+use lib.Seq.{get_or-take, get_or-drop}
+use Rattle.std.proofs.lemmas.List.{drop-drop, length-drop, take_all}
+use Rattle.std.specs.Int.{w16, from_le_bytes}
+use Rattle.std.specs.List.{list_any}
+use Rattle.std.specs.Simd.{first_chunks}
 use Rattle.lists.specs.Tabulate.{tabulate}
 use Rattle.lists.specs.Refused.{has_loose, any_of}
 use Rattle.lists.specs.Bytes.{word_at, words_at}
@@ -62,39 +66,28 @@ module _ (p : ℕ) (s : List ℕ) where
       next : (k n : ℕ) → suc k + n ≡ k + suc n
       next k n = omega arith
 
-  pub record Left (at : ℕ) : Type 0 where
-    pub words : ℕ
-    pub ends : at + 2 * words ≡ length s
-    pub same : any_of (has_loose p) (lists_of s) ≡ has_loose p (words_at s at words)
+  -- the words that are searched, as `as_chunks` gives them
+  chunk-word : (at : ℕ) → from_le_bytes w16 (take 2 (drop at s)) ≡ word_at s at
+  chunk-word at = omega (arith, get_or-take 2 (drop at s) 0 0 (lit< tt), get_or-take 2 (drop at s) 1 0 (lit< tt), get_or-drop at s 0 0, get_or-drop at s 1 0, ap (λ i. get_or s i 0) (add-zero at))
 
-  pub left-start : Obeys s → {at : ℕ} → at ≡ entry_at (count s) → Left at
+  chunks_loose : (n at : ℕ) → list_any (λ w. leb p (from_le_bytes w16 w)) (first_chunks 2 n (drop at s)) ≡ has_loose p (words_at s at n)
+  chunks_loose zero at = sym (loose_none at)
+  chunks_loose (suc n) at =
+      ap₂ (λ w b. leb p w || b) (chunk-word at) (ap (λ t. list_any (λ w. leb p (from_le_bytes w16 w)) (first_chunks 2 n t)) (drop-drop 2 at s) ∙ chunks_loose n (at + 2))
+      ∙ sym (loose-next at n)
+
+  rest : (at : ℕ) → take (length s - at) (drop at s) ≡ drop at s
+  rest at = take_all _ (drop at s) (omega (arith, length-drop at s))
+
+  pub loose-chunks : Obeys s → (q at : ℕ) (pairs : List (List ℕ)) → q ≡ p → at ≡ entry_at (count s)
+      → (let bodies = take (length s - at) (drop at s) in pairs ≡ first_chunks 2 (length bodies / 2) bodies)
+      → list_any (λ w. leb q (from_le_bytes w16 w)) pairs ≡ any_of (has_loose p) (lists_of s)
   unfolding lists_of start_at
-  left-start o {at} e = record {
-    words = words_in 0 (count s);
-    ends = omega (arith, o.whole, span (count s) 0, ap (start_at s) (zero-add (count s)));
-    same = any-loose (count s) 0 ∙ ap (λ i. has_loose p (words_at s i (words_in 0 (count s)))) (sym e);
-  }
-
-  split : (at n : ℕ) → at + 2 * n ≡ length s → at + 1 < length s → (m : ℕ) × (n ≡ suc m)
-  split at zero e l = absurd (omega arith)
-  split at (suc m) e l = (m, refl)
-
-  pub left_here : {at : ℕ} → Left at → at + 1 < length s → p ≤ word_at s at → true ≡ any_of (has_loose p) (lists_of s)
-  left_here {at} w l h =
-      let m = split at w.words w.ends l in
-      sym (w.same ∙ ap (λ n. has_loose p (words_at s at n)) m.1 ∙ loose-next at m.0 ∙ simp (le-leb p (word_at s at) h))
-
-  pub left-on : {at : ℕ} → Left at → at + 1 < length s → word_at s at < p → Left (at + 2)
-  left-on {at} w l h =
-      let m = split at w.words w.ends l in
-      record {
-        words = m.0;
-        ends = omega (arith, w.ends, m.1);
-        same = w.same ∙ ap (λ n. has_loose p (words_at s at n)) m.1 ∙ loose-next at m.0 ∙ simp (lt-leb p (word_at s at) h);
-      }
-
-  pub left_end : {at : ℕ} → Left at → length s ≤ at + 1 → false ≡ any_of (has_loose p) (lists_of s)
-  left_end {at} w l = sym (w.same ∙ ap (λ n. has_loose p (words_at s at n)) (none w) ∙ loose_none at)
+  loose-chunks o q at pairs same e is =
+      ap₂ (λ k l. list_any (λ w. leb k (from_le_bytes w16 w)) l) same (is ∙ ap (λ t. first_chunks 2 (length t / 2) t) (rest at))
+      ∙ chunks_loose (length (drop at s) / 2) at
+      ∙ ap₂ (λ i n. has_loose p (words_at s i n)) e all
+      ∙ sym (any-loose (count s) 0)
     where
-      none : (w : Left at) → w.words ≡ 0
-      none w = omega (arith, w.ends)
+      all : length (drop at s) / 2 ≡ words_in 0 (count s)
+      all = omega (arith, length-drop at s, o.whole, span (count s) 0, ap (start_at s) (zero-add (count s)))

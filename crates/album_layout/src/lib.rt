@@ -50,10 +50,10 @@ pub fn body_over(field: u8, album: &[u8], i: usize) -> &[u8]
     ensures place { PartFrom album.entry (body_place field album.now i) result }
     ensures some { lowest (check_refusals (modulus field) album.now i) ≡ Ok tt → 0 < length result.now }
 {
-    match judge_call(field, album, i) {
-        Ok(()) => body_at(album, i),
-        Err(_) => &album[0..0],
+    if judge_call(field, album, i).is_err() {
+        return &album[0..0];
     }
+    body_at(album, i)
 }
 
 // The bytes that entry i names, as a part of the album itself; the empty part where there is no such entry, or they do not lie inside the
@@ -79,32 +79,21 @@ pub fn body_at(album: &[u8], i: usize) -> &[u8]
 pub fn judge_layout(album: &[u8]) -> Result<(), Refusal>
     ensures { result ≡ lowest (layout_refusals album.now) }
 {
-    if album.len() == 0 {
-        return Err(Refusal::Count);
-    }
     let n = words::byte_at(album, 0);
-    if n == 0 {
-        return Err(Refusal::Count);
-    }
-    if refusal::MAX_LISTS < n {
+    if album.is_empty() || n == 0 || refusal::MAX_LISTS < n {
         return Err(Refusal::Count);
     }
     let mut at = 1 + refusal::ENTRY_BYTES * n;
     if album.len() < at {
         return Err(Refusal::Contents);
     }
-    let mut k = 0;
-    while k < n {
+    for k in 0..n {
         let e = 1 + refusal::ENTRY_BYTES * k;
         let degree = words::word_at(album, e);
-        if refusal::MAX_DEGREE < degree {
-            return Err(Refusal::Contents);
-        }
-        if words::word_at(album, e + 2) != at {
+        if refusal::MAX_DEGREE < degree || words::word_at(album, e + 2) != at {
             return Err(Refusal::Contents);
         }
         at += 2 * (degree + 1);
-        k += 1;
     }
     if album.len() != at {
         return Err(Refusal::Contents);
@@ -117,13 +106,8 @@ fn has_loose_word(field: u8, album: &[u8]) -> bool
     requires { Obeys album.now }
     ensures { result ≡ any_of (has_loose (modulus field)) (lists_of album.now) }
 {
-    let p = field::modulus_of(field) as usize;
-    let mut at = 1 + refusal::ENTRY_BYTES * words::byte_at(album, 0);
-    while at + 1 < album.len() {
-        if p <= words::word_at(album, at) {
-            return true;
-        }
-        at += 2;
-    }
-    false
+    let p = field::modulus_of(field);
+    let bodies = &album[1 + refusal::ENTRY_BYTES * words::byte_at(album, 0)..];
+    let (pairs, _) = bodies.as_chunks::<2>();
+    pairs.iter().any(|&pair| p <= u16::from_le_bytes(pair))
 }

@@ -11,6 +11,7 @@ use Rattle.refusal.specs.Lowest.{Condition, ◌given-when◌, lowest}
 use Rattle.refusal.specs.declared.Refusal.TheVariants.{Misfit}
 use Rattle.field.specs.Fields.{modulus, longest}
 use Rattle.lists.specs.Padded.{padded}
+use Rattle.lists.specs.declared.NaiveDegree.{NaiveDegree}
 use Rattle.album_layout.specs.Layout.{degree_at, nth_list}
 use Rattle.album_layout.specs.Calls.{check_refusals}
 
@@ -23,6 +24,6 @@ read_answer k s i out = reply (lowest (read_rows (modulus k) (longest k) s i out
 abbrev pub read_written : (k : ℕ) → List ℕ → ℕ → List ℕ → List ℕ
 read_written k s i out = written (lowest (read_rows (modulus k) (longest k) s i out)) (padded (longest k) (nth_list s i)) out
 
-abbrev pub listed_reply : (Result NaiveDegree Refusal) → Reply
+abbrev pub listed_reply : Result NaiveDegree Refusal → Reply
 listed_reply (Ok n) = record { number = 0; values = n.0 ∷ [] }
 listed_reply (Err why) = record { number = number why; values = [] }

@@ -9,7 +9,12 @@ use lists::NaiveDegree;
 use refusal::Refusal;
 
 // The words of list i, in a slice of as many words as the longest list has, zeros after them.
-pub fn read_list_over(field: u8, album: &[u8], i: usize, out: &mut [u16]) -> Result<NaiveDegree, Refusal>
+pub fn read_list_over(
+    field: u8,
+    album: &[u8],
+    i: usize,
+    out: &mut [u16],
+) -> Result<NaiveDegree, Refusal>
     ensures answer { listed_reply result ≡ read_answer field album.now i out.old }
     ensures writes { out.new ≡ read_written field album.now i out.old }
 {

@@ -1,32 +1,26 @@
 -- `album_layout::judge_call` meets its contract: the tests stand in the order of the numbers.
 -- Assumes nothing.
-use mathlib.Core.Path.{◌≡◌, sym, ◌∙◌}
+use mathlib.Core.Path.{sym, ◌∙◌}
+use Rattle.std.proofs.lemmas.Result.{err_from_is_err_and}
 use native.Mathlib.Omega.{arith}
-use Rattle.std.specs.Prelude.{Ok}
-use Rattle.refusal.specs.Lowest.{lowest}
-use Rattle.album_layout.specs.Internal.{layout_refusals}
 use Rattle.album_layout.proofs.Judged.{layout-obeys, call-refused, call-index, call-loose, call-done}
 use Rattle.album_layout.proofs.judge_call.Goals as goal
 
-pub returns-in-Err : goal.returns-in-Err
-returns-in-Err c = call-refused _ _ _ (sym c.judge_layout.ensures ∙ c.in-Err.is)
+pub returns-in_err-judge_layout : goal.returns-in_err-judge_layout
+returns-in_err-judge_layout c =
+    let p = err_from_is_err_and c.from_residual.result c.from_residual.ensures.1 in
+    rw (p.1, p.2) (call-refused _ _ _ (sym c.judge_layout.ensures ∙ c.in_err-judge_layout.was))
 
 pub returns-then-byte_at-i : goal.returns-then-byte_at-i
-returns-then-byte_at-i c =
-    let laid : lowest (layout_refusals c.args.album.now) ≡ Ok tt = sym c.judge_layout.ensures ∙ c.in_default.is in
-    call-index _ _ _ laid (omega arith)
+returns-then-byte_at-i c = call-index _ _ _ (sym c.judge_layout.ensures ∙ c.in_ok-judge_layout.was) (omega arith)
 
 pub has_loose_word-requires : goal.has_loose_word-requires
-has_loose_word-requires c =
-    let laid : lowest (layout_refusals c.args.album.now) ≡ Ok tt = sym c.judge_layout.ensures ∙ c.in_default.is in
-    layout-obeys _ laid
+has_loose_word-requires c = layout-obeys _ (sym c.judge_layout.ensures ∙ c.in_ok-judge_layout.was)
 
 pub returns-then-has_loose_word : goal.returns-then-has_loose_word
 returns-then-has_loose_word c =
-    let laid : lowest (layout_refusals c.args.album.now) ≡ Ok tt = sym c.judge_layout.ensures ∙ c.in_default.is in
-    call-loose _ _ _ laid (omega arith) (sym c.has_loose_word.ensures ∙ c.if-has_loose_word.true)
+    call-loose _ _ _ (sym c.judge_layout.ensures ∙ c.in_ok-judge_layout.was) (omega arith) (sym c.has_loose_word.ensures ∙ c.if-has_loose_word.true)
 
 pub returns : goal.returns
 returns c =
-    let laid : lowest (layout_refusals c.args.album.now) ≡ Ok tt = sym c.judge_layout.ensures ∙ c.in_default.is in
-    call-done _ _ _ laid (omega arith) (sym c.has_loose_word.ensures ∙ c.if-has_loose_word.false)
+    call-done _ _ _ (sym c.judge_layout.ensures ∙ c.in_ok-judge_layout.was) (omega arith) (sym c.has_loose_word.ensures ∙ c.if-has_loose_word.false)

@@ -7,4 +7,5 @@ pub mod Examples
 pub mod Scan
 pub mod Signs
 pub mod Turns
+pub mod Parsers
 pub mod Whole

@@ -1,8 +1,9 @@
 -- How readings are put together: one law for each way through the functions that read a factor, a term and an expression.
 --     number_read, derive-read, group-read             a factor that is a number, D and a factor, or an expression in parentheses
 --     none_left, none-begins, derive-fails, group-..   and where there is none
---     products-begin, products-turn, products-end      a term is read factor by factor
---     sums-begin, sums-turn, sums-end                  an expression is read term by term
+--     products-turn, products-fail                     a term is read factor by factor
+--     sums-turn, sums-fail                             an expression is read term by term
+--     sign-past, room_for                              an operator takes a byte, for which the program has room
 -- Assumes nothing.
 use mathlib.Core.Path.{◌≡◌, refl, ap, ◌∙◌, subst}
 use mathlib.Core.Bool.{true}
@@ -15,15 +16,17 @@ use lib.ListN.{length, take, set}
 use lib.Seq.{take-suc-set}
 use Rattle.lines.specs.declared.Token.{Token}
 use Rattle.lines.specs.declared.Token.TheVariants.{Number, Plus, Minus, Times, Derive, Open, Close, Wrong}
-use Rattle.lines.specs.declared.Sign.TheVariants.{Operator}
+use Rattle.lines.specs.declared.Operator.{Operator}
+use Rattle.lines.specs.declared.Operator.TheVariants.{Add, Subtract}
+use Rattle.std.specs.Prelude.{Some}
 use Rattle.lines.specs.Grammar.{Tree, list, sum, difference, product, derivative}
 use Rattle.lines.specs.Reader.{outside, SumPlace, inside, TermPlace, first_term, after_plus, after_minus, FactorPlace}
 use Rattle.lines.specs.Reader.{first_factor, after_times, after_derive}
 use Rattle.lines.specs.Reader.{want, have, ended, term_place, term_tree, sum_place, sum_tree}
 use Rattle.lines.proofs.Readings.{no-term, have-derive, have-times, have-plus, have-minus}
 use Rattle.lines.proofs.Readings.{step-number, step-derive, step-open, step-close, step-times, step-plus, step-minus}
-use Rattle.lines.specs.Program.{add_byte, subtract_byte, multiply_byte, derive_byte, postfix}
-use Rattle.lines.specs.Internal.{ends_term, ends_sum, rest_of, Follows, SumSign, Past, Room, Got, PastFactor, PastProducts, PastTerm}
+use Rattle.lines.specs.Program.{multiply_byte, derive_byte, byte_of, postfix}
+use Rattle.lines.specs.Internal.{ends_sum, rest_of, Follows, SumSign, Past, Got, PastFactor, PastProducts, PastTerm}
 use Rattle.lines.specs.Internal.{PastSums, PastExpression}
 
 -- where a factor, a term and an expression are wanted
@@ -156,43 +159,8 @@ module _ (line : List ℕ) (at after : ℕ) where
         ends : ends_sum (t ∷ rest_of line beyond) ≡ true
         ends = subst (λ (s : List Token). ends_sum s ≡ true) l.is g.reading.1
 
-pub products-begin : {line : List ℕ} {at : ℕ} {old : List ℕ} {n : ℕ} {new : List ℕ} {end m : ℕ}
-    → Got PastFactor line at old n new end m → Got PastProducts line at old n new end m
-products-begin g =
-    record {
-      tree = g.tree;
-      reading = λ k. g.reading (at_term k);
-      further = g.further;
-      within = g.within;
-      short = g.short;
-      program = g.program;
-    }
-
-pub sums-begin : {line : List ℕ} {at : ℕ} {old : List ℕ} {n : ℕ} {new : List ℕ} {end m : ℕ}
-    → Got PastTerm line at old n new end m → Got PastSums line at old n new end m
-sums-begin g =
-    record {
-      tree = g.tree;
-      reading = (λ k. g.reading.0 (first_term k), g.reading.1);
-      further = g.further;
-      within = g.within;
-      short = g.short;
-      program = g.program;
-    }
-
 module _ (line : List ℕ) (at : ℕ) (old : List ℕ) (n : ℕ) (code : List ℕ) (here filled after : ℕ) where
   module _ (g : Got PastProducts line at old n code here filled) where
-    pub products-end : ends_term (rest_of line here) ≡ true → Got PastTerm line at old n code here filled
-    products-end e =
-        record {
-          tree = g.tree;
-          reading = (g.reading, e);
-          further = g.further;
-          within = g.within;
-          short = g.short;
-          program = g.program;
-        }
-
     pub products-fail : Follows line here Times after → ((k : FactorPlace) → want (rest_of line after) k ≡ outside)
         → (k : TermPlace) → want (rest_of line at) (at_term k) ≡ outside
     products-fail f h k =
@@ -201,12 +169,11 @@ module _ (line : List ℕ) (at : ℕ) (old : List ℕ) (n : ℕ) (code : List �
         ∙ step-times (rest_of line after) g.tree k
         ∙ h (after_times g.tree k)
 
-    pub products-turn : (x : ℕ) (next : List ℕ) (end m : ℕ) → (x ≡ multiply_byte) × Follows line here Times after
+    pub products-turn : (x : ℕ) (next : List ℕ) (end m : ℕ) → x ≡ multiply_byte → Follows line here Times after
         → Got PastFactor line after code filled next end m → m < length next
         → Got PastProducts line at old n (set next m x) end (m + 1)
     unfolding postfix
-    products-turn x next end m s h l =
-        let f = s.1 in
+    products-turn x next end m e f h l =
         record {
           tree = product g.tree h.tree;
           reading = λ k.
@@ -219,23 +186,12 @@ module _ (line : List ℕ) (at : ℕ) (old : List ℕ) (n : ℕ) (code : List �
           within = h.within;
           short = omega (arith, g.short, f.past, h.short);
           program =
-              rw s.0
+              rw e
               (joined (take n old) (take filled code) next m multiply_byte (postfix g.tree) (postfix h.tree)
               g.program h.program l);
         }
 
   module _ (g : Got PastSums line at old n code here filled) where
-    pub sums-end : ends_sum (rest_of line here) ≡ true → Got PastExpression line at old n code here filled
-    sums-end e =
-        record {
-          tree = g.tree;
-          reading = (g.reading.0, e);
-          further = g.further;
-          within = g.within;
-          short = g.short;
-          program = g.program;
-        }
-
     plus-read : Follows line here Plus after → (k : SumPlace)
         → want (rest_of line at) (at_sum k) ≡ want (rest_of line after) (at_term (after_plus g.tree k))
     plus-read f k =
@@ -246,25 +202,26 @@ module _ (line : List ℕ) (at : ℕ) (old : List ℕ) (n : ℕ) (code : List �
     minus-read f k =
         g.reading.0 k ∙ ap (λ (l : List Token). have l g.tree (at_sum k)) f.is ∙ step-minus (rest_of line after) g.tree k
 
-    pub sums-fail : (x : ℕ) → SumSign line here (Operator x after) → ((k : TermPlace) → want (rest_of line after) (at_term k) ≡ outside)
+    pub sums-fail : (o : Operator) → SumSign line here (Some (o, after)) → ((k : TermPlace) → want (rest_of line after) (at_term k) ≡ outside)
         → (k : SumPlace) → want (rest_of line at) (at_sum k) ≡ outside
-    sums-fail x s h k =
+    sums-fail o s h k =
         ⊎_elim
         (λ f. plus-read f.1 k ∙ h (after_plus g.tree k))
         (λ f. minus-read f.1 k ∙ h (after_minus g.tree k))
         s
 
-    pub sums-turn : (x : ℕ) (next : List ℕ) (end m : ℕ) → SumSign line here (Operator x after)
+    pub sums-turn : (o : Operator) (x : ℕ) (next : List ℕ) (end m : ℕ) → SumSign line here (Some (o, after)) → x ≡ byte_of o
         → Got PastTerm line after code filled next end m → m < length next
         → Got PastSums line at old n (set next m x) end (m + 1)
     unfolding postfix
-    sums-turn x next end m s h l = ⊎_elim plus minus s
+    sums-turn o x next end m s e h l = ⊎_elim plus minus s
       where
-        grows : (y : ℕ) → x ≡ y → take (m + 1) (set next m x) ≡ take n old ++ (postfix g.tree ++ postfix h.tree ++ (y ∷ []))
-        grows y e =
-            rw e (joined (take n old) (take filled code) next m y (postfix g.tree) (postfix h.tree) g.program h.program l)
+        grows : (y : Operator) → o ≡ y → take (m + 1) (set next m x) ≡ take n old ++ (postfix g.tree ++ postfix h.tree ++ (byte_of y ∷ []))
+        grows y f =
+            rw (e, f)
+            (joined (take n old) (take filled code) next m (byte_of y) (postfix g.tree) (postfix h.tree) g.program h.program l)
 
-        plus : (x ≡ add_byte) × Follows line here Plus after → Got PastSums line at old n (set next m x) end (m + 1)
+        plus : (o ≡ Add) × Follows line here Plus after → Got PastSums line at old n (set next m x) end (m + 1)
         plus f =
             record {
               tree = sum g.tree h.tree;
@@ -278,10 +235,10 @@ module _ (line : List ℕ) (at : ℕ) (old : List ℕ) (n : ℕ) (code : List �
               further = omega (arith, g.further, f.1.past, h.further);
               within = h.within;
               short = omega (arith, g.short, f.1.past, h.short);
-              program = grows add_byte f.0;
+              program = grows Add f.0;
             }
 
-        minus : (x ≡ subtract_byte) × Follows line here Minus after → Got PastSums line at old n (set next m x) end (m + 1)
+        minus : (o ≡ Subtract) × Follows line here Minus after → Got PastSums line at old n (set next m x) end (m + 1)
         minus f =
             record {
               tree = difference g.tree h.tree;
@@ -295,24 +252,17 @@ module _ (line : List ℕ) (at : ℕ) (old : List ℕ) (n : ℕ) (code : List �
               further = omega (arith, g.further, f.1.past, h.further);
               within = h.within;
               short = omega (arith, g.short, f.1.past, h.short);
-              program = grows subtract_byte f.0;
+              program = grows Subtract f.0;
             }
 
 -- an operator takes a byte at least
-pub sign-past : (line : List ℕ) (at x after : ℕ) → SumSign line at (Operator x after) → (at < after) × (after ≤ length line)
-sign-past line at x after s = ⊎_elim (λ f. (f.1.past, f.1.within)) (λ f. (f.1.past, f.1.within)) s
+pub sign-past : (line : List ℕ) (at : ℕ) (o : Operator) (after : ℕ) → SumSign line at (Some (o, after)) → (at < after) × (after ≤ length line)
+sign-past line at o after s = ⊎_elim (λ f. (f.1.past, f.1.within)) (λ f. (f.1.past, f.1.within)) s
 
 module _ {past : Past} {line : List ℕ} {at : ℕ} {old : List ℕ} {n : ℕ} {code : List ℕ} {here filled after : ℕ}
-    (r : Room line at old n) (g : Got past line at old n code here filled) (p : here < after) (e : after ≤ length line)
-    (s : length code ≡ length old) where
-  -- the program has room for what is read on
-  pub room-on : Room line after code filled
-  room-on = record { place = e; behind = omega (arith, r.behind, g.short); enough = omega (arith, r.enough) }
-
-  -- and for an operator behind that
+    (behind : n ≤ at) (enough : length line ≤ length old) (g : Got past line at old n code here filled) (p : here < after)
+    (e : after ≤ length line) (s : length code ≡ length old) where
+  -- the program has room for an operator behind what is read on
   pub room_for : {past' : Past} (next : List ℕ) (end m : ℕ) → Got past' line after code filled next end m → length next ≡ length code
       → m < length next
-  room_for next end m h k = omega (arith, r.behind, r.enough, g.short, h.short, h.within)
-
-pub token-past : {line : List ℕ} {at : ℕ} {t : Token} {after : ℕ} → Follows line at t after → (at < after) × (after ≤ length line)
-token-past f = (f.past, f.within)
+  room_for next end m h k = omega (arith, g.short, h.short, h.within)

@@ -1,6 +1,7 @@
 -- A line as a whole: its reading ends at its end, and its parentheses are counted byte by byte.
 --     deepest-turn, deepest-end, open-bound      the count of open parentheses
---     read_whole, read_behind                    an expression that ends at the line's end, and one that does not
+--     read_whole, read_on                        an expression that ends at the line's end, and one that does not
+--     none-left                                  no token comes next
 --     long, not-read, deep, fine                 what the line is refused with
 -- Assumes nothing.
 use mathlib.Core.Path.{◌≡◌, refl, sym, ap, ◌∙◌, subst}
@@ -13,7 +14,7 @@ use lib.Dec.{eqb, ltb}
 use lib.ListN.{length, get_or, drop, drop_of_length-le}
 use lib.Seq.{drop-cons}
 use borrow.Author.Tests.{lt-ltb, le-ltb}
-use Rattle.std.specs.Prelude.{Ok, Err}
+use Rattle.std.specs.Prelude.{Ok, Err, Option, Some, None, is_some}
 use Rattle.refusal.specs.Limits.{max_line, max_open}
 use Rattle.refusal.specs.Lowest.{lowest}
 use Rattle.refusal.specs.declared.Refusal.TheVariants.{Line, Nesting}
@@ -24,7 +25,7 @@ use Rattle.lines.specs.Grammar.{tokens, open_behind, deepest, Tree}
 use Rattle.lines.specs.Reader.{reads, outside, whole, first_term, first_factor, reading_of, want, have, closed, ended}
 use Rattle.lines.specs.Reader.{term_place, term_tree, sum_place, sum_tree}
 use Rattle.lines.proofs.Readings.{no-term}
-use Rattle.lines.specs.Internal.{ends_sum, rest_of, Follows, Got, PastExpression}
+use Rattle.lines.specs.Internal.{ends_sum, rest_of, Begins, Follows, Got, PastExpression}
 use Rattle.lines.specs.Lines.{outside_grammar, too_deep, line_refusals}
 
 pub open-bound : (before b : ℕ) → open_behind before b ≤ before + 1
@@ -71,12 +72,20 @@ module _ (line old new : List ℕ) (end n : ℕ) (g : Got PastExpression line 0 
   read_whole e = g.reading.0 whole ∙ ap (λ (l : List Token). have l g.tree (first_factor (first_term whole))) e ∙ nothing-behind
       g.tree
 
-  pub read_behind : (t : Token) (after : ℕ) → Follows line end t after → reading_of (tokens line) ≡ outside
+  read_behind : (t : Token) (after : ℕ) → Follows line end t after → reading_of (tokens line) ≡ outside
   unfolding reading_of
   read_behind t after f =
       g.reading.0 whole
       ∙ ap (λ (l : List Token). have l g.tree (first_factor (first_term whole))) f.is
       ∙ behind t (rest_of line after) g.tree (subst (λ (l : List Token). ends_sum l ≡ true) f.is g.reading.1)
+
+  pub read_on : (t : Option (Token × ℕ)) → Begins line end t → is_some t ≡ true → reading_of (tokens line) ≡ outside
+  read_on (Some t) f e = read_behind t.0 t.1 f
+  read_on None f e = no-term e
+
+pub none-left : (line : List ℕ) (end : ℕ) (t : Option (Token × ℕ)) → Begins line end t → is_some t ≡ false → rest_of line end ≡ []
+none-left line end (Some t) f e = no-term (sym e)
+none-left line end None f e = f
 
 -- what is refused, as the chain of tests that the code makes
 module _ (line : List ℕ) where

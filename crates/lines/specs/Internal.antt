@@ -1,31 +1,31 @@
 -- What the functions need and promise that read a line, in terms of the reader. A place is a number of bytes of the line; `old` and `new`
--- are the program's bytes before and after a call, n and m how many of them are written.
+-- are a parser, or the program's bytes, before and after a call, n and m how many of these are written.
 --     ends_term           no * comes next: a term ends here
 --     ends_sum            no operator comes next: an expression ends here
 --     rest_of             the tokens of the line from a place on
---     Skipped            r is the next place that is no space
---     Follows            this token comes next, and ends at this place
---     Begins             the token that comes next
---     SumSign            whether + or - comes next; where a term has ended, an expression ends if neither does
---     ProductSign        whether * comes next; a term ends if it does not
---     PastFactor, ..     the reader gets past the tokens s with the tree e, and is left with t: a factor; factors joined by *, and such a
---                        whole term; terms joined by + or -, and such a whole expression
+--     Skipped             r is the next place that is no space
+--     Follows             this token comes next, and ends at this place
+--     Begins              the token that comes next
+--     SumSign             whether + or - comes next; where a term has ended, an expression ends if neither does
+--     ProductSign         whether * comes next; a term ends if it does not
+--     PastFactor, ..      the reader gets past the tokens s with the tree e, and is left with t: a factor; factors joined by *, and such a
+--                         whole term; terms joined by + or -, and such a whole expression
 --     Room                the program has room for what is still to be read
+--     Same                the line, and where the program goes, are those from before
+--     Wrote               the program has a byte more
 --     Got                 what was read from a place on: its tree, where it ends, and the program that was written for it
---     said_factor, ..     what the function that reads a factor, a term or an expression says
+--     Read                the same of a parser
+--     said_factor, ..     what the method says that reads a factor, a term or an expression
 -- Assumes nothing.
-use Rattle.std.specs.Prelude.{◌≡◌, Bool, true, false, ◌⊎◌, List, [], ◌∷◌, ◌++◌, ℕ, ◌+◌, ◌<◌, ◌≤◌, length, get_or, take, drop}
+use Rattle.std.specs.Prelude.{◌≡◌, Bool, true, false, ◌⊎◌, List, [], ◌∷◌, ◌++◌, ℕ, ◌+◌, ◌<◌, ◌≤◌, length, get_or, take, drop, set, Option, Some, None}
 use Rattle.lines.specs.declared.Token.{Token}
 use Rattle.lines.specs.declared.Token.TheVariants.{Number, Plus, Minus, Times, Derive, Open, Close, Wrong}
-use Rattle.lines.specs.declared.Next.{Next}
-use Rattle.lines.specs.declared.Next.TheVariants as next
-use Rattle.lines.specs.declared.Sign.{Sign}
-use Rattle.lines.specs.declared.Sign.TheVariants.{Operator, Other}
-use Rattle.lines.specs.declared.Parsed.{Parsed}
-use Rattle.lines.specs.declared.Parsed.TheVariants.{Read, Nothing}
+use Rattle.lines.specs.declared.Operator.{Operator}
+use Rattle.lines.specs.declared.Operator.TheVariants.{Add, Subtract}
+use Rattle.lines.specs.declared.Parser.{Parser}
 use Rattle.lines.specs.Grammar.{tokens, Tree}
 use Rattle.lines.specs.Reader.{outside, SumPlace, TermPlace, FactorPlace, first_factor, first_term, want, have}
-use Rattle.lines.specs.Program.{add_byte, subtract_byte, multiply_byte, postfix}
+use Rattle.lines.specs.Program.{postfix}
 
 abbrev pub ends_term : List Token → Bool
 ends_term [] = true
@@ -63,18 +63,18 @@ pub record Follows (line : List ℕ) (at : ℕ) (token : Token) (after : ℕ) : 
   pub past : at < after
   pub within : after ≤ length line
 
-abbrev pub Begins : List ℕ → ℕ → Next → Type 0
-Begins line at (next.Token token after) = Follows line at token after
-Begins line at next.End = rest_of line at ≡ []
+abbrev pub Begins : List ℕ → ℕ → Option (Token × ℕ) → Type 0
+Begins line at (Some (token, after)) = Follows line at token after
+Begins line at None = rest_of line at ≡ []
 
-abbrev pub SumSign : List ℕ → ℕ → Sign → Type 0
-SumSign line at (Operator code after) =
-    ((code ≡ add_byte) × Follows line at Plus after) ⊎ ((code ≡ subtract_byte) × Follows line at Minus after)
-SumSign line at Other = ends_term (rest_of line at) ≡ true → ends_sum (rest_of line at) ≡ true
+abbrev pub SumSign : List ℕ → ℕ → Option (Operator × ℕ) → Type 0
+SumSign line at (Some (operator, after)) =
+    ((operator ≡ Add) × Follows line at Plus after) ⊎ ((operator ≡ Subtract) × Follows line at Minus after)
+SumSign line at None = ends_term (rest_of line at) ≡ true → ends_sum (rest_of line at) ≡ true
 
-abbrev pub ProductSign : List ℕ → ℕ → Sign → Type 0
-ProductSign line at (Operator code after) = (code ≡ multiply_byte) × Follows line at Times after
-ProductSign line at Other = ends_term (rest_of line at) ≡ true
+abbrev pub ProductSign : List ℕ → ℕ → Option ℕ → Type 0
+ProductSign line at (Some after) = Follows line at Times after
+ProductSign line at None = ends_term (rest_of line at) ≡ true
 
 abbrev pub Past : Type 1
 Past = List Token → Tree → List Token → Type 0
@@ -94,10 +94,21 @@ PastSums s e t = ((k : SumPlace) → want s (first_factor (first_term k)) ≡ ha
 abbrev pub PastExpression : Past
 PastExpression s e t = ((k : SumPlace) → want s (first_factor (first_term k)) ≡ have t e (first_factor (first_term k))) × (ends_sum t ≡ true)
 
-pub record Room (line : List ℕ) (at : ℕ) (code : List ℕ) (n : ℕ) : Type 0 where
-  pub place : at ≤ length line
-  pub behind : n ≤ at
-  pub enough : length line ≤ length code
+pub record Room (p : Parser) : Type 0 where
+  pub place : p.at ≤ length p.line.now
+  pub behind : p.filled ≤ p.at
+  pub enough : length p.line.now ≤ length p.code.now
+
+pub record Same (old new : Parser) : Type 0 where
+  pub line : new.line ≡ old.line
+  pub code : new.code.ghost_name ≡ old.code.ghost_name
+  pub room : length new.code.now ≡ length old.code.now
+
+pub record Wrote (x : ℕ) (old new : Parser) : Type 0 where
+  pub same : Same old new
+  pub at : new.at ≡ old.at
+  pub filled : new.filled ≡ old.filled + 1
+  pub code : new.code.now ≡ set old.code.now old.filled x
 
 pub record Got (past : Past) (line : List ℕ) (at : ℕ) (old : List ℕ) (n : ℕ) (new : List ℕ) (end m : ℕ) : Type 0 where
   pub tree : Tree
@@ -107,14 +118,18 @@ pub record Got (past : Past) (line : List ℕ) (at : ℕ) (old : List ℕ) (n : 
   pub short : m + at ≤ end + n
   pub program : take m new ≡ take n old ++ postfix tree
 
-abbrev pub said_factor : List ℕ → ℕ → List ℕ → ℕ → List ℕ → Parsed → Type 0
-said_factor line at old n new (Read end m) = Got PastFactor line at old n new end m
-said_factor line at old n new Nothing = (k : FactorPlace) → want (rest_of line at) k ≡ outside
+pub record Read (past : Past) (old new : Parser) : Type 0 where
+  pub same : Same old new
+  pub got : Got past old.line.now old.at old.code.now old.filled new.code.now new.at new.filled
 
-abbrev pub said_term : List ℕ → ℕ → List ℕ → ℕ → List ℕ → Parsed → Type 0
-said_term line at old n new (Read end m) = Got PastTerm line at old n new end m
-said_term line at old n new Nothing = (k : TermPlace) → want (rest_of line at) (first_factor k) ≡ outside
+abbrev pub said_factor : Parser → Parser → Option (Unit {0}) → Type 0
+said_factor old new (Some done) = Read PastFactor old new
+said_factor old new None = (k : FactorPlace) → want (rest_of old.line.now old.at) k ≡ outside
 
-abbrev pub said_expression : List ℕ → ℕ → List ℕ → ℕ → List ℕ → Parsed → Type 0
-said_expression line at old n new (Read end m) = Got PastExpression line at old n new end m
-said_expression line at old n new Nothing = (k : SumPlace) → want (rest_of line at) (first_factor (first_term k)) ≡ outside
+abbrev pub said_term : Parser → Parser → Option (Unit {0}) → Type 0
+said_term old new (Some done) = Read PastTerm old new
+said_term old new None = (k : TermPlace) → want (rest_of old.line.now old.at) (first_factor k) ≡ outside
+
+abbrev pub said_expression : Parser → Parser → Option (Unit {0}) → Type 0
+said_expression old new (Some done) = Read PastExpression old new
+said_expression old new None = (k : SumPlace) → want (rest_of old.line.now old.at) (first_factor (first_term k)) ≡ outside

@@ -7,25 +7,58 @@
 ghost use Rattle.std.specs.Prelude.{◌≡◌, ◌≤◌, ◌<◌, length};
 ghost use Rattle.refusal.specs.Limits.{max_line};
 ghost use Rattle.refusal.specs.Lowest.{lowest};
-ghost use Rattle.lines.specs.Grammar.{is_digit, sign_of, open_behind, deepest};
+ghost use Rattle.lines.specs.Grammar.{sign_of, open_behind, deepest};
+ghost use Rattle.lines.specs.Program.{byte_of, operator_at};
 ghost use Rattle.lines.specs.Lines.{line_refusals, read_outcome, judged_outcome, ProgramOf};
-ghost use Rattle.lines.specs.Internal.{Skipped, Begins, SumSign, ProductSign, Room, said_expression, said_term, said_factor};
+ghost use Rattle.lines.specs.Internal.{Skipped, Begins, SumSign, ProductSign, Room, Wrote, said_expression, said_term, said_factor};
 
 use refusal::Refusal;
 
-// The operators of a program. Below the first of them stand the numbers of lists, which have at most two digits.
+// The operators of a program.
+#[derive(Clone, Copy, Debug, PartialEq, Eq)]
+pub enum Operator {
+    Add,
+    Subtract,
+    Multiply,
+    Derive,
+}
+
+// The first byte of a program that is an operator. Below it stand the numbers of lists, which have at most two digits.
 pub const FIRST_OPERATOR: u8 = 100;
 
-pub const ADD: u8 = 100;
+// The byte of an operator.
+impl From<Operator> for u8 {
+    ghost from_gives = { λ operator x. x ≡ byte_of operator };
 
-pub const SUBTRACT: u8 = 101;
+    fn from(operator: Operator) -> u8 {
+        match operator {
+            Operator::Add => 100,
+            Operator::Subtract => 101,
+            Operator::Multiply => 102,
+            Operator::Derive => 103,
+        }
+    }
+}
 
-pub const MULTIPLY: u8 = 102;
+// The operator that a byte is; any other byte is handed back, in a program as the number of a list.
+impl TryFrom<u8> for Operator {
+    type Error = u8;
 
-pub const DERIVE: u8 = 103;
+    ghost try_from_gives = { λ x result. result ≡ operator_at x };
+
+    fn try_from(x: u8) -> Result<Operator, u8> {
+        match x {
+            100 => Ok(Operator::Add),
+            101 => Ok(Operator::Subtract),
+            102 => Ok(Operator::Multiply),
+            103 => Ok(Operator::Derive),
+            _ => Err(x),
+        }
+    }
+}
 
 // A token of a line. A byte that the grammar has no use for is a token of its own.
-#[derive(Clone, Copy)]
+#[derive(Clone, Copy, Debug, PartialEq, Eq)]
 pub enum Token {
     Number(u8),
     Plus,
@@ -37,25 +70,13 @@ pub enum Token {
     Wrong,
 }
 
-// The token that comes next, with the place behind it.
-#[derive(Clone, Copy)]
-enum Next {
-    Token(Token, usize),
-    End,
-}
-
-// The operator that comes next, as the program has it, with the place behind it.
-#[derive(Clone, Copy)]
-enum Sign {
-    Operator(u8, usize),
-    Other,
-}
-
-// Where in the line a reading ends, and how many bytes of the program are then written.
-#[derive(Clone, Copy)]
-enum Parsed {
-    Read(usize, usize),
-    Nothing,
+// A line that is read from a place on, and its program, of which so many bytes are written.
+#[derive(Drop)]
+struct Parser<'a> {
+    line: &'a [u8],
+    at: usize,
+    code: &'a mut [u8],
+    filled: usize,
 }
 
 // Reads a line. Its program goes to the start of `code`; what follows there, and all of it where the line is refused, is scratch. A slice
@@ -79,16 +100,20 @@ fn read_into(line: &[u8], code: &mut [u8]) -> Result<usize, Refusal>
     if refusal::MAX_LINE < line.len() {
         return Err(Refusal::Line);
     }
-    let Parsed::Read(end, n) = expression(line, 0, code, 0) else {
-        return Err(Refusal::Line);
+    let mut parser = Parser {
+        line,
+        at: 0,
+        code,
+        filled: 0,
     };
-    let Next::End = token_at(line, end) else {
+    parser.expression().ok_or(Refusal::Line)?;
+    if token_at(line, parser.at).is_some() {
         return Err(Refusal::Line);
-    };
+    }
     if refusal::MAX_OPEN < nesting(line) {
         return Err(Refusal::Nesting);
     }
-    Ok(n)
+    Ok(parser.filled)
 }
 
 // How many parentheses are open behind a byte, of so many open before it.
@@ -113,22 +138,13 @@ fn nesting(line: &[u8]) -> usize
     requires { length line.now ≤ max_line }
     ensures { result ≡ deepest 0 line.now }
 {
-    let mut most = 0;
+    let mut most: usize = 0;
     let mut depth = 0;
-    let mut i = 0;
-    while i < line.len() {
-        most = words::larger(most, depth);
-        depth = open_behind(depth, line[i]);
-        i += 1;
+    for &b in line {
+        most = most.max(depth);
+        depth = open_behind(depth, b);
     }
-    words::larger(most, depth)
-}
-
-// Whether a byte is a decimal digit.
-fn is_digit(b: u8) -> bool
-    ensures { result ≡ is_digit b }
-{
-    b'0' <= b && b <= b'9'
+    most.max(depth)
 }
 
 // The token of a byte that is no digit and no space.
@@ -151,149 +167,117 @@ fn skip_spaces(line: &[u8], at: usize) -> usize
     requires { at ≤ length line.now }
     ensures { Skipped line.now at result }
 {
-    let mut i = at;
-    while i < line.len() {
-        if line[i] != b' ' {
-            return i;
-        }
-        i += 1;
+    match line[at..].iter().position(|&b| b != b' ') {
+        Some(spaces) => at + spaces,
+        None => line.len(),
     }
-    i
 }
 
-// The token that comes next. A number takes at most two digits: a third begins another number.
-fn token_at(line: &[u8], at: usize) -> Next
+// The token that comes next, and the place behind it. A number takes at most two digits: a third begins another number.
+fn token_at(line: &[u8], at: usize) -> Option<(Token, usize)>
     requires { at ≤ length line.now }
     ensures { Begins line.now at result }
 {
     let i = skip_spaces(line, at);
-    if i == line.len() {
-        return Next::End;
+    let a = *line.get(i)?;
+    if !a.is_ascii_digit() {
+        return Some((sign_of(a), i + 1));
     }
-    let a = line[i];
-    if !is_digit(a) {
-        return Next::Token(sign_of(a), i + 1);
+    let digit = a - b'0';
+    if let Some(&b) = line.get(i + 1) {
+        if b.is_ascii_digit() {
+            return Some((Token::Number(10 * digit + (b - b'0')), i + 2));
+        }
     }
-    if i + 1 == line.len() {
-        return Next::Token(Token::Number(a - b'0'), i + 1);
-    }
-    let b = line[i + 1];
-    if !is_digit(b) {
-        return Next::Token(Token::Number(a - b'0'), i + 1);
-    }
-    Next::Token(Token::Number(10 * (a - b'0') + (b - b'0')), i + 2)
+    Some((Token::Number(digit), i + 1))
 }
 
-// The + or - that comes next.
-fn sum_sign(line: &[u8], at: usize) -> Sign
+// The + or - that comes next, and the place behind it.
+fn sum_sign(line: &[u8], at: usize) -> Option<(Operator, usize)>
     requires { at ≤ length line.now }
     ensures { SumSign line.now at result }
 {
-    match token_at(line, at) {
-        Next::Token(token, after) => match token {
-            Token::Plus => Sign::Operator(ADD, after),
-            Token::Minus => Sign::Operator(SUBTRACT, after),
-            _ => Sign::Other,
-        },
-        Next::End => Sign::Other,
+    match token_at(line, at)? {
+        (Token::Plus, after) => Some((Operator::Add, after)),
+        (Token::Minus, after) => Some((Operator::Subtract, after)),
+        _ => None,
     }
 }
 
-// The * that comes next.
-fn product_sign(line: &[u8], at: usize) -> Sign
+// The place behind the * that comes next.
+fn product_sign(line: &[u8], at: usize) -> Option<usize>
     requires { at ≤ length line.now }
     ensures { ProductSign line.now at result }
 {
-    match token_at(line, at) {
-        Next::Token(token, after) => match token {
-            Token::Times => Sign::Operator(MULTIPLY, after),
-            _ => Sign::Other,
-        },
-        Next::End => Sign::Other,
+    match token_at(line, at)? {
+        (Token::Times, after) => Some(after),
+        _ => None,
     }
 }
 
-// Reads an expression from a place on: terms, with + or - between them. Its program goes behind the first n bytes of `code`.
-#[cycle(expression_factor_term)]
-fn expression(line: &[u8], at: usize, code: &mut [u8], n: usize) -> Parsed
-    requires { Room line.now at code.old n }
-    ensures { said_expression line.now at code.old n code.new result }
-{
-    let Parsed::Read(first, begun) = term(line, at, code, n) else {
-        return Parsed::Nothing;
-    };
-    let mut here = first;
-    let mut filled = begun;
-    loop {
-        let Sign::Operator(operator, after) = sum_sign(line, here) else {
-            return Parsed::Read(here, filled);
-        };
-        let Parsed::Read(end, m) = term(line, after, code, filled) else {
-            return Parsed::Nothing;
-        };
-        code[m] = operator;
-        here = end;
-        filled = m + 1;
+impl Parser<'_> {
+    // A byte more of the program.
+    fn write(&mut self, x: u8)
+        requires { self.old.filled < length self.old.code.now }
+        ensures { Wrote x self.old self.new }
+    {
+        self.code[self.filled] = x;
+        self.filled += 1;
     }
-}
 
-// The same of a term: factors, with * between them.
-#[cycle(expression_factor_term)]
-fn term(line: &[u8], at: usize, code: &mut [u8], n: usize) -> Parsed
-    requires { Room line.now at code.old n }
-    ensures { said_term line.now at code.old n code.new result }
-{
-    let Parsed::Read(first, begun) = factor(line, at, code, n) else {
-        return Parsed::Nothing;
-    };
-    let mut here = first;
-    let mut filled = begun;
-    loop {
-        let Sign::Operator(operator, after) = product_sign(line, here) else {
-            return Parsed::Read(here, filled);
-        };
-        let Parsed::Read(end, m) = factor(line, after, code, filled) else {
-            return Parsed::Nothing;
-        };
-        code[m] = operator;
-        here = end;
-        filled = m + 1;
-    }
-}
-
-// The same of a factor: a number, D and a factor, or an expression in parentheses.
-#[cycle(expression_factor_term)]
-fn factor(line: &[u8], at: usize, code: &mut [u8], n: usize) -> Parsed
-    requires { Room line.now at code.old n }
-    ensures { said_factor line.now at code.old n code.new result }
-{
-    let Next::Token(token, after) = token_at(line, at) else {
-        return Parsed::Nothing;
-    };
-    match token {
-        Token::Number(list) => {
-            code[n] = list;
-            Parsed::Read(after, n + 1)
+    // Reads an expression: terms, with + or - between them. None where no expression begins.
+    #[cycle(expression_factor_term)]
+    fn expression(&mut self) -> Option<()>
+        requires { Room self.old }
+        ensures { said_expression self.old self.new result }
+    {
+        self.term()?;
+        while let Some((operator, after)) = sum_sign(self.line, self.at) {
+            self.at = after;
+            self.term()?;
+            self.write(u8::from(operator));
         }
-        Token::Derive => {
-            let Parsed::Read(end, m) = factor(line, after, code, n) else {
-                return Parsed::Nothing;
-            };
-            code[m] = DERIVE;
-            Parsed::Read(end, m + 1)
+        Some(())
+    }
+
+    // The same of a term: factors, with * between them.
+    #[cycle(expression_factor_term)]
+    fn term(&mut self) -> Option<()>
+        requires { Room self.old }
+        ensures { said_term self.old self.new result }
+    {
+        self.factor()?;
+        while let Some(after) = product_sign(self.line, self.at) {
+            self.at = after;
+            self.factor()?;
+            self.write(u8::from(Operator::Multiply));
         }
-        Token::Open => {
-            let Parsed::Read(end, m) = expression(line, after, code, n) else {
-                return Parsed::Nothing;
-            };
-            let Next::Token(last, beyond) = token_at(line, end) else {
-                return Parsed::Nothing;
-            };
-            match last {
-                Token::Close => Parsed::Read(beyond, m),
-                _ => Parsed::Nothing,
+        Some(())
+    }
+
+    // The same of a factor: a number, D and a factor, or an expression in parentheses.
+    #[cycle(expression_factor_term)]
+    fn factor(&mut self) -> Option<()>
+        requires { Room self.old }
+        ensures { said_factor self.old self.new result }
+    {
+        let (token, after) = token_at(self.line, self.at)?;
+        self.at = after;
+        match token {
+            Token::Number(list) => self.write(list),
+            Token::Derive => {
+                self.factor()?;
+                self.write(u8::from(Operator::Derive));
             }
+            Token::Open => {
+                self.expression()?;
+                let (Token::Close, beyond) = token_at(self.line, self.at)? else {
+                    return None;
+                };
+                self.at = beyond;
+            }
+            _ => return None,
         }
-        _ => Parsed::Nothing,
+        Some(())
     }
 }

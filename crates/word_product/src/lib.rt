@@ -3,37 +3,19 @@
 // the second. The shorter factor is the first, as that has fewer words to form.
 #![tactic(auto)]
 
-ghost use Rattle.std.specs.Prelude.{◌≡◌, ◌+◌, ◌-◌, ◌*◌, ◌^◌, ◌≤◌, ◌<◌, length, reverse, sum_by, zip};
+ghost use Rattle.std.specs.Prelude.{◌≡◌, ◌+◌, ◌-◌, ◌*◌, ◌≤◌, ◌<◌, length};
 ghost use Rattle.refusal.specs.Limits.{max_words};
 ghost use Rattle.field.specs.Fields.{field_at};
 ghost use Rattle.lists.specs.Words.{ZeroFrom};
 ghost use Rattle.word_product.specs.Convolution.{convolved_into, convolution};
 ghost use Rattle.word_product.specs.Sums.{word_sum, Ready};
 
-// Two factors of at most so many words together are few, more or many.
+// Two factors of at most so many words together take the smaller buffers, as there is less to fill with zeros.
 const FEW: usize = 48;
 
 const MORE: usize = 272;
 
 const MANY: usize = 704;
-
-// The words of their buffers, which are filled with zeros, so that each size has buffers of its own; ANY is for any two factors.
-const FEW_WORDS: usize = FEW + 48;
-
-const MORE_WORDS: usize = MORE + 48;
-
-const MANY_WORDS: usize = MANY + 48;
-
-const ANY_WORDS: usize = refusal::MAX_WORDS + 48;
-
-// And of those that have two words for each of the others.
-const FEW_PAIRS: usize = 2 * FEW_WORDS;
-
-const MORE_PAIRS: usize = 2 * MORE_WORDS;
-
-const MANY_PAIRS: usize = 2 * MANY_WORDS;
-
-const ANY_PAIRS: usize = 2 * ANY_WORDS;
 
 // A product of two words.
 fn times(a: u16, b: u16) -> u64
@@ -42,25 +24,19 @@ fn times(a: u16, b: u16) -> u64
     (a as u64) * (b as u64)
 }
 
-// The sum of the products of the words of a with those of b from its end.
-fn crossed(a: &[u16], b: &[u16]) -> u64
-    requires { sum_by (λ p. p.0 * p.1) (zip a.now (reverse b.now)) < 2 ^ 64 }
-    ensures { result ≡ sum_by (λ p. p.0 * p.1) (zip a.now (reverse b.now)) }
-{
-    a.iter()
-        .zip(b.iter().rev())
-        .map(|(x, y)| times(*x, *y))
-        .sum()
-}
-
-// Word k of the product, in whole numbers: the rows that have a word there, each with that word.
+// Word k of the product, in whole numbers, from the rows that have a word there. An index: of two slices, zipped, the number of turns is
+// more work to find, and a tiny product takes up to a tenth longer.
 fn dot(a: &[u16], b: &[u16], k: usize) -> u64
     requires { (k + 1 < length a.now + length b.now) × (length a.now ≤ max_words) × (length b.now ≤ max_words) }
     ensures { result ≡ word_sum a.now b.now k }
 {
     let first = (k + 1).saturating_sub(b.len());
     let end = (k + 1).min(a.len());
-    crossed(&a[first..end], &b[k + 1 - end..k + 1 - first])
+    let mut s = 0;
+    for j in first..end {
+        s += times(a[j], b[k - j]);
+    }
+    s
 }
 
 // The product, word by word.
@@ -111,20 +87,20 @@ fn convolve_in(
     word_grid::reduce_words(lo, hi, out, p as u32);
 }
 
-// The product, with buffers of the sizes that are given: X words for a factor, W for pairs of words, S for the sums.
-fn convolve_sized<const X: usize, const W: usize, const S: usize>(
+// The product, with buffers of so many words: X and Y for the factors, W for the second where each word has a neighbour, S for each sum.
+fn convolve_sized<const X: usize, const Y: usize, const W: usize, const S: usize>(
     field: u8,
     a: &[u16],
     b: &[u16],
     out: &mut [u16],
 )
     requires a_len_bound { (length a.now ≤ max_words) × (length b.now ≤ max_words) × (length out.old + 1 ≡ length a.now + length b.now) }
-    requires sizes { (X ≤ 65536) × (W ≤ 65536) × (S ≤ 65536) }
-    requires room { (length a.now + 15 ≤ X) × (length b.now + 47 ≤ X) × (2 * length b.now + 92 ≤ W) × (length a.now + length b.now + 29 ≤ S) }
+    requires fits { (length a.now + 15 ≤ X) × (length b.now + 47 ≤ Y) × (2 * length b.now + 92 ≤ W) × (length a.now + length b.now + 29 ≤ S) }
+    requires sizes { (X ≤ 4096) × (Y ≤ 4096) × (W ≤ 4096) × (S ≤ 4096) }
     ensures { out.new ≡ convolution (field_at field) a.now b.now }
 {
     let mut x = [0u16; X];
-    let mut y = [0u16; X];
+    let mut y = [0u16; Y];
     let mut w = [0u16; W];
     let mut v = [0u16; 256];
     let mut lo = [0u32; S];
@@ -142,7 +118,7 @@ fn tiny(n: usize) -> usize
     if n <= 4 { 24 } else { 20 }
 }
 
-// The product, where the lengths fit, with buffers of the size that it needs.
+// The product, where the lengths fit, with buffers of the sizes that it needs: multiples of 16 words.
 fn convolve_fitting(field: u8, a: &[u16], b: &[u16], out: &mut [u16])
     requires { (length a.now ≤ max_words) × (length b.now ≤ max_words) × (length out.old + 1 ≡ length a.now + length b.now) }
     ensures { out.new ≡ convolution (field_at field) a.now b.now }
@@ -153,18 +129,18 @@ fn convolve_fitting(field: u8, a: &[u16], b: &[u16], out: &mut [u16])
         return;
     }
     if together <= FEW {
-        convolve_sized::<FEW_WORDS, FEW_PAIRS, FEW_WORDS>(field, a, b, out);
+        convolve_sized::<64, 96, 192, 80>(field, a, b, out);
         return;
     }
     if together <= MORE {
-        convolve_sized::<MORE_WORDS, MORE_PAIRS, MORE_WORDS>(field, a, b, out);
+        convolve_sized::<288, 320, 640, 304>(field, a, b, out);
         return;
     }
     if together <= MANY {
-        convolve_sized::<MANY_WORDS, MANY_PAIRS, MANY_WORDS>(field, a, b, out);
+        convolve_sized::<720, 752, 1504, 736>(field, a, b, out);
         return;
     }
-    convolve_sized::<ANY_WORDS, ANY_PAIRS, ANY_PAIRS>(field, a, b, out);
+    convolve_sized::<1040, 1072, 2144, 2080>(field, a, b, out);
 }
 
 // The words of the product of two scaled forms.

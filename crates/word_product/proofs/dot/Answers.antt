@@ -1,16 +1,15 @@
--- `word_product::dot` meets its contract: the rows that are left out have no word at k.
+-- `word_product::dot` meets its contract: each turn is one row more.
 -- Assumes nothing.
-use mathlib.Core.Path.{◌∙◌}
+use mathlib.Core.Path.{sym, ◌∙◌}
 use native.Mathlib.Omega.{arith}
-use Rattle.word_product.proofs.RowSums.{crossed-is, word-small}
+use Rattle.word_product.proofs.RowSums.{dot-start, dot-next, dot-end}
 use Rattle.word_product.proofs.dot.Goals as goal
 
-pub crossed-requires : goal.crossed-requires
-crossed-requires c =
-    let a = c.args.a.now in
-    let b = c.args.b.now in
-    let e = crossed-is a b c.args.k _ _ c.saturating_sub-first.ensures c.min-end.ensures c.requires.0 in
-    rw e (word-small a b c.args.k (λ i. omega (arith, (c.type_inv.a i).fits)) (λ i. omega (arith, (c.type_inv.b i).fits)) (omega arith))
+pub loop-j-init : goal.loop-j-init
+loop-j-init c = (omega arith, sym (dot-start _ _ _ _ c.saturating_sub-first.ensures))
+
+pub loop-j-preserved : goal.loop-j-preserved
+loop-j-preserved c = (omega arith, omega (arith, dot-next c.args.a.now c.args.b.now c.args.k c.loop-j.j))
 
 pub returns : goal.returns
-returns c = c.crossed.ensures ∙ crossed-is c.args.a.now c.args.b.now c.args.k _ _ c.saturating_sub-first.ensures c.min-end.ensures c.requires.0
+returns c = c.loop-j.invariant.1 ∙ dot-end _ _ _ _ (omega arith)

@@ -3,7 +3,7 @@
 // the second. The shorter factor is the first, as that has fewer words to form.
 #![tactic(auto)]
 
-ghost use Rattle.std.specs.Prelude.{◌≡◌, ◌+◌, ◌-◌, ◌*◌, ◌≤◌, ◌<◌, length};
+ghost use Rattle.std.specs.Prelude.{◌≡◌, ◌+◌, ◌-◌, ◌*◌, ◌≤◌, ◌<◌, min, length};
 ghost use Rattle.refusal.specs.Limits.{max_words};
 ghost use Rattle.field.specs.Fields.{field_at};
 ghost use Rattle.lists.specs.Words.{ZeroFrom};
@@ -24,16 +24,30 @@ fn times(a: u16, b: u16) -> u64
     (a as u64) * (b as u64)
 }
 
-// Word k of the product, in whole numbers, from the rows that have a word there. An index: of two slices, zipped, the number of turns is
-// more work to find, and a tiny product takes up to a tenth longer.
+// The first row that has a word at k, where the second factor has m words. By a test: from `saturating_sub`, and `min` below, LLVM makes
+// more to compute for each word, and a tiny product takes up to a tenth longer.
+fn first_row(k: usize, m: usize) -> usize
+    requires { (k ≤ 2 * max_words) × (m ≤ max_words) }
+    ensures { result ≡ k + 1 - m }
+{
+    if k < m { 0 } else { k + 1 - m }
+}
+
+// After the last row that has one, where there are n rows.
+fn end_row(k: usize, n: usize) -> usize
+    requires { (k ≤ 2 * max_words) × (n ≤ max_words) }
+    ensures { result ≡ min (k + 1) n }
+{
+    if k < n { k + 1 } else { n }
+}
+
+// Word k of the product, in whole numbers. An index: of the factors' words, zipped, a tiny product takes up to a tenth longer too.
 fn dot(a: &[u16], b: &[u16], k: usize) -> u64
     requires { (k + 1 < length a.now + length b.now) × (length a.now ≤ max_words) × (length b.now ≤ max_words) }
     ensures { result ≡ word_sum a.now b.now k }
 {
-    let first = (k + 1).saturating_sub(b.len());
-    let end = (k + 1).min(a.len());
     let mut s = 0;
-    for j in first..end {
+    for j in first_row(k, b.len())..end_row(k, a.len()) {
         s += times(a[j], b[k - j]);
     }
     s

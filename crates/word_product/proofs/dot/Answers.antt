@@ -6,7 +6,7 @@ use Rattle.word_product.proofs.RowSums.{dot-start, dot-next, dot-end}
 use Rattle.word_product.proofs.dot.Goals as goal
 
 pub loop-j-init : goal.loop-j-init
-loop-j-init c = (omega arith, sym (dot-start _ _ _ _ c.saturating_sub-first.ensures))
+loop-j-init c = (omega arith, sym (dot-start _ _ _ _ c.first_row-j.ensures))
 
 pub loop-j-preserved : goal.loop-j-preserved
 loop-j-preserved c = (omega arith, omega (arith, dot-next c.args.a.now c.args.b.now c.args.k c.loop-j.j))

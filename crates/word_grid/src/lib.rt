@@ -20,11 +20,9 @@ fn groups(
     requires odd { Odd w.now }
     ensures { Grid w.now x.now n lo.old hi.old count lo.new hi.new }
 {
-    let mut g = 0;
-    while g < count {
+    for g in 0..count {
         word_layout::spread(v, x, 16 * g, 8);
-        word_strips::group(lo, hi, w, x, v, g, n);
-        g += 1;
+        word_strips::group::<false>(lo, hi, w, x, v, g, n);
     }
 }
 
@@ -46,7 +44,7 @@ pub fn add_rows(
     groups(lo, hi, w, x, v, g, n);
     if 16 * g < m {
         word_layout::spread(v, x, 16 * g, 4);
-        word_strips::half_group(lo, hi, w, x, v, g, n);
+        word_strips::group::<true>(lo, hi, w, x, v, g, n);
     }
 }
 
@@ -79,7 +77,7 @@ fn last(r: u32, p: u32) -> u16
 fn low_of(a: u32, b: u32) -> u32
     ensures { result ≡ low_of a b }
 {
-    std::num::wrapping_sub_u32(a, 65536 * (b % 65536))
+    a.wrapping_sub(65536 * (b % 65536))
 }
 
 // The sum of the high halves, with a multiple of p that makes it a number.
@@ -87,7 +85,7 @@ fn high_of(b: u32, p: u32) -> u32
     requires { p ≤ 65521 }
     ensures { result ≡ high_of p b }
 {
-    std::num::wrapping_add_u32(b, 512 * p)
+    b.wrapping_add(512 * p)
 }
 
 // The remainder of the two halves' sums.
@@ -106,9 +104,7 @@ pub fn reduce_words(lo: &[u32], hi: &[u32], out: &mut [u16], p: u32)
     requires { (65497 ≤ p) × (p ≤ 65521) × (length out.old ≤ length lo.now) × (length out.old ≤ length hi.now) × Reducible p lo.now hi.now }
     ensures { out.new ≡ reduced_words p (length out.old) lo.now hi.now }
 {
-    let mut k = 0;
-    while k < out.len() {
-        out[k] = reduce(lo[k], hi[k], p);
-        k += 1;
+    for (k, word) in out.iter_mut().enumerate() {
+        *word = reduce(lo[k], hi[k], p);
     }
 }

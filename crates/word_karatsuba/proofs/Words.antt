@@ -7,10 +7,9 @@ use mathlib.Core.List.{List}
 use Prim.Native.Nat.{ℕ, ◌+◌, ◌-◌, ◌*◌, ◌%◌, ◌≤◌, ◌<◌}
 use native.Mathlib.Nat.{mod-lt, mod-eq_of_lt, add-mod-mod}
 use native.Mathlib.Omega.{arith}
-use lib.ListN.{get_or}
 use Rattle.lists.specs.Words.{ZeroFrom, Tight}
 use Rattle.word_montgomery.proofs.Words.{same}
-use Rattle.word_row.specs.Rows.{row, row_from, Partway}
+use Rattle.word_row.specs.Rows.{row, row_from}
 use Rattle.word_row.proofs.RowWords.{row_from-below}
 use Rattle.word_division.specs.Reduction.{negated}
 
@@ -41,10 +40,6 @@ minus_is p a b l h e =
 
     one : (p - 1 % p) % p ≡ p - 1
     one = ap (λ n. (p - n) % p) (mod-eq_of_lt l) ∙ mod-eq_of_lt (omega arith)
-
--- a word that the row has not reached
-pub still-below : {p m i : ℕ} {old y x : List ℕ} → Tight p old → Partway p old m y x i → get_or x i 0 < p
-still-below {p} {m} {i} {old} {y} {x} t w = rw (w.rest i (omega arith)) (t.at i)
 
 module _ (p : ℕ) (pos : 0 < p) where
   pub tight-zero : {x : List ℕ} → ZeroFrom 0 x → Tight p x

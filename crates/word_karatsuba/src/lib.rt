@@ -52,10 +52,8 @@ fn add_words(x: &mut [u16], y: &[u16], p: u16)
     requires { (length y.now ≤ length x.old) × (32768 ≤ p) × Tight p x.old }
     ensures { x.new ≡ row p x.old 1 y.now }
 {
-    let mut i = 0;
-    while i < y.len() {
-        x[i] = plus(x[i], y[i], p);
-        i += 1;
+    for (i, b) in y.iter().enumerate() {
+        x[i] = plus(x[i], *b, p);
     }
 }
 
@@ -64,10 +62,8 @@ pub fn sub_words(x: &mut [u16], y: &[u16], p: u16)
     requires { (length y.now ≤ length x.old) × (2 ≤ p) × Tight p x.old × Tight p y.now }
     ensures { x.new ≡ row p x.old (negated p 1) y.now }
 {
-    let mut i = 0;
-    while i < y.len() {
-        x[i] = word_montgomery::sub_below(x[i], y[i], p);
-        i += 1;
+    for (i, b) in y.iter().enumerate() {
+        x[i] = word_montgomery::sub_below(x[i], *b, p);
     }
 }
 
@@ -155,10 +151,7 @@ fn is_turned(n: usize, m: usize) -> bool
     requires { (n ≤ max_words) × (m ≤ max_words) }
     ensures { result ≡ (eqb n (m + 1) || ltb (n + 1) m) }
 {
-    if n == m + 1 {
-        return true;
-    }
-    n + 1 < m
+    n == m + 1 || n + 1 < m
 }
 
 // The words of the product of two scaled forms. Short factors go to `word_product` from here: called from two places, it is not written into

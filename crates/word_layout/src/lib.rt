@@ -12,11 +12,7 @@ fn centred(a: u16, p: u16) -> u16
     requires { 32768 ≤ p }
     ensures { Stand p a result × (0 < up result) }
 {
-    if a < 32768 {
-        a
-    } else {
-        std::num::wrapping_sub_u16(a, p)
-    }
+    if a < 32768 { a } else { a.wrapping_sub(p) }
 }
 
 // The words of a list, centred, from d on, in s, which is 0.
@@ -24,10 +20,8 @@ pub fn centre(s: &mut [u16], d: usize, list: &[u16], p: u16)
     requires { (d + length list.now ≤ length s.old) × (d ≤ 65536) × (32768 ≤ p) × ZeroFrom 0 s.old }
     ensures { Centred p d list.now s.new (length list.now) }
 {
-    let mut i = 0;
-    while i < list.len() {
-        s[d + i] = centred(list[i], p);
-        i += 1;
+    for (i, a) in list.iter().enumerate() {
+        s[d + i] = centred(*a, p);
     }
 }
 
@@ -36,12 +30,10 @@ fn repeat_pair(v: &mut [u16], o: usize, s: u16, t: u16)
     requires { (o + 32 ≤ length v.old) × (o ≤ 65536) }
     ensures { Repeated o s t 16 v.old v.new }
 {
-    let mut l = 0;
-    while l < 16 {
+    for l in 0..16 {
         let k = o + 2 * l;
         v[k] = s;
         v[k + 1] = t;
-        l += 1;
     }
 }
 
@@ -50,10 +42,8 @@ pub fn spread(v: &mut [u16], x: &[u16], d: usize, n: usize)
     requires { (32 * n ≤ length v.old) × (d + 2 * n ≤ length x.now) × (d ≤ 65536) × (n ≤ 8) }
     ensures { Spread n v.new x.now d }
 {
-    let mut j = 0;
-    while j < n {
+    for j in 0..n {
         repeat_pair(v, 32 * j, x[d + 2 * j], x[d + 2 * j + 1]);
-        j += 1;
     }
 }
 
@@ -62,11 +52,9 @@ pub fn weave(w: &mut [u16], y: &[u16], n: usize)
     requires { (2 * n ≤ length w.old) × (n < length y.now) × (n ≤ 65536) × ZeroFrom 0 w.old }
     ensures { Woven y.now w.new n }
 {
-    let mut q = 0;
-    while q < n {
+    for q in 0..n {
         let k = 2 * q;
         w[k] = y[q + 1];
         w[k + 1] = y[q];
-        q += 1;
     }
 }

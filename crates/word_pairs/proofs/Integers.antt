@@ -2,19 +2,18 @@
 --     add-diff, mul-diff, fits-diff, up-diff     an integer that is a difference: sums, products, whether it fits, and what it is above -2^31
 --     rd z, rd-diff, rd-fits, rd-up              what the machine reads back: an integer that fits, again
 --     most, least                                bounds of a product of two words read as signed
---     signed-fits, signed_is                     a word read as signed
+--     signed_is, bits_is                         a word read as signed, and an integer's bits
 --     Plain w z n                                an integer that is not negative, as an unsigned one of width w
 --     high_fits, high-plain                      an integer without its low half
---     wide_fits, bits-fits, bits-plain           an integer's bits, by 64 bits
 --     mul-fits, sum_fits, sum_is                 two products, and their sum
 --     first-whole .. high_sum                    sums modulo 2^32: the first number, one more, and all four
 -- Assumes nothing.
-use Rattle.std.proofs.Common.{◌≡◌, ℕ, zero, suc, ◌+◌, ◌-◌, ◌*◌, ◌/◌, ◌%◌, ◌<◌, ◌≤◌, T, ℤ, pos, negsuc, ◌+ℤ◌, ◌-ℤ◌, ◌*ℤ◌, neg_ℤ, nat_abs, sym, refl, ap, ◌∙◌, subst, mul-le-mul, arith, w32, w64, Fits, SFits, to_z, of_z, le-ltb, lt-ltb}
+use Rattle.std.proofs.Common.{◌≡◌, ℕ, zero, suc, ◌+◌, ◌-◌, ◌*◌, ◌/◌, ◌%◌, ◌<◌, ◌≤◌, T, ℤ, pos, negsuc, ◌+ℤ◌, ◌*ℤ◌, neg_ℤ, nat_abs, sym, refl, ap, ◌∙◌, subst, mul-le-mul, arith, w16, w32, Fits, SFits, to_z, of_z, le-ltb, lt-ltb}
 use native.Mathlib.Decide.{dec_lt}
 use lib.IntN.{sub_ℕ}
 use lib.Signed.{shr_z, non_neg}
 use mir.Syntax.{Width}
-use mir.ValLaws.{to_z-of_z, to_z_pos}
+use mir.ValLaws.{to_z-of_z, to_z_pos, to_z-neg}
 use Rattle.word_pairs.specs.Pairs.{up, up32, Diff, pair_of}
 
 sub-diff : (m n a b : ℕ) → m + b ≡ n + a → Diff (sub_ℕ m n) a b
@@ -84,15 +83,23 @@ least x y h g = go (dec_lt 32768 x)
     go (no q) = omega (arith, mul-le-mul {n₁ = 32768 - x} {m₁ = y} {n₂ = 32768 - x} {m₂ = 65535} (omega arith) (omega arith), split-low x y (omega arith))
 
 -- a word, as signed
-pub signed-diff : (n : ℕ) → n < 65536 → Diff (to_z w32 n -ℤ pos 32768) n 32768
-signed-diff n h = subst (λ z. Diff (z -ℤ pos 32768) n 32768) (sym (to_z_pos w32 n (omega arith))) (sub-diff n 32768 n 32768 (omega arith))
-
-pub signed-fits : (n : ℕ) → n < 65536 → SFits w32 (to_z w32 n -ℤ pos 32768)
-signed-fits n h = fits-diff _ n 32768 (signed-diff n h) (omega arith) (omega arith)
-
-pub signed_is : (x : ℕ) → Diff (rd (to_z w32 ((x + 32768) % 65536) -ℤ pos 32768)) (up x) 32768
+pub signed_is : (x : ℕ) → x < 65536 → Diff (to_z w16 x) (up x) 32768
 unfolding up
-signed_is x = rd-diff (to_z w32 ((x + 32768) % 65536) -ℤ pos 32768) ((x + 32768) % 65536) 32768 (signed-diff ((x + 32768) % 65536) (omega arith)) (omega arith) (omega arith)
+signed_is x h = go (dec_lt x 32768)
+  where
+    whole : ¬ (x < 32768) → 65536 - suc (65535 - x) ≡ x
+    whole n = omega arith
+
+    go : Dec (x < 32768) → Diff (to_z w16 x) ((x + 32768) % 65536) 32768
+    go (yes l) = rw (to_z_pos w16 x l) (omega arith)
+    go (no n) =
+        subst (λ z. Diff z ((x + 32768) % 65536) 32768) (sym (to_z-neg w16 (65535 - x) (omega arith)) ∙ ap (λ n. to_z w16 n) (whole n)) (omega arith)
+
+-- an integer's bits
+pub bits_is : (t : ℤ) → SFits w32 t → of_z w32 t ≡ (up32 t + 2147483648) % 4294967296
+unfolding up32
+bits_is (pos n) f = omega (arith, f.sfits)
+bits_is (negsuc n) f = omega (arith, f.sfits)
 
 -- what stays of an integer without its low half
 shift-diff : (t : ℤ) → SFits w32 t → Diff (shr_z t 65536) (up32 t / 65536) 32768
@@ -117,9 +124,6 @@ pub record Plain (w : Width) (z : ℤ) (n : ℕ) : Type 0 where
 plain32 : {z : ℤ} (n : ℕ) → n < 4294967296 → z ≡ pos n → Plain w32 z n
 plain32 {z} n h e = subst (λ x. Plain w32 x n) (sym e) (record { cast = (tt, record { fits = omega arith }); out = refl })
 
-plain64 : {z : ℤ} (n : ℕ) → n < 18446744073709551616 → z ≡ pos n → Plain w64 z n
-plain64 {z} n h e = subst (λ x. Plain w64 x n) (sym e) (record { cast = (tt, record { fits = omega arith }); out = refl })
-
 module _ (t : ℤ) (f : SFits w32 t) where
   shifted : rd (shr_z (rd t) 65536) +ℤ to_z w32 32768 ≡ pos (up32 t / 65536)
   shifted =
@@ -134,32 +138,6 @@ module _ (t : ℤ) (f : SFits w32 t) where
 
   pub high-plain : Plain w32 (rd (rd (shr_z (rd t) 65536) +ℤ to_z w32 32768)) (up32 t / 65536)
   high-plain = plain32 (up32 t / 65536) (omega (arith, up_small t f)) (to_z-of_z w32 _ high_fits ∙ shifted)
-
-  -- the bits, by 64 bits
-  whole-diff : (z : ℤ) → SFits w32 z → Diff z (up32 z) 2147483648
-  unfolding up32
-  whole-diff (pos n) g = omega arith
-  whole-diff (negsuc n) g = omega (arith, g.sfits)
-
-  wide : (z : ℤ) → SFits w32 z → SFits w64 z
-  wide (pos n) g = record { sfits = omega (arith, g.sfits) }
-  wide (negsuc n) g = record { sfits = omega (arith, g.sfits) }
-
-  pub wide_fits : SFits w64 (rd t)
-  wide_fits = subst (λ z. SFits w64 z) (sym (to_z-of_z w32 t f)) (wide t f)
-
-  raised : to_z w64 (of_z w64 (rd t)) +ℤ to_z w64 4294967296 ≡ pos (up32 t + 2147483648)
-  raised =
-      is_pos _ (up32 t + 2147483648) (up32 t + 4294967296) (2147483648 + 0) (omega arith)
-      (add-diff (to_z w64 (of_z w64 (rd t))) (to_z w64 4294967296) (up32 t) 2147483648 4294967296 0
-      (subst (λ z. Diff z (up32 t) 2147483648) (sym (ap (λ z. to_z w64 (of_z w64 z)) (to_z-of_z w32 t f) ∙ to_z-of_z w64 t (wide t f))) (whole-diff t f))
-      (subst (λ z. Diff z 4294967296 0) (sym (to_z_pos w64 4294967296 (omega arith))) (omega arith)))
-
-  pub bits-fits : SFits w64 (to_z w64 (of_z w64 (rd t)) +ℤ to_z w64 4294967296)
-  bits-fits = subst (λ z. SFits w64 z) (sym raised) (record { sfits = omega (arith, up_small t f) })
-
-  pub bits-plain : Plain w64 (to_z w64 (of_z w64 (to_z w64 (of_z w64 (rd t)) +ℤ to_z w64 4294967296))) (up32 t + 2147483648)
-  bits-plain = plain64 (up32 t + 2147483648) (omega (arith, up_small t f)) (to_z-of_z w64 _ bits-fits ∙ raised)
 
 -- the product of two signed words
 module _ (z y : ℤ) (x v : ℕ) (e : Diff z x 32768) (d : Diff y v 32768) (o : 0 < x) (h : x < 65536) (g : v < 65536) where

@@ -10,7 +10,7 @@ ghost use Rattle.word_pairs.specs.Pairs.{up, up32, Diff, pair_of, Odd};
 fn signed(x: u16) -> i32
     ensures { Diff result (up x) 32768 }
 {
-    (((x as u32) + 32768) % 65536) as i32 - 32768
+    i32::from(x.cast_signed())
 }
 
 // The sum of two products.
@@ -29,13 +29,6 @@ pub fn pair_at(w: &[u16], v: &[u16], i: usize, d: usize, j: usize, e: usize) -> 
     pair(w[i + d], v[j + e], w[i + d + 1], v[j + e + 1])
 }
 
-// An integer's bits. LLVM has nothing to do for it.
-fn bits(t: i32) -> u32
-    ensures { result ≡ (up32 t + 2147483648) % 4294967296 }
-{
-    ((t as i64 + 4294967296) as u64 % 4294967296) as u32
-}
-
 // The high half, above -2^15.
 fn high(t: i32) -> u32
     ensures { result ≡ up32 t / 65536 }
@@ -47,14 +40,14 @@ fn high(t: i32) -> u32
 fn add_bits(s: u32, t: i32) -> u32
     ensures { result ≡ (s + (up32 t + 2147483648)) % 4294967296 }
 {
-    std::num::wrapping_add_u32(s, bits(t))
+    s.wrapping_add(t.cast_unsigned())
 }
 
 // One high half more, modulo 2^32.
 fn add_high(s: u32, t: i32) -> u32
     ensures { result ≡ (s + up32 t / 65536) % 4294967296 }
 {
-    std::num::wrapping_add_u32(s, high(t))
+    s.wrapping_add(high(t))
 }
 
 // Four integers more, modulo 2^32: 4 · 2^31 is 0.
@@ -71,7 +64,7 @@ pub fn gain_whole(a: u32, t0: i32, t1: i32, t2: i32, t3: i32) -> u32
 pub fn gain_high(a: u32, t0: i32, t1: i32, t2: i32, t3: i32) -> u32
     ensures { result ≡ (a + 4294836224 + (up32 t0 / 65536 + up32 t1 / 65536 + up32 t2 / 65536 + up32 t3 / 65536)) % 4294967296 }
 {
-    let s = std::num::wrapping_add_u32(a, 4294836224);
+    let s = a.wrapping_add(4294836224);
     let s0 = add_high(s, t0);
     let s1 = add_high(s0, t1);
     let s2 = add_high(s1, t2);

@@ -3,7 +3,7 @@
 -- Assumes nothing.
 use mathlib.Core.Path.{◌≡◌, ap, ◌∙◌}
 use mathlib.Core.List.{List}
-use Prim.Native.Nat.{ℕ, suc, ◌+◌, ◌-◌, ◌*◌, ◌≤◌}
+use Prim.Native.Nat.{ℕ, suc, ◌+◌, ◌-◌, ◌*◌, ◌≤◌, min}
 use native.Mathlib.Nat.{mul-zero, zero-mul}
 use native.Mathlib.Numerals.{add-one}
 use native.Mathlib.Omega.{arith}
@@ -27,6 +27,6 @@ pub dot-next : (a b : List ℕ) (k j : ℕ) → sum_to (j + 1) (term_of a b k) �
 unfolding sum_to term_of
 dot-next a b k j = ap (λ n. sum_to n (term_of a b k)) (add-one j)
 
-pub dot-end : (a b : List ℕ) (k i : ℕ) → i ≡ k + 1 - (k + 1 - length a) → sum_to i (term_of a b k) ≡ word_sum a b k
+pub dot-end : (a b : List ℕ) (k i : ℕ) → i ≡ min (k + 1) (length a) → sum_to i (term_of a b k) ≡ word_sum a b k
 unfolding word_sum
 dot-end a b k i e = sum_more i (suc k) _ (omega arith) (λ j l h. first_out a b k j (omega arith))

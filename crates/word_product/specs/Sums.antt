@@ -4,7 +4,6 @@
 --     remainders p n a b                     the first n of these words, reduced
 --     front b                                a list behind 15 zeros
 --     Ready p a b w x                        the factors are laid: the first in x, with zeros behind it, the second in w
---     few_words, more_words, many_words      two factors of at most so many words together take the buffers of the size that has this name
 -- Theorems, each in the module of proofs/ that is named:
 --     convolution-is     the words, reduced, are the product (Convolution)
 --     ready              what the layout loops leave is laid (Laying)
@@ -32,12 +31,3 @@ pub record Ready (p : ℕ) (a b w x : List ℕ) : Type 0 where
   pub odd : Odd w
   pub laid : Laid p a (front b) w x
   pub zero : ZeroFrom (length a) x
-
-abbrev pub few_words : ℕ
-few_words = 48
-
-abbrev pub more_words : ℕ
-more_words = 272
-
-abbrev pub many_words : ℕ
-many_words = 704

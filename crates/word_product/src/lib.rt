@@ -3,21 +3,19 @@
 // the second. The shorter factor is the first, as that has fewer words to form.
 #![tactic(auto)]
 
-ghost use Rattle.std.specs.Prelude.{◌≡◌, ◌+◌, ◌-◌, ◌*◌, ◌≤◌, ◌<◌, length};
+ghost use Rattle.std.specs.Prelude.{◌≡◌, ◌+◌, ◌-◌, ◌*◌, ◌≤◌, ◌<◌, min, length};
 ghost use Rattle.refusal.specs.Limits.{max_words};
 ghost use Rattle.field.specs.Fields.{field_at};
 ghost use Rattle.lists.specs.Words.{ZeroFrom};
 ghost use Rattle.word_product.specs.Convolution.{convolved_into, convolution};
-ghost use Rattle.word_product.specs.Sums.{word_sum, Ready, few_words, more_words, many_words};
+ghost use Rattle.word_product.specs.Sums.{word_sum, Ready};
 
-// The words of the buffers, which are filled with zeros: there are four sizes, for factors of at most so many words together, and for any.
+// Two factors of at most so many words together take the smaller buffers, as there is less to fill with zeros.
 const FEW: usize = 48;
 
 const MORE: usize = 272;
 
 const MANY: usize = 704;
-
-const ANY: usize = refusal::MAX_WORDS;
 
 // A product of two words.
 fn times(a: u16, b: u16) -> u64
@@ -26,7 +24,8 @@ fn times(a: u16, b: u16) -> u64
     (a as u64) * (b as u64)
 }
 
-// The first row that has a word at k, where the second factor has m words.
+// The first row that has a word at k, where the second factor has m words. By a test: from `saturating_sub`, and `min` below, LLVM makes
+// more to compute for each word, and a tiny product takes up to a tenth longer.
 fn first_row(k: usize, m: usize) -> usize
     requires { (k ≤ 2 * max_words) × (m ≤ max_words) }
     ensures { result ≡ k + 1 - m }
@@ -37,22 +36,19 @@ fn first_row(k: usize, m: usize) -> usize
 // After the last row that has one, where there are n rows.
 fn end_row(k: usize, n: usize) -> usize
     requires { (k ≤ 2 * max_words) × (n ≤ max_words) }
-    ensures { result ≡ k + 1 - (k + 1 - n) }
+    ensures { result ≡ min (k + 1) n }
 {
     if k < n { k + 1 } else { n }
 }
 
-// Word k of the product, in whole numbers.
+// Word k of the product, in whole numbers. An index: of the factors' words, zipped, a tiny product takes up to a tenth longer too.
 fn dot(a: &[u16], b: &[u16], k: usize) -> u64
     requires { (k + 1 < length a.now + length b.now) × (length a.now ≤ max_words) × (length b.now ≤ max_words) }
     ensures { result ≡ word_sum a.now b.now k }
 {
-    let e = end_row(k, a.len());
     let mut s = 0;
-    let mut j = first_row(k, b.len());
-    while j < e {
+    for j in first_row(k, b.len())..end_row(k, a.len()) {
         s += times(a[j], b[k - j]);
-        j += 1;
     }
     s
 }
@@ -62,10 +58,8 @@ fn dots(field: u8, a: &[u16], b: &[u16], out: &mut [u16])
     requires { (length a.now ≤ max_words) × (length b.now ≤ max_words) × (length out.old + 1 ≡ length a.now + length b.now) }
     ensures { out.new ≡ convolution (field_at field) a.now b.now }
 {
-    let mut k = 0;
-    while k < out.len() {
-        out[k] = field::reduce(field, dot(a, b, k));
-        k += 1;
+    for (k, word) in out.iter_mut().enumerate() {
+        *word = field::reduce(field, dot(a, b, k));
     }
 }
 
@@ -107,65 +101,24 @@ fn convolve_in(
     word_grid::reduce_words(lo, hi, out, p as u32);
 }
 
-// The product of two factors of few words together.
-fn convolve_few(field: u8, a: &[u16], b: &[u16], out: &mut [u16])
-    requires { (length a.now + length b.now ≤ few_words) × (length out.old + 1 ≡ length a.now + length b.now) }
+// The product, with buffers of so many words: X and Y for the factors, W for the second where each word has a neighbour, S for each sum.
+fn convolve_sized<const X: usize, const Y: usize, const W: usize, const S: usize>(
+    field: u8,
+    a: &[u16],
+    b: &[u16],
+    out: &mut [u16],
+)
+    requires a_len_bound { (length a.now ≤ max_words) × (length b.now ≤ max_words) × (length out.old + 1 ≡ length a.now + length b.now) }
+    requires fits { (length a.now + 15 ≤ X) × (length b.now + 47 ≤ Y) × (2 * length b.now + 92 ≤ W) × (length a.now + length b.now + 29 ≤ S) }
+    requires sizes { (X ≤ 4096) × (Y ≤ 4096) × (W ≤ 4096) × (S ≤ 4096) }
     ensures { out.new ≡ convolution (field_at field) a.now b.now }
 {
-    let mut x = [0u16; FEW + 16];
-    let mut y = [0u16; FEW + 48];
-    let mut w = [0u16; 2 * FEW + 96];
+    let mut x = [0u16; X];
+    let mut y = [0u16; Y];
+    let mut w = [0u16; W];
     let mut v = [0u16; 256];
-    let mut lo = [0u32; FEW + 32];
-    let mut hi = [0u32; FEW + 32];
-    convolve_in(
-        field, a, b, &mut x, &mut y, &mut w, &mut v, &mut lo, &mut hi, out,
-    );
-}
-
-// Of two factors of more words.
-fn convolve_more(field: u8, a: &[u16], b: &[u16], out: &mut [u16])
-    requires { (length a.now + length b.now ≤ more_words) × (length out.old + 1 ≡ length a.now + length b.now) }
-    ensures { out.new ≡ convolution (field_at field) a.now b.now }
-{
-    let mut x = [0u16; MORE + 16];
-    let mut y = [0u16; MORE + 48];
-    let mut w = [0u16; 2 * MORE + 96];
-    let mut v = [0u16; 256];
-    let mut lo = [0u32; MORE + 32];
-    let mut hi = [0u32; MORE + 32];
-    convolve_in(
-        field, a, b, &mut x, &mut y, &mut w, &mut v, &mut lo, &mut hi, out,
-    );
-}
-
-// Of two factors of many words.
-fn convolve_many(field: u8, a: &[u16], b: &[u16], out: &mut [u16])
-    requires { (length a.now + length b.now ≤ many_words) × (length out.old + 1 ≡ length a.now + length b.now) }
-    ensures { out.new ≡ convolution (field_at field) a.now b.now }
-{
-    let mut x = [0u16; MANY + 16];
-    let mut y = [0u16; MANY + 48];
-    let mut w = [0u16; 2 * MANY + 96];
-    let mut v = [0u16; 256];
-    let mut lo = [0u32; MANY + 32];
-    let mut hi = [0u32; MANY + 32];
-    convolve_in(
-        field, a, b, &mut x, &mut y, &mut w, &mut v, &mut lo, &mut hi, out,
-    );
-}
-
-// Of any two factors.
-fn convolve_any(field: u8, a: &[u16], b: &[u16], out: &mut [u16])
-    requires { (length a.now ≤ max_words) × (length b.now ≤ max_words) × (length out.old + 1 ≡ length a.now + length b.now) }
-    ensures { out.new ≡ convolution (field_at field) a.now b.now }
-{
-    let mut x = [0u16; ANY + 16];
-    let mut y = [0u16; ANY + 48];
-    let mut w = [0u16; 2 * ANY + 96];
-    let mut v = [0u16; 256];
-    let mut lo = [0u32; 2 * ANY + 32];
-    let mut hi = [0u32; 2 * ANY + 32];
+    let mut lo = [0u32; S];
+    let mut hi = [0u32; S];
     convolve_in(
         field, a, b, &mut x, &mut y, &mut w, &mut v, &mut lo, &mut hi, out,
     );
@@ -179,7 +132,7 @@ fn tiny(n: usize) -> usize
     if n <= 4 { 24 } else { 20 }
 }
 
-// The product, where the lengths fit, with buffers of the size that it needs.
+// The product, where the lengths fit, with buffers of the sizes that it needs: multiples of 16 words.
 fn convolve_fitting(field: u8, a: &[u16], b: &[u16], out: &mut [u16])
     requires { (length a.now ≤ max_words) × (length b.now ≤ max_words) × (length out.old + 1 ≡ length a.now + length b.now) }
     ensures { out.new ≡ convolution (field_at field) a.now b.now }
@@ -190,18 +143,18 @@ fn convolve_fitting(field: u8, a: &[u16], b: &[u16], out: &mut [u16])
         return;
     }
     if together <= FEW {
-        convolve_few(field, a, b, out);
+        convolve_sized::<64, 96, 192, 80>(field, a, b, out);
         return;
     }
     if together <= MORE {
-        convolve_more(field, a, b, out);
+        convolve_sized::<288, 320, 640, 304>(field, a, b, out);
         return;
     }
     if together <= MANY {
-        convolve_many(field, a, b, out);
+        convolve_sized::<720, 752, 1504, 736>(field, a, b, out);
         return;
     }
-    convolve_any(field, a, b, out);
+    convolve_sized::<1040, 1072, 2144, 2080>(field, a, b, out);
 }
 
 // The words of the product of two scaled forms.

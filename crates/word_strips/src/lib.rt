@@ -5,74 +5,54 @@
 // strips by vectors too (seen in the object code).
 #![tactic(auto)]
 
-ghost use Rattle.std.specs.Prelude.{◌+◌, ◌*◌, ◌<◌, ◌≤◌, length};
+ghost use Rattle.std.specs.Prelude.{◌+◌, ◌*◌, ◌<◌, ◌≤◌, if◌then◌else◌, IsTrue, length};
 ghost use Rattle.lists.specs.Words.{ZeroFrom};
 ghost use Rattle.word_pairs.specs.Pairs.{Odd};
 ghost use Rattle.word_strips.specs.Strips.{Spread, Span};
 
-// A strip of a group. x says what v repeats.
-fn strip(lo: &mut [u32], hi: &mut [u32], w: &[u16], x: &[u16], v: &[u16], g: usize, s: usize)
-    requires s_in_bounds { (16 * g + 16 * s + 16 ≤ length lo.old) × (16 * g + 16 * s + 16 ≤ length hi.old) × (32 * s + 60 ≤ length w.now) × (256 ≤ length v.now) × (g ≤ 128) × (s ≤ 1024) }
-    requires odd { Odd w.now × Spread 8 v.now x.now (16 * g) }
+// A strip of a group. x says what v repeats. Where the last eight rows of the group are 0, their pairs add nothing, and half a strip leaves
+// them out.
+fn strip<const HALF: bool>(
+    lo: &mut [u32],
+    hi: &mut [u32],
+    w: &[u16],
+    x: &[u16],
+    v: &[u16],
+    g: usize,
+    s: usize,
+)
+    requires s_in_bounds { (16 * g + 16 * s + 16 ≤ length lo.old) × (16 * g + 16 * s + 16 ≤ length hi.old) × (32 * s + 60 ≤ length w.now) × (g ≤ 128) × (s ≤ 1024) }
+    requires v_len { (if HALF then 128 else 256) ≤ length v.now }
+    requires odd { Odd w.now }
+    requires spread { Spread (if HALF then 4 else 8) v.now x.now (16 * g) }
+    requires zero_from { IsTrue HALF → ZeroFrom (16 * g + 8) x.now }
     ensures { Span w.now x.now (16 * g) (16 * s) (16 * s + 16) lo.old hi.old lo.new hi.new }
 {
     let o = 16 * (g + s);
-    let mut l = 0;
-    while l < 16 {
+    for l in 0..16 {
         let i = 2 * (16 * s + l);
         let j = 2 * l;
         let t0 = word_pairs::pair_at(w, v, i, 28, j, 0);
         let t1 = word_pairs::pair_at(w, v, i, 24, j, 32);
         let t2 = word_pairs::pair_at(w, v, i, 20, j, 64);
         let t3 = word_pairs::pair_at(w, v, i, 16, j, 96);
-        let t4 = word_pairs::pair_at(w, v, i, 12, j, 128);
-        let t5 = word_pairs::pair_at(w, v, i, 8, j, 160);
-        let t6 = word_pairs::pair_at(w, v, i, 4, j, 192);
-        let t7 = word_pairs::pair_at(w, v, i, 0, j, 224);
-        let a = word_pairs::gain_whole(lo[o + l], t0, t1, t2, t3);
-        lo[o + l] = word_pairs::gain_whole(a, t4, t5, t6, t7);
-        let h = word_pairs::gain_high(hi[o + l], t0, t1, t2, t3);
-        hi[o + l] = word_pairs::gain_high(h, t4, t5, t6, t7);
-        l += 1;
+        let mut a = word_pairs::gain_whole(lo[o + l], t0, t1, t2, t3);
+        let mut h = word_pairs::gain_high(hi[o + l], t0, t1, t2, t3);
+        if !HALF {
+            let t4 = word_pairs::pair_at(w, v, i, 12, j, 128);
+            let t5 = word_pairs::pair_at(w, v, i, 8, j, 160);
+            let t6 = word_pairs::pair_at(w, v, i, 4, j, 192);
+            let t7 = word_pairs::pair_at(w, v, i, 0, j, 224);
+            a = word_pairs::gain_whole(a, t4, t5, t6, t7);
+            h = word_pairs::gain_high(h, t4, t5, t6, t7);
+        }
+        lo[o + l] = a;
+        hi[o + l] = h;
     }
 }
 
-// The same where the last eight rows of the group are 0: their pairs add nothing, and are left out.
-fn half_strip(lo: &mut [u32], hi: &mut [u32], w: &[u16], x: &[u16], v: &[u16], g: usize, s: usize)
-    requires s_in_bounds { (16 * g + 16 * s + 16 ≤ length lo.old) × (16 * g + 16 * s + 16 ≤ length hi.old) × (32 * s + 60 ≤ length w.now) × (128 ≤ length v.now) × (g ≤ 128) × (s ≤ 1024) }
-    requires odd { Odd w.now × Spread 4 v.now x.now (16 * g) × ZeroFrom (16 * g + 8) x.now }
-    ensures { Span w.now x.now (16 * g) (16 * s) (16 * s + 16) lo.old hi.old lo.new hi.new }
-{
-    let o = 16 * (g + s);
-    let mut l = 0;
-    while l < 16 {
-        let i = 2 * (16 * s + l);
-        let j = 2 * l;
-        let t0 = word_pairs::pair_at(w, v, i, 28, j, 0);
-        let t1 = word_pairs::pair_at(w, v, i, 24, j, 32);
-        let t2 = word_pairs::pair_at(w, v, i, 20, j, 64);
-        let t3 = word_pairs::pair_at(w, v, i, 16, j, 96);
-        lo[o + l] = word_pairs::gain_whole(lo[o + l], t0, t1, t2, t3);
-        hi[o + l] = word_pairs::gain_high(hi[o + l], t0, t1, t2, t3);
-        l += 1;
-    }
-}
-
-// A group on all its outputs, n strips.
-pub fn group(lo: &mut [u32], hi: &mut [u32], w: &[u16], x: &[u16], v: &[u16], g: usize, n: usize)
-    requires n_in_bounds { (16 * g + 16 * n ≤ length lo.old) × (16 * g + 16 * n ≤ length hi.old) × (32 * n + 28 ≤ length w.now) × (256 ≤ length v.now) × (g ≤ 128) × (n ≤ 1024) }
-    requires odd { Odd w.now × Spread 8 v.now x.now (16 * g) }
-    ensures { Span w.now x.now (16 * g) 0 (16 * n) lo.old hi.old lo.new hi.new }
-{
-    let mut s = 0;
-    while s < n {
-        strip(lo, hi, w, x, v, g, s);
-        s += 1;
-    }
-}
-
-// The same where the last eight rows of the group are 0.
-pub fn half_group(
+// A group on all its outputs, n strips; half of it is enough where its last eight rows are 0.
+pub fn group<const HALF: bool>(
     lo: &mut [u32],
     hi: &mut [u32],
     w: &[u16],
@@ -81,13 +61,14 @@ pub fn half_group(
     g: usize,
     n: usize,
 )
-    requires n_in_bounds { (16 * g + 16 * n ≤ length lo.old) × (16 * g + 16 * n ≤ length hi.old) × (32 * n + 28 ≤ length w.now) × (128 ≤ length v.now) × (g ≤ 128) × (n ≤ 1024) }
-    requires odd { Odd w.now × Spread 4 v.now x.now (16 * g) × ZeroFrom (16 * g + 8) x.now }
+    requires n_in_bounds { (16 * g + 16 * n ≤ length lo.old) × (16 * g + 16 * n ≤ length hi.old) × (32 * n + 28 ≤ length w.now) × (g ≤ 128) × (n ≤ 1024) }
+    requires v_len { (if HALF then 128 else 256) ≤ length v.now }
+    requires odd { Odd w.now }
+    requires spread { Spread (if HALF then 4 else 8) v.now x.now (16 * g) }
+    requires zero_from { IsTrue HALF → ZeroFrom (16 * g + 8) x.now }
     ensures { Span w.now x.now (16 * g) 0 (16 * n) lo.old hi.old lo.new hi.new }
 {
-    let mut s = 0;
-    while s < n {
-        half_strip(lo, hi, w, x, v, g, s);
-        s += 1;
+    for s in 0..n {
+        strip::<HALF>(lo, hi, w, x, v, g, s);
     }
 }

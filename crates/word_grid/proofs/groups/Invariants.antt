@@ -1,11 +1,7 @@
 -- `word_grid::groups` meets its contract: each turn is one group more.
 -- Assumes nothing.
-use Rattle.std.proofs.Common.{◌≡◌, ◌-◌, ◌≤◌, length}
 use Rattle.word_grid.specs.Grid.{Grid}
 use Rattle.word_grid.proofs.groups.Given as goal
 
 abbrev pub invariant-loop-g : goal.invariant-loop-g
-invariant-loop-g l = (l.g ≤ l.count) × (length l.v ≡ length l.initial.v) × Grid l.w l.x l.n l.initial.lo l.initial.hi l.g l.lo l.hi
-
-abbrev pub decreases-loop-g : goal.decreases-loop-g
-decreases-loop-g l = l.count - l.g
+invariant-loop-g l = Grid l.w l.x l.n l.initial.lo l.initial.hi l.g l.lo l.hi

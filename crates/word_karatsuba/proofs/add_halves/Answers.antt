@@ -1,6 +1,6 @@
 -- `word_karatsuba::add_halves` meets its contract: two rows.
 -- Assumes nothing.
-use mathlib.Core.Path.{◌≡◌, sym}
+use mathlib.Core.Path.{◌≡◌}
 use Prim.Native.Nat.{◌-◌, ◌≤◌}
 use native.Mathlib.Omega.{arith}
 use lib.ListN.{length, take, drop}
@@ -10,9 +10,6 @@ use Rattle.lists.proofs.Tight.{tight-at}
 use Rattle.word_karatsuba.proofs.Words.{tight-row}
 use Rattle.word_karatsuba.proofs.Parts.{length_rest, halves_are}
 use Rattle.word_karatsuba.proofs.add_halves.Goals as goal
-
-pub slice_bounds-add_words-end : goal.slice_bounds-add_words-end
-slice_bounds-add_words-end c = sym (length-take-le _ _ (omega arith))
 
 pub add_words-requires : goal.add_words-requires
 add_words-requires c =

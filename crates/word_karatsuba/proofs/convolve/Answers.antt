@@ -22,9 +22,6 @@ returns-then-b-gt-MAX_WORDS c =
     let b = length c.args.b.now in
     rw (le-leb a max_words (omega arith), lt-leb b max_words (omega arith))
 
-pub returns-then-a-b-le-SHORT : goal.returns-then-a-b-le-SHORT
-returns-then-a-b-le-SHORT c = c.convolve.ensures
-
 pub returns-then-out-a : goal.returns-then-out-a
 unfolding convolve_fits
 returns-then-out-a c =
@@ -33,9 +30,6 @@ returns-then-out-a c =
     let b = length args.b.now in
     let out = length args.out.now in
     rw (le-leb a max_words (omega arith), le-leb b max_words (omega arith), ne_eqb (out + 1) (a + b) (λ e. omega arith))
-
-pub convolve_fitting-requires : goal.convolve_fitting-requires
-convolve_fitting-requires c = (omega arith, omega arith, omega arith)
 
 pub returns-then-is_turned : goal.returns-then-is_turned
 unfolding convolve_fits

@@ -1,6 +1,6 @@
 -- `word_karatsuba::join` meets its contract: three rows.
 -- Assumes nothing.
-use mathlib.Core.Path.{◌≡◌, sym}
+use mathlib.Core.Path.{◌≡◌}
 use Prim.Native.Nat.{◌-◌, ◌*◌, ◌≤◌}
 use native.Mathlib.Omega.{arith}
 use lib.ListN.{length, take, drop}
@@ -10,9 +10,6 @@ use Rattle.lists.proofs.Tight.{tight-at, tight-rest, tight-take}
 use Rattle.word_karatsuba.proofs.Words.{tight-row}
 use Rattle.word_karatsuba.proofs.Parts.{length_rest, joined-are}
 use Rattle.word_karatsuba.proofs.join.Goals as goal
-
-pub slice_bounds-sub_words-length : goal.slice_bounds-sub_words-length
-slice_bounds-sub_words-length c = sym (length-take-le _ _ (omega arith))
 
 pub sub_words-requires : goal.sub_words-requires
 sub_words-requires c =

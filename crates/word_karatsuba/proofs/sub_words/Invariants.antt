@@ -1,14 +1,8 @@
--- `word_karatsuba::sub_words` meets its contract. The loop's invariant: the words below i are those of the row, and the rest is as it was. The
--- measure is the number of words left.
+-- `word_karatsuba::sub_words` meets its contract. The loop's invariant: the words below i are those of the row, and the rest is as it was.
 -- Assumes nothing.
-use Prim.Native.Nat.{◌-◌, ◌≤◌}
-use lib.ListN.{length}
 use Rattle.word_row.specs.Rows.{Partway}
 use Rattle.word_division.specs.Reduction.{negated}
 use Rattle.word_karatsuba.proofs.sub_words.Given as goal
 
 abbrev pub invariant-loop-i : goal.invariant-loop-i
-invariant-loop-i l = (l.i ≤ length l.y) × Partway l.p l.initial.x (negated l.p 1) l.y l.x l.i
-
-abbrev pub decreases-loop-i : goal.decreases-loop-i
-decreases-loop-i l = length l.y - l.i
+invariant-loop-i l = Partway l.p l.initial.x (negated l.p 1) l.y l.x l.i

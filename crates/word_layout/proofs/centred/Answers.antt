@@ -8,4 +8,4 @@ pub returns-then-a-lt32768 : goal.returns-then-a-lt32768
 returns-then-a-lt32768 c = stand-low _ _ c.if-a-lt32768.true
 
 pub returns-else-a-lt32768 : goal.returns-else-a-lt32768
-returns-else-a-lt32768 c = stand-high _ _ _ (omega arith) (omega arith) (omega arith) (omega arith) (omega arith) c.wrapping_sub_u16.ensures.value
+returns-else-a-lt32768 c = stand-high _ _ _ (omega arith) (omega arith) (omega arith) (omega arith) (omega arith) (omega arith)

@@ -1,11 +1,7 @@
 -- `word_layout::repeat_pair` meets its contract: each turn is one pair more.
 -- Assumes nothing.
-use Rattle.std.proofs.Common.{◌-◌, ◌≤◌}
 use Rattle.word_layout.specs.Layout.{Repeated}
 use Rattle.word_layout.proofs.repeat_pair.Given as goal
 
 abbrev pub invariant-loop-l : goal.invariant-loop-l
-invariant-loop-l l = (l.l ≤ 16) × Repeated l.o l.s l.t l.l l.initial.v l.v
-
-abbrev pub decreases-loop-l : goal.decreases-loop-l
-decreases-loop-l l = 16 - l.l
+invariant-loop-l l = Repeated l.o l.s l.t l.l l.initial.v l.v

@@ -6,4 +6,4 @@ use Rattle.word_pairs.specs.Pairs.{up32}
 use Rattle.word_pairs.proofs.add_high.Goals as goal
 
 pub returns : goal.returns
-returns c = omega (arith, c.wrapping_add_u32.ensures, c.high.ensures, ap up32 (to_z-of_z w32 c.args.t c.ranges.t))
+returns c = omega (arith, c.high.ensures, ap up32 (to_z-of_z w32 c.args.t c.ranges.t))

@@ -19,6 +19,7 @@ ghost use Rattle.statement.specs.Demand1.{Demand1After, Demand1, EmptyRefused, s
 ghost use Rattle.statement.specs.Demand2Calls.{ReadSo, BodySo, WriteSo, LineSo};
 
 use list_gcd::Gcd;
+use lists::NaiveDegree;
 use refusal::Refusal;
 
 // The refusal that applies to a call on list i.

@@ -10,6 +10,7 @@ ghost use Rattle.field_inverse.specs.Calls.{inverse_answer};
 ghost use Rattle.statement.specs.Demand1.{Demand1};
 ghost use Rattle.statement.specs.Demand2Calls.{WordSumSo, WordDifferenceSo, WordProductSo, InverseSo};
 
+use refusal::Refusal;
 
 // The sum of two coefficients.
 pub fn sum(a: u16, b: u16) -> Result<u16, Refusal>

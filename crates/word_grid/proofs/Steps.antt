@@ -1,13 +1,13 @@
 -- All groups of rows: their sums are reducible, and are the sum of all rows modulo p.
---     size_lo, size_hi, grid-start, grid-next     what the loop over the groups needs
---     Held p g lo hi r                            after g groups the sums lo and hi of an output stand for exact sums of low and high
---                                                 halves, and these for r modulo p
---     held_in, held_out                           one group more, at an output that it reaches, and at one that it does not
---     held_low, held_high                         the exact sums are low_of and high_of
+--     grid-next               what the loop over the groups needs
+--     Held p g lo hi r        after g groups the sums lo and hi of an output stand for exact sums of low and high halves, and these for r
+--                             modulo p
+--     held_in, held_out       one group more, at an output that it reaches, and at one that it does not
+--     held_low, held_high     the exact sums are low_of and high_of
 -- Theorems:
 --     grid-reducible, grid-near     after at most 64 groups the sums are reducible, and are the rows modulo p
 -- Assumes nothing.
-use Rattle.std.proofs.Common.{◌≡◌, ℕ, zero, suc, ◌+◌, ◌-◌, ◌*◌, ◌%◌, ◌<◌, ◌≤◌, List, length, get_or, refl, ap, ◌∙◌, subst, inl, inr, arith}
+use Rattle.std.proofs.Common.{◌≡◌, ℕ, zero, suc, ◌+◌, ◌-◌, ◌*◌, ◌%◌, ◌<◌, ◌≤◌, List, get_or, refl, ap, ◌∙◌, subst, inl, inr, arith}
 use native.Mathlib.Decide.{dec_lt}
 use Rattle.lists.specs.Words.{ZeroFrom}
 use Rattle.word_montgomery.proofs.Words.{same}
@@ -16,27 +16,9 @@ use Rattle.word_grid.specs.Grid.{Steps, Grid, sum_to, Laid, low_of, high_of, Red
 use Rattle.word_grid.proofs.Near.{Near, Halves, whole-halves, high-below, strip-near}
 use Rattle.word_grid.proofs.Rows.{rows_at, Framed, more-in, more-out}
 
-module _ (w x : List ℕ) (n : ℕ) (lo₀ hi₀ : List ℕ) where
-  steps-lo : (g : ℕ) (lo hi : List ℕ) → Steps w x n lo₀ hi₀ g lo hi → length lo ≡ length lo₀
-  steps-lo zero lo hi t = ap length t.0
-  steps-lo (suc g) lo hi t = t.3.size_lo ∙ steps-lo g t.0 t.1 t.2
-
-  steps-hi : (g : ℕ) (lo hi : List ℕ) → Steps w x n lo₀ hi₀ g lo hi → length hi ≡ length hi₀
-  steps-hi zero lo hi t = ap length t.1
-  steps-hi (suc g) lo hi t = t.3.size_hi ∙ steps-hi g t.0 t.1 t.2
-
 module _ {w x : List ℕ} {n : ℕ} {lo₀ hi₀ : List ℕ} {g : ℕ} {lo hi : List ℕ} (t : Grid w x n lo₀ hi₀ g lo hi) where
-  pub size_lo : length lo ≡ length lo₀
-  size_lo = steps-lo w x n lo₀ hi₀ g lo hi t.steps
-
-  pub size_hi : length hi ≡ length hi₀
-  size_hi = steps-hi w x n lo₀ hi₀ g lo hi t.steps
-
   pub grid-next : {lo' hi' : List ℕ} → Span w x (16 * g) 0 (16 * n) lo hi lo' hi' → Grid w x n lo₀ hi₀ (suc g) lo' hi'
   grid-next s = record { steps = (lo, hi, t.steps, s) }
-
-pub grid-start : (w x : List ℕ) (n : ℕ) (lo hi : List ℕ) → Grid w x n lo hi 0 lo hi
-grid-start w x n lo hi = record { steps = (refl, refl) }
 
 record Held (p g lo hi r : ℕ) : Type 0 where
   low : ℕ

@@ -47,7 +47,8 @@ fn plus(a: u16, b: u16, p: u16) -> u16
     word_montgomery::sub_below(a, p - word_montgomery::once_reduced(b, p), p)
 }
 
-// x plus y. The words of x are below p; those of y need not be.
+// x plus y. The words of x are below p; those of y need not be. x by index, here and below: what a loop over `zip` writes through
+// `iter_mut` no proof knows.
 fn add_words(x: &mut [u16], y: &[u16], p: u16)
     requires { (length y.now ≤ length x.old) × (32768 ≤ p) × Tight p x.old }
     ensures { x.new ≡ row p x.old 1 y.now }

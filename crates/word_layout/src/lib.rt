@@ -15,7 +15,8 @@ fn centred(a: u16, p: u16) -> u16
     if a < 32768 { a } else { a.wrapping_sub(p) }
 }
 
-// The words of a list, centred, from d on, in s, which is 0.
+// The words of a list, centred, from d on, in s, which is 0. What is written here and below is written by index: what a loop over a part's
+// `iter_mut` or over `chunks_exact_mut` writes no proof knows.
 pub fn centre(s: &mut [u16], d: usize, list: &[u16], p: u16)
     requires { (d + length list.now ≤ length s.old) × (d ≤ 65536) × (32768 ≤ p) × ZeroFrom 0 s.old }
     ensures { Centred p d list.now s.new (length list.now) }

@@ -75,7 +75,8 @@ fn lay(a: &[u16], b: &[u16], x: &mut [u16], y: &mut [u16], w: &mut [u16], n: usi
     word_layout::weave(w, y, 16 * n + 16);
 }
 
-// The product, with buffers that are 0; v may hold anything.
+// The product, with buffers that are 0; v may hold anything. They are no struct: only the one caller has them all too, and each goes to other
+// calls.
 fn convolve_in(
     field: u8,
     a: &[u16],

@@ -1,11 +1,11 @@
 -- The outputs of sixteen rows, one after the other.
---     pair_is           what a pair of v is, where v repeats the pairs of x
---     turn-gain         what one turn of the loop over a strip adds
---     half-gain         the same where the last eight rows are 0
---     start, joined     no output, and one range of outputs after another
---     single            one output
+--     pair_is       what a pair of v is, where v repeats the pairs of x
+--     turn-gain     what one turn of the loop over a strip adds
+--     half-gain     the same where the last eight rows are 0
+--     joined        one range of outputs after another
+--     single        one output
 -- Assumes nothing.
-use mathlib.Core.Path.{◌≡◌, refl, sym, ap, ◌∙◌, subst}
+use mathlib.Core.Path.{◌≡◌, sym, ap, ◌∙◌, subst}
 use mathlib.Core.List.{List}
 use Prim.Native.Nat.{ℕ, ◌+◌, ◌*◌, ◌/◌, ◌%◌, ◌≤◌, ◌<◌}
 use native.Mathlib.Decide.{dec_lt}
@@ -94,17 +94,6 @@ half-gain w x j k a b {c} {d} {u0} {u1} {u2} {u3} z e0 e1 e2 e3 ec ed =
     none d e h = sym (pair-zero w x j k d e (z.at _ (omega arith)) (z.at _ (omega arith)))
 
 module _ {w x : List ℕ} {b : ℕ} where
-  pub start : (m : ℕ) (lo hi : List ℕ) → Span w x b m m lo hi lo hi
-  start m lo hi = record {
-    size_lo = refl;
-    size_hi = refl;
-    done = λ k g h. absurd (omega arith);
-    below_lo = λ k h. refl;
-    below_hi = λ k h. refl;
-    above_lo = λ k h. refl;
-    above_hi = λ k h. refl;
-  }
-
   pub joined : {m n r : ℕ} {lo hi lo' hi' lo'' hi'' : List ℕ} → m ≤ n → n ≤ r
       → Span w x b m n lo hi lo' hi' → Span w x b n r lo' hi' lo'' hi'' → Span w x b m r lo hi lo'' hi''
   joined {m} {n} {r} {lo} {hi} {lo'} {hi'} {lo''} {hi''} mn nr s t =

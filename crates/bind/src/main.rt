@@ -30,8 +30,7 @@ fn deliver(rt: &(impl Print + Eprint), album: &[u8]) {
 
 // Says what the text is refused with: `refused` and the number.
 fn refuse(rt: &impl Eprint, why: Refusal) {
-    let n = u8::from(why);
-    let _ = eprintln!(rt; "refused {n}");
+    let _ = eprintln!(rt; "{why}");
 }
 
 // Says how the program is run.

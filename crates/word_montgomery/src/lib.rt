@@ -21,9 +21,9 @@ pub fn sub_below(a: u16, b: u16, p: u16) -> u16
     requires { (a < p) × (b ≤ p) }
     ensures { result ≡ (a + (p - b)) % p }
 {
-    let d = std::num::wrapping_sub_u16(a, b);
+    let d = a.wrapping_sub(b);
     if a < b {
-        std::num::wrapping_add_u16(d, p)
+        d.wrapping_add(p)
     } else {
         d
     }

@@ -1,7 +1,7 @@
 // The cofactors of the GCD of two lists.
 #![tactic(auto)]
 
-ghost use Rattle.std.specs.Prelude.{◌≡◌, cond, suc, min, ◌+◌, ◌-◌, ◌*◌, ◌<◌, ◌≤◌, length, take};
+ghost use Rattle.std.specs.Prelude.{◌≡◌, suc, min, ◌+◌, ◌-◌, ◌*◌, ◌<◌, ◌≤◌, length, take};
 ghost use Rattle.algebra.specs.PrimeField.{residue};
 ghost use Rattle.refusal.specs.Limits.{max_words};
 ghost use Rattle.refusal.specs.Lowest.{lowest};
@@ -102,32 +102,33 @@ fn undo_round(field: u8, kept: &[u16], at: usize, s: &mut [u16], t: &[u16], read
     steps
 }
 
-// From s and t of zeros the cofactors of the pair before the rounds whose quotients are laid in the first `used` words, s and t changing
-// places with each round. Whether that of the pair's first part stands in s.
-fn substitute_back(field: u8, kept: &[u16], used: usize, s: &mut [u16], t: &mut [u16]) -> bool
+// From s and t of zeros the cofactors of the pair before the rounds whose quotients are laid in the first `used` words: that of the pair's
+// first part, and that of the second. s and t change places with each round.
+fn substitute_back<'a>(
+    field: u8,
+    kept: &[u16],
+    used: usize,
+    s: &'a mut [u16],
+    t: &'a mut [u16],
+) -> (&'a mut [u16], &'a mut [u16])
     requires laid { Laid (field_at field) (length s.old) (take used kept.now) × (used ≤ length kept.now) }
     requires zero_pair { ZeroPair (length s.old) s.old t.old }
     requires s_nonzero { (0 < length s.old) × (length s.old ≤ max_words) }
-    ensures { Substituted (field_at field) (length s.old) (take used kept.now) (cond result s.new t.new) (cond result t.new s.new) }
+    ensures { Substituted (field_at field) (length s.old) (take used kept.now) result.0.now result.1.now }
 {
     let n = s.len();
-    s[0] = 1;
+    let mut first = &mut *s;
+    let mut second = &mut *t;
+    first[0] = 1;
     let mut at = used;
     let mut c = 1;
-    loop {
-        if at == 0 {
-            return true;
-        }
-        let of_s = undo_round(field, kept, at, s, t, words_read(n, c));
-        c = words_after(n, c, of_s);
-        at -= of_s + 1;
-        if at == 0 {
-            return false;
-        }
-        let of_t = undo_round(field, kept, at, t, s, words_read(n, c));
-        c = words_after(n, c, of_t);
-        at -= of_t + 1;
+    while at != 0 {
+        let steps = undo_round(field, kept, at, first, second, words_read(n, c));
+        c = words_after(n, c, steps);
+        at -= steps + 1;
+        (first, second) = (second, first);
     }
+    (first, second)
 }
 
 // a from t and b from s, each times m.
@@ -165,11 +166,8 @@ fn cofactors_in(
 {
     let inverses = field_tables::inverses(field);
     let found = list_gcd::gcd_in(field, inverses, f, g, x, y, kept, h);
-    if substitute_back(field, kept, found.kept, s, t) {
-        write_pair(field, s, t, found.inverse, a, b);
-    } else {
-        write_pair(field, t, s, found.inverse, a, b);
-    }
+    let (first, second) = substitute_back(field, kept, found.kept, s, t);
+    write_pair(field, first, second, found.inverse, a, b);
     found.gcd
 }
 

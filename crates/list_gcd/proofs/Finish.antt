@@ -3,7 +3,7 @@
 use mathlib.Core.Path.{◌≡◌, sym, ◌∙◌, ap, ap₂, subst}
 use mathlib.Core.Bool.{cond}
 use mathlib.Core.List.{List, [], ◌∷◌}
-use Prim.Native.Nat.{ℕ, suc, ◌+◌, ◌-◌, ◌≤◌, ◌<◌}
+use Prim.Native.Nat.{ℕ, suc, ◌-◌, ◌≤◌, ◌<◌}
 use native.Mathlib.Omega.{arith}
 use lib.ListN.{get_or, length, take, get_or-eq_default}
 use lib.Seq.{take_at}
@@ -26,8 +26,7 @@ use Rattle.lists.proofs.Extents.{significant-le, extent-largest}
 use Rattle.lists.specs.Lists.{Coefficients, scaled, unscaled}
 use Rattle.lists.specs.Words.{series_of}
 use Rattle.lists.proofs.Words.{coeff-series_of}
-use Rattle.euclid_theory.specs.Gcd.{euclid_of, gcd_of, rounds_of, common_power}
-use Rattle.euclid_theory.specs.Gcd as G
+use Rattle.euclid_theory.specs.Gcd.{gcd_of, rounds_of, common_power}
 use Rattle.lists.specs.Padded.{padded}
 use Rattle.euclid_theory.proofs.Gcd.{length-gcd, size-last, gcd-ends, gcd-rounds}
 use Rattle.euclid_theory.proofs.Greatest.{gcd-is-greatest}
@@ -39,7 +38,7 @@ use Rattle.euclid_round.proofs.Written.{write-is}
 use Rattle.list_gcd.specs.declared.Gcd.{Gcd}
 use Rattle.list_gcd.specs.Calls.{gcd_reply, gcd_values, GreatestSo, Greatest}
 use Rattle.list_gcd.specs.Quotients.{Trail}
-use Rattle.list_gcd.specs.Internal.{Ready, Buffer, Holds, euclid_on, Ends, monic_list, monic_words, last_inverse, LastOf, TrailOf, Numbers, gcd_done}
+use Rattle.list_gcd.specs.Internal.{Ready, Buffer, Holds, euclid_on, Ends, monic_list, monic_words, LastOf, TrailOf, Numbers, gcd_done}
 use Rattle.list_gcd.proofs.Ready.{ready}
 
 module _ (F : PrimeField) where
@@ -123,20 +122,10 @@ module _ (F : PrimeField) where
   pub holds_as : {n m : ℕ} {x : List ℕ} {s : S} → n ≡ m → Holds F n x s → Holds F m x s
   holds_as e h = record { buffer = buffer-as e h.buffer; series = h.series }
 
-  -- what is written from the last x, made to end in 1: h, its naive degree, and the inverse of its last word
-  pub record Made (room : ℕ) (f g : List ℕ) (degree inverse : ℕ) (h : List ℕ) : Type 0 where
-    pub degree-is : degree ≡ naive_degree (gcd_of F f g)
-    pub inverse-is : residue F inverse ≡ top_inverse F.series (scalar_field F) (G.room f g) (euclid_of F f g).last
-    pub h-is : h ≡ padded room (gcd_of F f g)
-
-  pub last-made : {n room : ℕ} {f g last h : List ℕ} {degree inverse : ℕ} → LastOf F n f g last → degree + 1 ≡ significant last
-      → residue F inverse ≡ last_inverse F last → h ≡ monic_words F room last → Made room f g degree inverse h
-  last-made {room = room} {last = last} l ed ei eh =
-      record {
-        degree-is = omega (arith, l.size);
-        inverse-is = ei ∙ l.inverse;
-        h-is = eh ∙ ap (λ i. padded room (monic_list F i (series_of F last))) l.buffer.size ∙ ap (padded room) l.list;
-      }
+  -- the words of the last x, made to end in 1, are those of the GCD
+  pub last-words : (room : ℕ) {n : ℕ} {f g last : List ℕ} → LastOf F n f g last → monic_words F room last ≡ padded room (gcd_of F f g)
+  last-words room {n} {f} {g} {last} l =
+      ap (λ i. padded room (monic_list F i (series_of F last))) l.buffer.size ∙ ap (padded room) l.list
 
   -- what is written from the last x
   module _ (n : ℕ) (last : List ℕ) (b : Buffer F n last) where

@@ -1,7 +1,7 @@
 // The GCD of two lists.
 #![tactic(auto)]
 
-ghost use Rattle.std.specs.Prelude.{◌≡◌, cond, [], ◌∷◌, ℕ, min, max, ◌+◌, ◌*◌, ◌<◌, ◌≤◌, eqb, length, get_or, take};
+ghost use Rattle.std.specs.Prelude.{◌≡◌, [], ◌∷◌, ℕ, min, max, ◌+◌, ◌*◌, ◌<◌, ◌≤◌, eqb, length, get_or, take};
 ghost use Rattle.algebra.specs.PrimeField.{residue};
 ghost use Rattle.field.specs.Fields.{modulus, field_at, longest};
 ghost use Rattle.refusal.specs.Limits.{max_words};
@@ -88,11 +88,11 @@ fn scale_into(field: u8, list: &[u16], buffer: &mut [u16])
     word_scaling::weigh(field, list, whole, part, &mut buffer[..list.len()]);
 }
 
-// Where the rounds ended: how many they were, whether the last x stands in the first buffer, and how many words of quotients were kept.
-#[derive(Clone, Copy)]
-struct Ended {
+// Where the rounds ended: how many they were, the buffer that holds the last x, and how many words of quotients were kept.
+#[derive(Drop)]
+struct Ended<'a> {
     rounds: Rounds,
-    first: bool,
+    last: &'a mut [u16],
     kept: usize,
 }
 
@@ -118,41 +118,37 @@ fn keep_round(
     made
 }
 
-// Euclid's rounds on two buffers that alternate, until one of them is zero. The quotients are kept for whoever wants the cofactors.
-fn all_rounds(field: u8, inverses: &[u16], x: &mut [u16], y: &mut [u16], kept: &mut [u16]) -> Ended
+// Euclid's rounds on two buffers, which change places after each, until y is zero. The quotients are kept for whoever wants the cofactors.
+fn all_rounds<'a>(
+    field: u8,
+    inverses: &[u16],
+    x: &'a mut [u16],
+    y: &'a mut [u16],
+    kept: &mut [u16],
+) -> Ended<'a>
     requires buffer { Buffer (field_at field) (length x.old) x.old }
     requires buffer_2 { Buffer (field_at field) (length x.old) y.old }
     requires x_len_bound { (length x.old ≤ max_words) × (length kept.old ≡ 3 * length x.old) }
-    ensures ends { Ends (field_at field) (length x.old) x.old y.old (cond result.first x.new y.new) result.rounds.0 (take result.kept kept.new) }
+    ensures ends { Ends (field_at field) (length x.old) x.old y.old result.last.now result.rounds.0 (take result.kept kept.new) }
     ensures kept_in_bounds { result.kept ≤ length kept.old }
 {
+    let mut last = &mut *x;
+    let mut next = &mut *y;
+    let mut nx = lists::significant_words(last);
+    let mut ny = lists::significant_words(next);
     let mut rounds = 0;
     let mut at = 0;
-    let mut nx = lists::significant_words(x);
-    let mut ny = lists::significant_words(y);
-    loop {
-        if ny == 0 {
-            return Ended {
-                rounds: Rounds(rounds),
-                first: true,
-                kept: at,
-            };
-        }
-        let of_x = keep_round(field, inverses, x, nx, y, ny, kept, at);
-        nx = of_x.left;
-        at += of_x.steps + 1;
+    while ny != 0 {
+        let made = keep_round(field, inverses, last, nx, next, ny, kept, at);
+        at += made.steps + 1;
         rounds += 1;
-        if nx == 0 {
-            return Ended {
-                rounds: Rounds(rounds),
-                first: false,
-                kept: at,
-            };
-        }
-        let of_y = keep_round(field, inverses, y, ny, x, nx, kept, at);
-        ny = of_y.left;
-        at += of_y.steps + 1;
-        rounds += 1;
+        (last, next) = (next, last);
+        (nx, ny) = (ny, made.left);
+    }
+    Ended {
+        rounds: Rounds(rounds),
+        last,
+        kept: at,
     }
 }
 
@@ -183,19 +179,19 @@ fn write_gcd(field: u8, inverses: &[u16], last: &mut [u16], h: &mut [u16]) -> Mo
 }
 
 // Euclid's rounds on the scaled forms of g and f, in buffers x and y of zeros, with their quotients kept.
-fn find_last(
+fn find_last<'a>(
     field: u8,
     inverses: &[u16],
     f: &[u16],
     g: &[u16],
-    x: &mut [u16],
-    y: &mut [u16],
+    x: &'a mut [u16],
+    y: &'a mut [u16],
     kept: &mut [u16],
-) -> Ended
+) -> Ended<'a>
     requires ready { Ready (field_at field) (length x.old) f.now g.now × (length x.old ≤ longest field) }
     requires zeros { Zeros (length x.old) x.old y.old kept.old }
     ensures rounds_value { result.rounds.0 ≡ rounds_of (field_at field) f.now g.now }
-    ensures last_of { LastOf (field_at field) (length x.old) f.now g.now (cond result.first x.new y.new) }
+    ensures last_of { LastOf (field_at field) (length x.old) f.now g.now result.last.now }
     ensures trail_of { TrailOf (field_at field) (length x.old) f.now g.now (take result.kept kept.new) × (result.kept ≤ length kept.old) }
 {
     scale_into(field, g, x);
@@ -230,11 +226,7 @@ pub fn gcd_in(
     ensures trail_of { TrailOf (field_at field) (length x.old) f.now g.now (take result.kept kept.new) × (result.kept ≤ length kept.old) }
 {
     let ended = find_last(field, inverses, f, g, x, y, kept);
-    let made = if ended.first {
-        write_gcd(field, inverses, x, h)
-    } else {
-        write_gcd(field, inverses, y, h)
-    };
+    let made = write_gcd(field, inverses, ended.last, h);
     Found {
         gcd: Gcd {
             degree: made.degree,

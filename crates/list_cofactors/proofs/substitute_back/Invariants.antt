@@ -10,7 +10,7 @@ use Rattle.list_cofactors.proofs.substitute_back.Given as goal
 abbrev pub invariant-loop-at : goal.invariant-loop-at
 invariant-loop-at l =
     record {
-      back : Back (field_at l.field) l.n (take l.used l.kept) (take l.at l.kept) l.s l.t l.c;
+      back : Back (field_at l.field) l.n (take l.used l.kept) (take l.at l.kept) l.first l.second l.c;
       inside : l.at ≤ length l.kept;
     }
 

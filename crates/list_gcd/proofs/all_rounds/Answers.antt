@@ -1,4 +1,4 @@
--- `list_gcd::all_rounds` meets its contract: the rounds go on after each of the two that an iteration makes.
+-- `list_gcd::all_rounds` meets its contract: the rounds go on after each one.
 -- Assumes nothing.
 use mathlib.Core.Path.{refl, sym, ◌∙◌}
 use Prim.Native.Nat.{◌+◌}
@@ -10,22 +10,14 @@ use Rattle.list_gcd.proofs.Alternating.{LedOn, led-start, led_on, led-end}
 use Rattle.list_gcd.proofs.Finish.{buffer-as}
 use borrow.Author.Rules.{rules}
 use Rattle.list_gcd.proofs.all_rounds.Goals as goal
-use Rattle.list_gcd.proofs.all_rounds.Goals.{After-keep_round-of_x, After-keep_round-of_y}
+use Rattle.list_gcd.proofs.all_rounds.Goals.{After-keep_round-made}
 
--- after the round on x
-first : (c : After-keep_round-of_x) → LedOn (field_at c.args.field) (length c.args.x.now) c.args.x.now c.args.y.now c.loop-ny.y c.keep_round-of_x.new.x c.loop-ny.rounds (take (c.loop-ny.at + (c.keep_round-of_x.result.steps + 1)) c.keep_round-of_x.new.kept) (c.loop-ny.at + (c.keep_round-of_x.result.steps + 1)) c.loop-ny.ny c.keep_round-of_x.result.left (length c.args.kept.now)
-first c =
+-- after a round
+next : (c : After-keep_round-made) → LedOn (field_at c.args.field) (length c.args.x.now) c.args.x.now c.args.y.now c.loop-ny.next.now c.keep_round-made.new.x c.loop-ny.rounds (take (c.loop-ny.at + (c.keep_round-made.result.steps + 1)) c.keep_round-made.new.kept) (c.loop-ny.at + (c.keep_round-made.result.steps + 1)) c.loop-ny.ny c.keep_round-made.result.left (length c.args.kept.now)
+next c =
     let pre = c.requires in
     let t = c.loop-ny.invariant in
-    led_on (field_at _) _ t.led _ pre.buffer pre.buffer_2 t.nx_is t.ny_is c.if-ny-eq0.false t.enough c.keep_round-of_x.ensures
-
--- and after the one on y
-second : (c : After-keep_round-of_y) → LedOn (field_at c.args.field) (length c.args.x.now) c.args.x.now c.args.y.now c.keep_round-of_x.new.x c.keep_round-of_y.new.x (c.loop-ny.rounds + 1) (take (c.loop-ny.at + (c.keep_round-of_x.result.steps + 1) + (c.keep_round-of_y.result.steps + 1)) c.keep_round-of_y.new.kept) (c.loop-ny.at + (c.keep_round-of_x.result.steps + 1) + (c.keep_round-of_y.result.steps + 1)) c.keep_round-of_x.result.left c.keep_round-of_y.result.left (length c.args.kept.now)
-second c =
-    let pre = c.requires in
-    let t = c.loop-ny.invariant in
-    let made = led_on (field_at _) _ t.led _ pre.buffer pre.buffer_2 t.nx_is t.ny_is c.if-ny-eq0.false t.enough c.keep_round-of_x.ensures in
-    led_on (field_at _) _ made.next _ pre.buffer pre.buffer_2 t.ny_is made.count c.if-nx-eq0.false made.enough c.keep_round-of_y.ensures
+    led_on (field_at _) _ t.led _ pre.buffer pre.buffer_2 t.nx_is t.ny_is c.loop-ny-test.true t.enough c.keep_round-made.ensures
 
 pub loop-ny-init : goal.loop-ny-init
 loop-ny-init c =
@@ -39,13 +31,8 @@ loop-ny-init c =
       enough = omega (arith, significant-le c.args.x.now, significant-le c.args.y.now);
     }
 
-pub returns-then-ny-eq0 : goal.returns-then-ny-eq0
-returns-then-ny-eq0 c =
-    let t = c.loop-ny.invariant in
-    record { ends = led-end (field_at _) _ t.led (sym t.ny_is ∙ c.if-ny-eq0.true); kept_in_bounds = omega arith }
-
-pub keep_round-of_x-requires : goal.keep_round-of_x-requires
-keep_round-of_x-requires c =
+pub keep_round-made-requires : goal.keep_round-made-requires
+keep_round-made-requires c =
     let t = c.loop-ny.invariant in
     let size = t.led.buffer_x.size in
     record {
@@ -56,47 +43,21 @@ keep_round-of_x-requires c =
     }
 
 pub overflow_add-at : goal.overflow_add-at
-overflow_add-at c = let within = (first (goal.at.overflow_add-at c).After-keep_round-of_x).within in search rules
+overflow_add-at c = let within = (next (goal.at.overflow_add-at c).After-keep_round-made).within in search rules
 
 pub overflow_add-at-in-loop-ny : goal.overflow_add-at-in-loop-ny
-overflow_add-at-in-loop-ny c = let within = (first (goal.at.overflow_add-at-in-loop-ny c).After-keep_round-of_x).within in search rules
+overflow_add-at-in-loop-ny c = let within = (next (goal.at.overflow_add-at-in-loop-ny c).After-keep_round-made).within in search rules
 
 pub overflow_add-rounds : goal.overflow_add-rounds
-overflow_add-rounds c = let few = (first (goal.at.overflow_add-rounds c).After-keep_round-of_x).few in search rules
-
-pub returns-then-nx-eq0 : goal.returns-then-nx-eq0
-returns-then-nx-eq0 c =
-    let made = first (goal.at.returns-then-nx-eq0 c).After-keep_round-of_x in
-    record { ends = led-end (field_at _) _ made.next (sym made.count ∙ c.if-nx-eq0.true); kept_in_bounds = omega arith }
-
-pub keep_round-of_y-requires : goal.keep_round-of_y-requires
-keep_round-of_y-requires c =
-    let made = first (goal.at.keep_round-of_y-requires c).After-keep_round-of_x in
-    let size = made.next.buffer_x.size in
-    record {
-      buffer = buffer-as (field_at _) (sym size) made.next.buffer_x;
-      buffer_2 = buffer-as (field_at _) (sym size) made.next.buffer_y;
-      nx_value = (c.loop-ny.invariant.ny_is, made.count, omega arith);
-      x_len_bound = (omega arith, omega arith);
-    }
-
-pub overflow_add-at-in-loop-ny-2 : goal.overflow_add-at-in-loop-ny-2
-overflow_add-at-in-loop-ny-2 c = let within = (second (goal.at.overflow_add-at-in-loop-ny-2 c).After-keep_round-of_y).within in search rules
-
-pub overflow_add-at-in-loop-ny-3 : goal.overflow_add-at-in-loop-ny-3
-overflow_add-at-in-loop-ny-3 c = let within = (second (goal.at.overflow_add-at-in-loop-ny-3 c).After-keep_round-of_y).within in search rules
-
-pub overflow_add-rounds-in-loop-ny : goal.overflow_add-rounds-in-loop-ny
-overflow_add-rounds-in-loop-ny c = let few = (second (goal.at.overflow_add-rounds-in-loop-ny c).After-keep_round-of_y).few in search rules
+overflow_add-rounds c = let few = (next (goal.at.overflow_add-rounds c).After-keep_round-made).few in search rules
 
 pub loop-ny-smaller : goal.loop-ny-smaller
-loop-ny-smaller c =
-    let less-x = (first (goal.at.loop-ny-smaller c).After-keep_round-of_x).smaller in
-    let less-y = (second (goal.at.loop-ny-smaller c).After-keep_round-of_y).smaller in
-    omega arith
+loop-ny-smaller c = (next (goal.at.loop-ny-smaller c).After-keep_round-made).smaller
 
 pub loop-ny-preserved : goal.loop-ny-preserved
 loop-ny-preserved c =
-    let made-x = first (goal.at.loop-ny-preserved c).After-keep_round-of_x in
-    let made-y = second (goal.at.loop-ny-preserved c).After-keep_round-of_y in
-    record { led = made-y.next; kept_length = omega arith; nx_is = made-x.count; ny_is = made-y.count; enough = made-y.enough }
+    let made = next (goal.at.loop-ny-preserved c).After-keep_round-made in
+    record { led = made.next; kept_length = omega arith; nx_is = c.loop-ny.invariant.ny_is; ny_is = made.count; enough = made.enough }
+
+pub returns-clause-ends : goal.returns-clause-ends
+returns-clause-ends c = let t = c.loop-ny.invariant in led-end (field_at _) _ t.led (sym t.ny_is ∙ c.loop-ny-test.false)

@@ -1,4 +1,4 @@
--- `list_gcd::all_rounds` meets its contract. The loop's invariant: the rounds have led from the first buffers to these, whose numbers of
+-- `list_gcd::all_rounds` meets its contract. The loop's invariant: the rounds have led from the buffers at the start to these, whose numbers of
 -- significant words are nx and ny, and the words for quotients are enough for the rounds that are left. The measure is ny.
 -- Assumes nothing.
 use mathlib.Core.Path.{◌≡◌}
@@ -12,11 +12,11 @@ use Rattle.list_gcd.proofs.all_rounds.Given as goal
 abbrev pub invariant-loop-ny : goal.invariant-loop-ny
 invariant-loop-ny l =
     record {
-      led : Led (field_at l.field) (length l.initial.x) l.initial.x l.initial.y l.x l.y l.rounds (take l.at l.kept);
-      kept_length : length l.kept ≡ length l.initial.kept;
-      nx_is : l.nx ≡ significant l.x;
-      ny_is : l.ny ≡ significant l.y;
-      enough : l.at + (max l.nx l.ny + 2 * l.ny) ≤ length l.initial.kept;
+      led : Led (field_at l.field) (length l.fn.x) l.fn.x l.fn.y l.last l.next l.rounds (take l.at l.kept);
+      kept_length : length l.kept ≡ length l.fn.kept;
+      nx_is : l.nx ≡ significant l.last;
+      ny_is : l.ny ≡ significant l.next;
+      enough : l.at + (max l.nx l.ny + 2 * l.ny) ≤ length l.fn.kept;
     }
 
 abbrev pub decreases-loop-ny : goal.decreases-loop-ny

@@ -5,7 +5,7 @@
 -- Assumes nothing.
 use mathlib.Core.Path.{◌≡◌, refl, sym, ◌∙◌, ap, ap₂, subst}
 use mathlib.Core.List.{List, [], ◌++◌}
-use Prim.Native.Nat.{ℕ, zero, suc, ◌+◌, ◌-◌, ◌*◌, ◌%◌, ◌≤◌, ◌<◌}
+use Prim.Native.Nat.{ℕ, zero, suc, ◌+◌, ◌-◌, ◌*◌, ◌≤◌, ◌<◌}
 use native.Mathlib.Decide.{dec_lt, ℕ_discrete}
 use native.Mathlib.Omega.{arith}
 use lib.ListN.{length, get_or, take, drop, set, length-take, length-drop, length-set, get_or-eq_default, take-append-drop}
@@ -21,8 +21,6 @@ use Rattle.algebra.specs.Division.{quotient, remainder}
 use Rattle.algebra.specs.PrimeField.{PrimeField, scalars, scalar_field, positive, residue}
 use Rattle.algebra.proofs.PrimeField.{residue-0, residue-1, residue-mul-mod, residue-nonzero}
 use Rattle.refusal.specs.Limits.{max_words}
-use Rattle.words.specs.Transfer.{copied_into}
-use Rattle.words.proofs.Transfer.{copied-fit}
 use Rattle.lists.specs.Words.{ZeroFrom, series_of, Tight}
 use Rattle.lists.proofs.Words.{Carries, carries-series_of, series_of-carries, coeff-series_of}
 use Rattle.lists.proofs.Parts.{get_or-then-zeros}
@@ -40,25 +38,8 @@ use Rattle.word_block_division.specs.Blocks.{Inverts, power, Reciprocal, Divided
 use Rattle.word_block_division.proofs.Reciprocals.{block-rest}
 
 -- the length of a part
-pub part_length : (k n m : ℕ) (l : List ℕ) → m ≡ n → k + n ≤ length l → length (take m (drop k l)) ≡ n
+part_length : (k n m : ℕ) (l : List ℕ) → m ≡ n → k + n ≤ length l → length (take m (drop k l)) ≡ n
 part_length k n m l e h = length-take m (drop k l) ∙ omega (arith, length-drop k l)
-
--- the top of a divisor, of e words
-pub top-inverts : (p inv : ℕ) (y : List ℕ) (e : ℕ) → 1 ≤ e → e ≤ length y → Inverts p inv y
-    → Inverts p inv (take (length y - (length y - e)) (drop (length y - e) y))
-top-inverts p inv y e l h i =
-    rw (rest-is (length y - e) y)
-    (record {
-      some = omega (arith, words);
-      tight = tight-drop (length y - e) i.tight;
-      inverse = ap (λ n. (inv * n) % p) (get_or-drop (length y - e) y _ 0 ∙ ap (λ k. get_or y k 0) last) ∙ i.inverse;
-    })
-  where
-    words : length (drop (length y - e) y) ≡ e
-    words = length-drop (length y - e) y ∙ omega arith
-
-    last : length y - e + (length (drop (length y - e) y) - 1) ≡ length y - 1
-    last = omega (arith, words)
 
 module _ (F : PrimeField) where
   open scalars F use {Carrier as K, zero as 𝟘, one as 𝟙, mul as ◌⊗◌}
@@ -170,11 +151,6 @@ module _ (F : PrimeField) where
       fits : length (set z (length z - 1) 1) + 1 ≡ length top + length s
       fits = ap (λ n. n + 1) (length-set z (length z - 1) 1) ∙ omega arith
 
-  pub reciprocal-top : (y s : List ℕ) {s' : List ℕ} → length s' ≡ length s
-      → Reciprocal F (take (length y - (length y - length s)) (drop (length y - length s) y)) s' → Reciprocal F (drop (length y - length s') y) s'
-  reciprocal-top y s {s'} e r =
-      subst (λ l. Reciprocal F l s') (rest-is (length y - length s) y ∙ ap (λ n. drop (length y - n) y) (sym e)) r
-
   -- words that stand for 0 are 0
   zero_word : {l : List ℕ} {r : S} → Carries F l r → (k : ℕ) → F.series.coeff r k ≡ 𝟘 → get_or l k 0 ≡ 0
   zero_word {l} c k e = go (ℕ_discrete (get_or l k 0) 0)
@@ -270,7 +246,7 @@ module _ (F : PrimeField) where
       (small : length y ≤ max_words) (fits : length s ≤ length y) (some : 1 ≤ length q) (short : length q ≤ length s)
       (lx : length x + 1 ≡ length y + length q) (lt : length t + 1 ≡ length q + length s) (lv : length v ≡ length x)
       (et : t' ≡ convolved_into F max_words (take (length x - (length y - 1)) (drop (length y - 1) x)) s t)
-      (eq : q' ≡ copied_into (take (length t' - (length s - 1)) (drop (length s - 1) t')) q)
+      (eq : q' ≡ take (length t' - (length s - 1)) (drop (length s - 1) t'))
       (ev : v' ≡ convolved_into F max_words q' y v) where
     one_word : 1 ≤ length s
     one_word = r.some
@@ -290,7 +266,7 @@ module _ (F : PrimeField) where
     quotient-words = length-drop (length s - 1) t' ∙ omega (arith, product-words, one_word)
 
     quotient_is : q' ≡ drop (length s - 1) t'
-    quotient_is = eq ∙ ap (λ l. copied_into l q) (rest-is (length s - 1) t') ∙ copied-fit (drop (length s - 1) t') q quotient-words
+    quotient_is = eq ∙ rest-is (length s - 1) t'
 
     quotient-some : length q' ≡ length q
     quotient-some = ap length quotient_is ∙ quotient-words

@@ -3,7 +3,7 @@
 // those of crate `word_product`. Short divisions go to crate `word_division`, row by row.
 #![tactic(auto)]
 
-ghost use Rattle.std.specs.Prelude.{◌≡◌, true, List, ℕ, ◌+◌, ◌-◌, ◌*◌, ◌≤◌, length, take, drop};
+ghost use Rattle.std.specs.Prelude.{◌≡◌, IfSome, true, List, ℕ, ◌+◌, ◌-◌, ◌*◌, ◌≤◌, length, take, drop};
 ghost use Rattle.refusal.specs.Limits.{max_words};
 ghost use Rattle.field.specs.Fields.{modulus, field_at};
 ghost use Rattle.lists.specs.Words.{ZeroFrom, Tight};
@@ -15,20 +15,17 @@ const LONG: usize = 64;
 
 const SHORT: usize = 32;
 
-// How many words a block has; 0 where rows are quicker.
-fn block_words(n: usize, k: usize) -> usize
-    ensures { (result ≤ block_words) × (result ≤ n) }
+// How many words a block has, where rows are not quicker.
+fn block_words(n: usize, k: usize) -> Option<usize>
+    ensures { IfSome result (λ e. (1 ≤ e) × (e ≤ block_words) × (e ≤ n)) }
 {
-    if n < SHORT {
-        return 0;
+    if n.min(k) < SHORT {
+        None
+    } else if n < 4 * LONG {
+        Some(SHORT)
+    } else {
+        Some(LONG)
     }
-    if k < SHORT {
-        return 0;
-    }
-    if n < 4 * LONG {
-        return SHORT;
-    }
-    LONG
 }
 
 // Whether the division can be made in blocks: the lengths fit, no word is loose, and inv is the inverse of the divisor's last word.
@@ -36,28 +33,13 @@ fn is_suited(field: u8, x: &[u16], y: &[u16], inv: u16, k: usize) -> bool
     ensures { result ≡ true → Suits (modulus field) inv x.now y.now k }
 {
     let n = y.len();
-    if n == 0 {
-        return false;
-    }
-    if refusal::MAX_WORDS < n {
-        return false;
-    }
-    if x.len() < n {
-        return false;
-    }
-    if x.len() - n + 1 != k {
-        return false;
-    }
-    if lists::has_loose(field, x) {
-        return false;
-    }
-    if lists::has_loose(field, y) {
-        return false;
-    }
-    if field::mul(field, inv, y[n - 1]) != 1 {
-        return false;
-    }
-    true
+    1 <= n
+        && n <= refusal::MAX_WORDS
+        && n <= x.len()
+        && x.len() - n + 1 == k
+        && !lists::has_loose(field, x)
+        && !lists::has_loose(field, y)
+        && field::mul(field, inv, y[n - 1]) == 1
 }
 
 // The reciprocal of a divisor's top, of as many words: the quotient of u^(2 e - 2) by it. z is 0.
@@ -88,7 +70,7 @@ fn reduce_block(
     let d = y.len() - 1;
     let e = s.len() - 1;
     word_product::convolve(field, &x[d..], s, t);
-    words::copy(&t[e..], q);
+    q.copy_from_slice(&t[e..]);
     word_product::convolve(field, q, y, v);
     word_karatsuba::sub_words(x, v, field::modulus_of(field));
 }
@@ -138,9 +120,10 @@ fn reduce_blocks(
     requires x_len { (length x.old + 1 ≡ length y.now + length q.old) × (length t.old + 1 ≡ 2 * length s.now) × (length y.now + length s.now ≤ length v.old + 1) }
     ensures { Divided (field_at field) y.now x.old q.new x.new }
 {
+    // By hand: k is a block's place in x too, where the parts of two blocks overlap.
     let mut k = q.len();
     while 0 < k {
-        let n = words::smaller(k, s.len());
+        let n = k.min(s.len());
         k -= n;
         reduce_at(field, x, y, s, q, t, v, k, n);
     }
@@ -183,16 +166,10 @@ pub fn reduce(field: u8, x: &mut [u16], y: &[u16], inv: u16, q: &mut [u16])
     ensures left { x.new ≡ words_reduced (modulus field) inv x.old y.now q.old }
     ensures quotient { q.new ≡ words_of_quotient (modulus field) inv x.old y.now q.old }
 {
-    let e = block_words(y.len(), q.len());
-    if e == 0 {
-        word_division::reduce(field, x, y, inv, q);
-        return;
+    match block_words(y.len(), q.len()) {
+        Some(e) if is_suited(field, x, y, inv, q.len()) => reduce_by(field, x, y, inv, q, e),
+        _ => word_division::reduce(field, x, y, inv, q),
     }
-    if is_suited(field, x, y, inv, q.len()) {
-        reduce_by(field, x, y, inv, q, e);
-        return;
-    }
-    word_division::reduce(field, x, y, inv, q);
 }
 
 // The division of x by the first n words of y, where the words of x are below p, and y is 0 after these. x may have more words than the

@@ -1,15 +1,15 @@
 -- Laws of the loops that expand a sum of powers, and of the words that they leave.
---     taken-le, before-below                        bounds: what is taken off, the word before a word
+--     before-below                                  the word before a word is below p
 --     length-gained, get_or-gained                  the words of a list times 1 + t or 1 - t
---     Gaining, gain-start, gain-next, gain-end      the loop over them: what holds before word i, its start, one turn and its end
---     word_below, last-below                        both words of a turn are below p
+--     Gaining, gain-next, gain-end                  the loop over them: what holds before word i, one turn and its end
+--     last-below                                    the word before that of a turn is below p
 --     stepped p plus n x                            the words of x, the first n of them multiplied so
 --     length-stepped, stepped-low, stepped-high     its words
 --     length-expanded_to, length-expanded           as many words as before
 --     tight-stepped, tight-expanded_to              no word becomes loose
 --     expand-start, expand-turn, expand-end         the loop over the steps: its start, one turn and its end
 --     expand-tight                                  what a turn hands on is tight
---     into-loose, into-none, into-tight             what a slice holds where a word is loose, and where none is
+--     into-tight                                    what a slice holds where no word is loose
 -- Assumes nothing.
 use mathlib.Core.Path.{◌≡◌, refl, sym, ◌∙◌, ap, ap₂}
 use mathlib.Core.Bool.{Bool, true, false, cond}
@@ -21,8 +21,7 @@ use native.Mathlib.Decide.{dec_lt}
 use native.Mathlib.Omega.{arith}
 use lib.ListN.{length, get_or, take, drop, set, get_or-append}
 use lib.Seq.{length-take-le, length_front, get_or-take, get_or-drop, get_or-append-add, get_or-set_other}
-use Rattle.lists.specs.Refused.{has_loose}
-use Rattle.lists.proofs.Filled.{Filled, fill_start, fill_step, fill_end}
+use Rattle.lists.proofs.Filled.{Filled, fill_step, fill_end}
 use Rattle.lists.proofs.Tabulate.{length-tabulate, get_or-tabulate}
 use Rattle.lists.proofs.Search.{tight}
 use Rattle.lists.specs.Words.{Tight}
@@ -34,10 +33,6 @@ taken-signed : (p a b : ℕ) (plus : Bool) → b ≤ p → (a + (p - cond plus (
 unfolding signed
 taken-signed p a b true l = let e : p - (p - b) ≡ b = omega arith in ap (λ n. (a + n) % p) e
 taken-signed p a b false l = refl
-
-pub taken-le : (p b : ℕ) (plus : Bool) {r : ℕ} → b < p → r ≡ cond plus (p - b) b → r ≤ p
-taken-le p b true l e = omega arith
-taken-le p b false l e = omega arith
 
 -- the word before a word is below p
 pub before-below : {p : ℕ} {x : List ℕ} → Tight p x → (i : ℕ) → get_or (0 ∷ x) i 0 < p
@@ -63,9 +58,6 @@ module _ (p : ℕ) (plus : Bool) where
     pub rest : (k : ℕ) → i ≤ k → get_or x k 0 ≡ get_or old k 0
     pub last : before ≡ get_or (0 ∷ old) i 0
 
-  pub gain-start : (x : List ℕ) → Gaining x x 0 0
-  gain-start x = record { done = fill_start _ _; rest = λ k l. refl; last = refl }
-
   pub gain-next : {old x : List ℕ} {i before off v : ℕ} → length x ≡ length old → i < length x → before < p → Gaining old x i before
       → off ≡ cond plus (p - before) before → v ≡ (get_or x i 0 + (p - off)) % p → Gaining old (set x i v) (i + 1) (get_or x i 0)
   gain-next {old} {x} {i} {before} {off} {v} n l b g eo ev =
@@ -79,10 +71,6 @@ module _ (p : ℕ) (plus : Bool) where
       word =
           ev ∙ ap (λ o. (get_or x i 0 + (p - o)) % p) eo ∙ taken-signed p (get_or x i 0) before plus (omega arith)
           ∙ ap₂ (λ a c. (a + signed p plus c) % p) (g.rest i (le_refl i)) g.last ∙ sym (get_or-gained old i (omega arith))
-
-  -- both words of a turn are below p
-  pub word_below : {old x : List ℕ} {i before : ℕ} → Tight p old → Gaining old x i before → get_or x i 0 < p
-  word_below {i = i} h g = rw (g.rest i (le_refl i)) (h.at i)
 
   pub last-below : {old x : List ℕ} {i before : ℕ} → Tight p old → Gaining old x i before → before < p
   last-below {i = i} h g = rw g.last (before-below h i)
@@ -165,11 +153,5 @@ module _ (p : ℕ) (plus : Bool) where
   expand-end k old x l h n t e = let q : k - 1 ≡ length old - 1 = omega arith in e ∙ ap (λ i. expanded_to p plus i old) q
 
 -- the guard
-pub into-loose : (p : ℕ) (x : List ℕ) → has_loose p x ≡ true → (plus : Bool) → expanded_into p plus x ≡ x
-into-loose p x h plus = ap (λ b. cond b x (expanded p plus x)) h
-
-pub into-none : (p : ℕ) (x : List ℕ) → has_loose p x ≡ false → (plus : Bool) → expanded_into p plus x ≡ expanded p plus x
-into-none p x h plus = ap (λ b. cond b x (expanded p plus x)) h
-
 pub into-tight : {p : ℕ} (x : List ℕ) → ((k : ℕ) → get_or x k 0 < p) → (plus : Bool) → expanded_into p plus x ≡ expanded p plus x
-into-tight {p} x h plus = into-none p x (tight p x h) plus
+into-tight {p} x h plus = ap (λ b. cond b x (expanded p plus x)) (tight p x h)

@@ -23,10 +23,8 @@ fn expand_in(p: u16, plus: bool, x: &mut [u16])
     requires { Tight p x.old }
     ensures { x.new ≡ expanded p plus x.old }
 {
-    let mut k = 1;
-    while k < x.len() {
-        k += 1;
-        gain(p, plus, &mut x[..k]);
+    for k in 1..x.len() {
+        gain(p, plus, &mut x[..=k]);
     }
 }
 
@@ -36,22 +34,18 @@ fn gain(p: u16, plus: bool, x: &mut [u16])
     ensures { x.new ≡ gained p plus x.old }
 {
     let mut before: u16 = 0;
-    let mut i = 0;
-    while i < x.len() {
-        let word = x[i];
-        x[i] = word_montgomery::sub_below(word, taken(p, plus, before), p);
-        before = word;
-        i += 1;
+    for word in x.iter_mut() {
+        let old = *word;
+        *word = word_montgomery::sub_below(old, taken(p, plus, before), p);
+        before = old;
     }
 }
 
-// What is taken off: b, or p less b where b is to be added.
+// What is taken off: b, or p less b where b is to be added. `plus` stays a bool, which `expanded` takes too: a closure would be made from it
+// here.
 fn taken(p: u16, plus: bool, b: u16) -> u16
     requires { b < p }
     ensures { result ≡ cond plus (p - b) b }
 {
-    if plus {
-        return p - b;
-    }
-    b
+    if plus { p - b } else { b }
 }

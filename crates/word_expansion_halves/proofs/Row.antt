@@ -5,9 +5,12 @@
 -- Theorems:
 --     coeff-power     coefficient k of (1 + m·t)^n is m^k · C(n,k)
 --     row_carries     the scaled form of n + 1 signs has the words of (1 ± t)^n
+--     row-is, series_of-power_row     these are `power_row`, which stands for the power
+--     row-weighed     so are the signs, weighed with tables of factorials
 -- Assumes nothing.
 use mathlib.Core.Path.{◌≡◌, refl, sym, ◌∙◌, ap, ap₂, subst}
 use mathlib.Core.Bool.{Bool, true, false}
+use mathlib.Core.List.{List}
 use Prim.Native.Nat.{ℕ, zero, suc, ◌+◌, ◌-◌, ◌≤◌, ◌<◌}
 use native.Mathlib.Decide.{dec_lt}
 use native.Mathlib.Numerals.{add-one}
@@ -24,11 +27,17 @@ use Rattle.algebra.proofs.PrimeField.{residue-0, residue-1, residue-add}
 use Rattle.lists.specs.Degrees.{naive_degree}
 use Rattle.lists.specs.Lists.{word, binomial, scaled}
 use Rattle.lists.proofs.Scaled.{binomial-above, coeff-scaled-at}
-use Rattle.lists.proofs.Tabulate.{length-tabulate, get_or-tabulate}
-use Rattle.lists.proofs.Words.{Carries, scaled_words, carries-scaled}
+use Rattle.lists.proofs.Tabulate.{length-tabulate, get_or-tabulate, tabulated}
+use Rattle.lists.proofs.Words.{Carries, scaled_words, length-scaled_words, carries-scaled, series_of-carries, value-is}
+use Rattle.lists.specs.Words.{series_of}
+use Rattle.field.specs.Fields.{modulus, field_at}
+use Rattle.field.proofs.Fields.{p-at, modulus-half, longest-in}
+use Rattle.field_tables.specs.Factorials.{TablesFor}
+use Rattle.word_scaling.specs.Scaling.{weighed_into}
+use Rattle.word_scaling.proofs.Weights.{scale-is}
 use Rattle.word_expansion.specs.Expansion.{signed}
 use Rattle.word_expansion.proofs.Horner.{sign, residue-signed, coeff-factor}
-use Rattle.word_expansion_halves.specs.Halves.{sign_at, signs, base}
+use Rattle.word_expansion_halves.specs.Halves.{sign_at, signs, base, power_row}
 use Rattle.word_expansion_halves.proofs.Split.{factor, base-is}
 
 module _ (p : ℕ) (plus : Bool) where
@@ -102,6 +111,10 @@ module _ (F : PrimeField) where
       collect : (m q a b : K) → m ⊗ q ⊗ b ⊕ m ⊗ (q ⊗ a) ≡ m ⊗ q ⊗ (a ⊕ b)
       collect m q a b = simp RING
 
+  pub length-power_row : (plus : Bool) (n : ℕ) → length (power_row F plus n) ≡ suc n
+  unfolding power_row
+  length-power_row plus n = length-tabulate (suc n) _
+
   module _ (plus : Bool) (big : 1 < F.p) where
     residue-sign : (k : ℕ) → residue F (sign_at F.p plus k) ≡ pow_k (sign F plus) k
     residue-sign zero = ap (residue F) (sign_zero F.p plus) ∙ residue-1 F ∙ sym (pow-zero (scalars F) _)
@@ -127,3 +140,22 @@ module _ (F : PrimeField) where
 
     pub row_carries : (n : ℕ) → Carries F (scaled_words F (signs F.p plus (suc n))) (pow F.series.ring (base F plus) n)
     row_carries n = subst (Carries F (scaled_words F (signs F.p plus (suc n)))) (signs-power n) (carries-scaled F (signs F.p plus (suc n)))
+
+    pub row-is : (n : ℕ) → scaled_words F (signs F.p plus (suc n)) ≡ power_row F plus n
+    unfolding power_row
+    row-is n =
+        let c = row_carries n in
+        tabulated _ (suc n) _ (length-scaled_words F _ ∙ signs-length F.p plus (suc n)) (λ k l. value-is F _ _ (c.below k) (c.at k))
+
+    pub series_of-power_row : (n : ℕ) → series_of F (power_row F plus n) ≡ pow F.series.ring (base F plus) n
+    series_of-power_row n = ap (series_of F) (sym (row-is n)) ∙ series_of-carries F (row_carries n)
+
+pub row-weighed : (k : ℕ) (plus : Bool) {whole part : List ℕ} → TablesFor k whole part → (sign out : List ℕ) {row : List ℕ} → 0 < length out → length out ≤ length whole
+    → sign ≡ signs (modulus k) plus (length out) → row ≡ weighed_into (modulus k) sign whole part out → row ≡ power_row (field_at k) plus (length out - 1)
+row-weighed k plus {whole} {part} t sign out some short e q =
+    let F = field_at k in
+    let size : length sign ≡ length out = ap length e ∙ signs-length (modulus k) plus (length out) in
+    let more : length out ≡ suc (length out - 1) = omega arith in
+    scale-is F (p-at k) (length whole) (omega (arith, t.few, longest-in k)) whole part t.tables sign out (sym size) (omega arith) q
+    ∙ ap (scaled_words F) (e ∙ ap₂ (λ p n. signs p plus n) (sym (p-at k)) more)
+    ∙ row-is F plus (omega (arith, p-at k, modulus-half k)) (length out - 1)

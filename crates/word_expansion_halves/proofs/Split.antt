@@ -1,10 +1,8 @@
 -- Horner's rule over two parts of the words.
---     tight-drop                      the last words of a tight list are tight
 --     factor m, pow_t k               1 + m·t, and t^k
 --     base-is                         1 + t and 1 - t are 1 + m·t with m the sign
 --     joined-carries                  words that stand for the sum of both parts, as many as there are, are `joined`
---     second-part, both-parts         a list whose first words are written, and then the others: the part that is left, and the whole
---     parts-length, parts-tight       the two parts, one after the other, are as many words as before, and tight
+--     parts-tight                     the two parts, expanded, are tight one after the other
 --     zeros-expanded                  words that are all 0 stay so, with p as the code has it
 --     parts-expanded                  what the code leaves is all words expanded, with p as the code has it
 -- Theorems:
@@ -14,10 +12,10 @@
 -- Assumes nothing.
 use mathlib.Core.Path.{◌≡◌, refl, sym, ◌∙◌, ap, ap₂, subst}
 use mathlib.Core.Bool.{Bool, true, false}
-use mathlib.Core.List.{List, ◌++◌, append-nil}
+use mathlib.Core.List.{List, ◌++◌}
 use Prim.Native.Nat.{ℕ, zero, suc, ◌+◌, ◌-◌, ◌≤◌, ◌<◌}
 use native.Mathlib.Omega.{arith}
-use lib.ListN.{length, get_or, take, drop, length-append, length-drop, drop_of_length-le}
+use lib.ListN.{length, get_or, take, drop, length-append, length-drop}
 use lib.Seq.{length-take-le, get_or-take, get_or-drop, ext_get_or, take_at, drop_at}
 use Rattle.algebra.specs.RingLaws as R
 use Rattle.algebra.specs.Ring.{pow}
@@ -38,7 +36,6 @@ use Rattle.ordinary_theory.specs.Form.{form}
 use Rattle.word_expansion.specs.Expansion.{expanded}
 use Rattle.word_expansion.proofs.Loops.{length-expanded}
 use Rattle.word_expansion.proofs.Horner.{sign, less-t, plus-t, Horner, horner-hom, horner-form, expanded-horner}
-use Rattle.word_karatsuba.proofs.Parts.{rest-is}
 use Rattle.word_expansion_halves.specs.Halves.{base, joined_series, joined}
 
 module _ (F : PrimeField) where
@@ -195,23 +192,6 @@ module _ (F : PrimeField) where
           (carries.at k ∙ ap (λ s. F.series.coeff s k) (steps-zero plus (series_of F x) all (length x - 1)) ∙ coeff-0 F.series k ∙ sym (residue-0 F))
           ∙ sym (value-is F 0 (residue F 0) (positive F) refl)
 
--- z written over the first h words of x, then w over the others
-module _ (h : ℕ) (x z w : List ℕ) (lz : length z ≡ length (take h x)) (l : h ≤ length x) where
-  front : length z ≡ h
-  front = lz ∙ length-take-le h x l
-
-  pub second-part : take (length (z ++ drop h x) - h) (drop h (z ++ drop h x)) ≡ drop h x
-  second-part = rest-is h (z ++ drop h x) ∙ drop_at z (drop h x) h front
-
-  pub both-parts : take h (z ++ drop h x) ++ (w ++ drop (length (z ++ drop h x) - h) (drop h (z ++ drop h x))) ≡ z ++ w
-  both-parts =
-      ap₂ (λ u v. u ++ (w ++ v)) (take_at z (drop h x) h front)
-      (drop_of_length-le (drop h (z ++ drop h x)) {i = length (z ++ drop h x) - h} (simp length-drop (omega arith)))
-      ∙ ap (λ u. z ++ u) (append-nil w)
-
-  pub parts-length : length w ≡ length (take (length (z ++ drop h x) - h) (drop h (z ++ drop h x))) → length (z ++ w) ≡ length x
-  parts-length lw = length-append z w ∙ omega (arith, front, lw ∙ ap length second-part ∙ length-drop h x, l)
-
 -- with p by another name, as the code has it
 module _ (F : PrimeField) {m : ℕ} (e : F.p ≡ m) (plus : Bool) (x : List ℕ) (tight : Tight m x) where
   tight-here : Tight F.p x
@@ -220,10 +200,10 @@ module _ (F : PrimeField) {m : ℕ} (e : F.p ≡ m) (plus : Bool) (x : List ℕ)
   pub zeros-expanded : significant x ≡ 0 → x ≡ expanded m plus x
   zeros-expanded z = expanded-zeros F plus x tight-here z ∙ ap (λ p. expanded p plus x) e
 
-  module _ (h : ℕ) {z w : List ℕ} (first : z ≡ expanded m plus (take h x)) (second : w ≡ expanded m plus (drop h x)) where
+  module _ (h : ℕ) {a b z w : List ℕ} (front : a ≡ take h x) (back : b ≡ drop h x) (first : z ≡ expanded m plus a) (second : w ≡ expanded m plus b) where
     pub parts-tight : Tight m (z ++ w)
     parts-tight =
-        rw (first, second)
+        rw (first, second, front, back)
         (tight-append (tight-expanded (take h x) (tight-take h tight)) (tight-expanded (drop h x) (tight-drop h tight)))
       where
         tight-expanded : (y : List ℕ) → Tight m y → Tight m (expanded m plus y)
@@ -232,5 +212,5 @@ module _ (F : PrimeField) {m : ℕ} (e : F.p ≡ m) (plus : Bool) (x : List ℕ)
 
     pub parts-expanded : {y : List ℕ} → 1 ≤ h → h < length x → y ≡ joined F plus h (z ++ w) → y ≡ expanded m plus x
     parts-expanded some l q =
-        q ∙ ap (joined F plus h) (ap₂ (λ u v. u ++ v) (first ∙ ap (λ p. expanded p plus (take h x)) (sym e)) (second ∙ ap (λ p. expanded p plus (drop h x)) (sym e)))
+        q ∙ ap (joined F plus h) (ap₂ (λ u v. u ++ v) (first ∙ ap₂ (λ p y. expanded p plus y) (sym e) front) (second ∙ ap₂ (λ p y. expanded p plus y) (sym e) back))
         ∙ expanded-joined F plus h x some l tight-here ∙ ap (λ p. expanded p plus x) e

@@ -2,6 +2,7 @@
 --     sign_at p plus k        1, or (-1)^k modulo p
 --     signs p plus n          the first n of these
 --     base F plus             the polynomial 1 + t, or 1 - t
+--     power_row F plus m      the words of (1 ± t)^m, m + 1 of them
 --     joined_series           (1 ± t)^m times the first h words of x plus t^h times the other m, as a series
 --     joined F plus h x       the words of it, as many as x has
 --     Room h n k o            the lengths fit: h of n words, k of a power of 1 ± t, and o of the result
@@ -32,6 +33,9 @@ module _ (F : PrimeField) where
   infixl 70 ◌*ˢ◌
   unfoldable pub base : Bool → S
   base plus = cond plus (⟨1+u⟩ F.series) (⟨1-t⟩ F.series)
+
+  unfoldable pub power_row : Bool → ℕ → List ℕ
+  power_row plus m = tabulate (suc m) (λ k. value F (F.series.coeff (pow F.series.ring (base plus) m) k))
 
   unfoldable pub joined_series : Bool → (h : ℕ) → List ℕ → S
   joined_series plus h x =

@@ -1,13 +1,9 @@
 -- `word_block_division::invert` meets its contract: a division row by row.
 -- Assumes nothing.
-use lib.ListN.{length-set}
 use Rattle.field.specs.Fields.{field_at}
 use Rattle.field.proofs.Fields.{p-at}
 use Rattle.word_block_division.proofs.Blocks.{reciprocal-at}
 use Rattle.word_block_division.proofs.invert.Goals as goal
-
-pub shape_of-z : goal.shape_of-z
-shape_of-z c = simp length-set at c.reduce.auto.x
 
 pub returns : goal.returns
 returns c =

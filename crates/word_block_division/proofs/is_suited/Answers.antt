@@ -1,48 +1,36 @@
 -- `word_block_division::is_suited` meets its contract: where every test is passed, the division suits.
 -- Assumes nothing.
 use mathlib.Core.Path.{◌≡◌, sym, ◌∙◌}
-use Prim.Native.Nat.{ℕ}
+use mathlib.Core.Bool.{false}
+use Prim.Native.Nat.{◌+◌, ◌≤◌}
 use native.Mathlib.Omega.{arith}
+use borrow.Author.Tests.{eqb-true}
+use lib.ListN.{length}
 use Rattle.field.specs.Fields.{modulus}
 use Rattle.field.proofs.Fields.{modulus-some}
+use Rattle.refusal.specs.Limits.{max_words}
+use Rattle.std.proofs.lemmas.Grind.{common_steps}
+use Rattle.lists.specs.Refused.{has_loose}
 use Rattle.lists.proofs.Search.{none-loose}
 use Rattle.word_block_division.proofs.is_suited.Goals as goal
 
-pub returns-then-n-eq0 : goal.returns-then-n-eq0
-returns-then-n-eq0 c = λ e. let z : ◌≡◌ {A = ℕ} 0 1 = cc in absurd (omega arith)
-
-pub returns-then-n-gt-MAX_WORDS : goal.returns-then-n-gt-MAX_WORDS
-returns-then-n-gt-MAX_WORDS c = λ e. let z : ◌≡◌ {A = ℕ} 0 1 = cc in absurd (omega arith)
-
-pub returns-then-x-n : goal.returns-then-x-n
-returns-then-x-n c = λ e. let z : ◌≡◌ {A = ℕ} 0 1 = cc in absurd (omega arith)
-
-pub returns-then-x-n-2 : goal.returns-then-x-n-2
-returns-then-x-n-2 c = λ e. let z : ◌≡◌ {A = ℕ} 0 1 = cc in absurd (omega arith)
-
-pub returns-then-has_loose : goal.returns-then-has_loose
-returns-then-has_loose c = λ e. let z : ◌≡◌ {A = ℕ} 0 1 = cc in absurd (omega arith)
-
-pub returns-then-has_loose-2 : goal.returns-then-has_loose-2
-returns-then-has_loose-2 c = λ e. let z : ◌≡◌ {A = ℕ} 0 1 = cc in absurd (omega arith)
-
-pub returns-then-mul-ne1 : goal.returns-then-mul-ne1
-returns-then-mul-ne1 c = λ e. let z : ◌≡◌ {A = ℕ} 0 1 = cc in absurd (omega arith)
-
-pub returns : goal.returns
-returns c =
+pub returns-then-not-has_loose-2 : goal.returns-then-not-has_loose-2
+returns-then-not-has_loose-2 c =
     λ e.
     let a = c.args in
-    let loose-x = sym c.has_loose.ensures ∙ c.if-has_loose.false in
-    let loose-y = sym c.has_loose-2.ensures ∙ c.if-has_loose-2.false in
+    let some : 1 ≤ length a.y.now = grind arith in
+    let short : length a.y.now ≤ max_words = grind arith in
+    let steps : length a.x.now + 1 ≡ length a.y.now + a.k = grind arith in
+    let loose-x : has_loose (modulus a.field) a.x.now ≡ false = grind (arith, common_steps) in
+    let loose-y : has_loose (modulus a.field) a.y.now ≡ false = grind (arith, common_steps) in
     record {
       inverts =
           record {
-            some = omega arith;
+            some = some;
             tight = record { at = none-loose (modulus a.field) a.y.now (modulus-some a.field) loose-y };
-            inverse = sym c.mul.ensures ∙ c.if-mul-ne1.false;
+            inverse = sym c.mul.ensures ∙ eqb-true c.mul.result 1 e;
           };
-      short = omega arith;
-      steps = omega arith;
+      short = short;
+      steps = steps;
       tight = record { at = none-loose (modulus a.field) a.x.now (modulus-some a.field) loose-x };
     }

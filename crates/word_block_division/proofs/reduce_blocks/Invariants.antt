@@ -1,7 +1,6 @@
 -- `word_block_division::reduce_blocks` meets its contract. The loop's invariant: the quotient's words from k on are there, and x is what is left. The
 -- measure is k.
 -- Assumes nothing.
-use mathlib.Core.Path.{◌≡◌}
 use Prim.Native.Nat.{◌≤◌}
 use lib.ListN.{length}
 use Rattle.field.specs.Fields.{field_at}
@@ -9,9 +8,7 @@ use Rattle.word_block_division.specs.Blocks.{Begun}
 use Rattle.word_block_division.proofs.reduce_blocks.Given as goal
 
 abbrev pub invariant-loop-k : goal.invariant-loop-k
-invariant-loop-k l =
-    (l.k ≤ length l.initial.q) × (length l.x ≡ length l.initial.x) × (length l.q ≡ length l.initial.q) × (length l.t ≡ length l.initial.t) × (length l.v ≡ length l.initial.v)
-    × Begun (field_at l.field) l.y l.initial.x l.k l.x l.q
+invariant-loop-k l = (l.k ≤ length l.initial.q) × Begun (field_at l.field) l.y l.initial.x l.k l.x l.q
 
 abbrev pub decreases-loop-k : goal.decreases-loop-k
 decreases-loop-k l = l.k

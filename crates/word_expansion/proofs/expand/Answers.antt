@@ -1,17 +1,10 @@
 -- `word_expansion::expand` meets its contract: where it finds no loose word, it expands.
 -- Assumes nothing.
-use mathlib.Core.Path.{sym, ◌∙◌, ap}
+use mathlib.Core.Path.{sym, ◌∙◌}
 use Rattle.field.specs.Fields.{modulus}
 use Rattle.field.proofs.Fields.{modulus-some}
 use Rattle.lists.proofs.Search.{none-loose}
-use Rattle.word_expansion.specs.Expansion.{expanded}
-use Rattle.word_expansion.proofs.Loops.{into-loose, into-none}
 use Rattle.word_expansion.proofs.expand.Goals as goal
-
-pub returns-then-has_loose : goal.returns-then-has_loose
-returns-then-has_loose c =
-    let a = c.args in
-    sym (into-loose (modulus a.field) a.x.now (sym c.has_loose.ensures ∙ c.if-has_loose.true) a.plus)
 
 pub expand_in-requires : goal.expand_in-requires
 expand_in-requires c =
@@ -19,11 +12,3 @@ expand_in-requires c =
     let none = sym c.has_loose.ensures ∙ c.if-has_loose.false in
     rw c.modulus_of.ensures
     (record { at = none-loose (modulus a.field) a.x.now (modulus-some a.field) none })
-
-pub returns : goal.returns
-returns c =
-    let a = c.args in
-    let none = sym c.has_loose.ensures ∙ c.if-has_loose.false in
-    c.expand_in.ensures
-    ∙ ap (λ p. expanded p a.plus a.x.now) c.modulus_of.ensures
-    ∙ sym (into-none (modulus a.field) a.x.now none a.plus)

@@ -1,27 +1,17 @@
--- `word_expansion::expand_in` meets its contract. The loop's invariant: the words before word k are expanded. The measure is the number of
--- words left.
+-- `word_expansion::expand_in` meets its contract. The loop's invariant: the words before word k are expanded.
 -- Assumes nothing.
-use mathlib.Core.Path.{refl, sym}
-use lib.Seq.{length-take-le}
+use native.Mathlib.Omega.{arith}
 use Rattle.word_expansion.proofs.Loops.{expand-start, expand-tight, expand-turn, expand-end}
-use borrow.Author.Rules.{rules}
 use Rattle.word_expansion.proofs.expand_in.Goals as goal
 
 pub loop-k-init : goal.loop-k-init
-loop-k-init c = (search rules, search rules, refl, expand-start _ _ _)
-
-pub slice_bounds-gain-end-in-loop-k : goal.slice_bounds-gain-end-in-loop-k
-slice_bounds-gain-end-in-loop-k c = sym (length-take-le _ _ (search rules))
+loop-k-init c = (omega arith, expand-start _ _ _)
 
 pub gain-requires : goal.gain-requires
-gain-requires c =
-    let at = c.loop-k.invariant in
-    expand-tight _ _ c.loop-k-test.true at.2 c.requires at.3
+gain-requires c = expand-tight _ _ (omega arith) c.loop-k.auto.x c.requires c.loop-k.invariant.1
 
 pub loop-k-preserved : goal.loop-k-preserved
-loop-k-preserved c =
-    let at = c.loop-k.invariant in
-    (search rules, search rules, search rules, expand-turn _ _ _ _ _ at.0 at.3 c.gain.ensures)
+loop-k-preserved c = (omega arith, expand-turn _ _ _ _ _ (omega arith) c.loop-k.invariant.1 c.gain.ensures)
 
 pub returns : goal.returns
-returns c = let at = c.loop-k.invariant in expand-end _ _ _ _ _ at.0 at.1 at.2 c.loop-k-test.false at.3
+returns c = let loop = c.loop-k in expand-end _ _ _ _ _ (omega arith) loop.invariant.0 loop.auto.x (omega arith) loop.invariant.1

@@ -26,27 +26,30 @@ module _ (p most : ℕ) (f : List ℕ) where
   -- both replies of an answer are those of the list
   abbrev Answers : Result Search Refusal → Type 0
   Answers r =
-      record {
-        answer : extent_reply r ≡ reply (lowest (extent_rows p most f)) (extent_values f);
-        read : searched_reply r ≡ reply (lowest (extent_rows p most f)) (searched f ∷ []);
-      }
+      (extent_reply r ≡ reply (lowest (extent_rows p most f)) (extent_values f))
+      × (searched_reply r ≡ reply (lowest (extent_rows p most f)) (searched f ∷ []))
 
   pub extent-refused : {why : Refusal} → lowest (list_refusals p most (f ∷ [])) ≡ Err why → Answers (Err why)
   unfolding extent_rows
-  extent-refused e = record { answer = simp e; read = simp e }
+  extent-refused e = (simp e, simp e)
 
   module _ {n r : ℕ} (e : lowest (list_refusals p most (f ∷ [])) ≡ Ok tt) (w : n ≡ significant f) (s : r ≡ searched f) where
-    -- the extent is the number of significant words less 1, where there is one
-    pub extent-found : (top : Option ℕ) (found : Option Extent) → SomeIff top (1 ≤ n) (n - 1)
+    pub extent-zero : n ≡ 0 → Answers (Ok (record { extent = None; read = record { 0 = r } }))
+    unfolding extent_rows extent_values
+    extent-zero z = (simp (e, eq-eqb (significant f) 0 (sym w ∙ z)), simp (e, s))
+
+    pub extent-found : ¬ (n ≡ 0) → Answers (Ok (record { extent = Some (record { 0 = n - 1 }); read = record { 0 = r } }))
+    unfolding extent_rows extent_values extent
+    extent-found h = (simp (e, ne_eqb (significant f) 0 (λ z. h (w ∙ z)), w), simp (e, s))
+
+    -- the extent is n less 1, where that is a number
+    pub extent-searched : (top : Option ℕ) (found : Option Extent) → SomeIff top (1 ≤ n) (n - 1)
         → MatchOption top (found ≡ None) (λ x. IsSomeAnd found (λ y. y.0 ≡ x))
         → Answers (Ok (record { extent = found; read = record { 0 = r } }))
-    unfolding extent_rows extent_values extent
-    extent-found None None t h =
-        record { answer = simp (e, eq-eqb (significant f) 0 (omega arith)); read = simp (e, s) }
-    extent-found None (Some y) t h = absurd (cc)
-    extent-found (Some x) None t h = absurd h
-    extent-found (Some x) (Some y) t h =
-        record { answer = simp (e, ne_eqb (significant f) 0 (λ z. absurd (omega arith)), h, t.1, w); read = simp (e, s) }
+    extent-searched None None t h = extent-zero (omega arith)
+    extent-searched None (Some y) t h = absurd (cc)
+    extent-searched (Some x) None t h = absurd h
+    extent-searched (Some x) (Some y) t h = rw (h ∙ t.1) (extent-found (λ z. absurd (omega arith)))
 
 module _ (p most : ℕ) (f out : List ℕ) where
   trim-judged : lowest (trim_rows p most f out)

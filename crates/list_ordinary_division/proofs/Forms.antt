@@ -2,8 +2,7 @@
 -- field F.
 --     quotient_is, remainder_is      what is written to q and to r
 --     round-wants                    the words are below p, and 0 after those of the divisor
---     ordinary-within                the same lists with tables for shorter ones
---     buffers-part                   arrays of zeros, as much of them as is lent
+--     Listed                         a list that means what words stand for
 -- Assumes nothing.
 use mathlib.Core.Path.{◌≡◌, refl, sym, ◌∙◌, ap, ap₂, subst}
 use mathlib.Core.Bool.{true, cond}
@@ -11,7 +10,7 @@ use mathlib.Core.List.{List, ◌++◌, append-nil}
 use Prim.Native.Nat.{ℕ, ◌+◌, ◌-◌, ◌≤◌, ◌<◌}
 use native.Mathlib.Decide.{dec_lt}
 use native.Mathlib.Omega.{arith}
-use lib.ListN.{length, get_or, take, drop, length-append, length-take, length-drop, drop_of_length-le, replicate, length-replicate, get_or-eq_default}
+use lib.ListN.{length, get_or, take, drop, length-append, length-take, length-drop, drop_of_length-le, get_or-eq_default}
 use lib.Seq.{take_all, get_or-take, get_or-drop}
 use Rattle.algebra.specs.Polynomial.{Below}
 use Rattle.algebra.proofs.Polynomial.{below-mono}
@@ -24,11 +23,8 @@ use Rattle.algebra.proofs.PrimeField.{residue-0}
 use Rattle.lists.specs.Degrees.{naive_degree, significant}
 use Rattle.lists.specs.Lists.{meaning}
 use Rattle.lists.specs.Words.{ZeroFrom, series_of, Tight}
-use Rattle.lists.proofs.Words.{zeros-are, zero-part, Carries, series_of-carries}
+use Rattle.lists.proofs.Words.{Carries, series_of-carries}
 use Rattle.lists.proofs.Parts.{prefix-length, get_or-then-zeros}
-use Rattle.field_tables.specs.Factorials.{Tables}
-use Rattle.word_scaling.specs.Scaling.{weighed_into}
-use Rattle.word_expansion.specs.Expansion.{expanded_into}
 use Rattle.euclid_round.specs.Round.{round_steps, round_fits, remaining, quotient_words}
 use Rattle.euclid_round.proofs.Significant.{significant-size}
 use Rattle.euclid_round.proofs.Rounds.{round-fits, length-remaining, round-remainder, length-quotient_words, round-quotient, round_steps-le}
@@ -36,8 +32,6 @@ use Rattle.ordinary_theory.specs.InT.{size_in_t, degree_in_t, list_of, power_wor
 use Rattle.ordinary_theory.proofs.InT.{below-meaning, length-power_words, carries-powers}
 use Rattle.ordinary_theory.specs.Ordinary.{ordinary_quotient, ordinary_remainder}
 use Rattle.ordinary_theory.proofs.Ordinary.{some_size, below_quotient, below-remainder}
-use Rattle.list_powers.specs.Powers.{powers_into}
-use Rattle.list_powers.proofs.Powers.{powers-are, list-is}
 use Rattle.list_ordinary_division.specs.Internal.{OrdinaryFits, Buffers}
 
 zero_rest : (n : ℕ) {l : List ℕ} → ZeroFrom 0 l → (k : ℕ) → get_or (drop n l) k 0 ≡ 0
@@ -66,40 +60,38 @@ module _ (F : PrimeField) where
       same k (yes h) = ap (residue F) (get_or-take n w k 0 h) ∙ c.at k
       same k (no h) = ap (residue F) (high k (omega arith)) ∙ residue-0 F ∙ sym (b.at k (omega arith))
 
-  module _ {p : ℕ} (is : F.p ≡ p) (most : ℕ) (wide : most ≤ F.p) (whole part : List ℕ) (tables : Tables F most whole part) where
+  -- the list of n words that means what the words stand for
+  abbrev pub Listed : (words : List ℕ) (n : ℕ) (list : List ℕ) → Type 0
+  Listed words n list = (s : S) → Carries F words s → length words ≡ n → 0 < n → list ≡ list_of F (n - 1) s
+
+  module _ {p : ℕ} (is : F.p ≡ p) where
     -- the powers of t of a list in the front of a buffer of 0
-    module _ (c x : List ℕ) (short : length c ≤ most) (room : length c ≤ length x) (zero : ZeroFrom 0 x) {w : List ℕ}
-        (q : w ≡ powers_into p whole part c (take (length c) x)) where
-      front : w ≡ power_words F c
-      front = powers-are F is most wide whole part tables c (take (length c) x) (prefix-length (length c) (length x) x refl room) short q
+    module _ (c x : List ℕ) (room : length c ≤ length x) (zero : ZeroFrom 0 x) where
+      powers-carry : Carries F (power_words F c ++ drop (length c) x) (meaning F c)
+      powers-carry = carries-zeros (drop (length c) x) (carries-powers F c) (zero_rest (length c) zero)
 
-      powers-carry : Carries F (w ++ drop (length c) x) (meaning F c)
-      powers-carry = carries-zeros {w = w} (drop (length c) x) (rw front (carries-powers F c)) (zero_rest (length c) zero)
-
-      powers-long : length (w ++ drop (length c) x) ≡ length x
+      powers-long : length (power_words F c ++ drop (length c) x) ≡ length x
       powers-long =
-          length-append w (drop (length c) x)
-          ∙ rw (ap length front ∙ length-power_words F c, length-drop (length c) x) (omega arith)
+          length-append (power_words F c) (drop (length c) x)
+          ∙ rw (length-power_words F c, length-drop (length c) x) (omega arith)
 
-    module _ (g f x y k q r : List ℕ) (fits : OrdinaryFits F most g f q r) (buffers : Buffers (length g) (length f) x y k)
+    module _ (most : ℕ) (g f x y k q r : List ℕ) (fits : OrdinaryFits F most g f q r) (buffers : Buffers (length g) (length f) x y k)
         -- the dividend and the divisor in their buffers
-        {X Y : List ℕ}
-        (qx : X ≡ powers_into p whole part g (take (length g) x) ++ drop (length g) x)
-        (qy : Y ≡ powers_into p whole part f (take (length f) y) ++ drop (length f) y) where
+        {X Y : List ℕ} (qx : X ≡ power_words F g ++ drop (length g) x) (qy : Y ≡ power_words F f ++ drop (length f) y) where
       room-y : length f ≤ length y
       room-y = let e = buffers.equal_y in let l = buffers.long-divisor in omega arith
 
       cx : Carries F X (meaning F g)
-      cx = rw qx (powers-carry g x fits.short-dividend buffers.long-dividend buffers.zero_x refl)
+      cx = rw qx (powers-carry g x buffers.long-dividend buffers.zero_x)
 
       cy : Carries F Y (meaning F f)
-      cy = rw qy (powers-carry f y fits.short-divisor room-y buffers.zero_y refl)
+      cy = rw qy (powers-carry f y room-y buffers.zero_y)
 
       nx : length X ≡ length x
-      nx = ap length qx ∙ powers-long g x fits.short-dividend buffers.long-dividend buffers.zero_x refl
+      nx = ap length qx ∙ powers-long g x buffers.long-dividend buffers.zero_x
 
       ny : length Y ≡ length x
-      ny = ap length qy ∙ powers-long f y fits.short-divisor room-y buffers.zero_y refl ∙ buffers.equal_y
+      ny = ap length qy ∙ powers-long f y room-y buffers.zero_y ∙ buffers.equal_y
 
       -- what a round wants of them
       pub round-wants : {l : ℕ} → l ≡ length x → Tight p X × ZeroFrom l Y
@@ -179,14 +171,12 @@ module _ (F : PrimeField) where
               let m = buffers.long-dividend in
               prefix-length (length g) (length x) k' (ap length ek ∙ a ∙ omega (arith, b, d, nx)) m
 
-          pub quotient_is : {q' : List ℕ} → q' ≡ weighed_into p (expanded_into p true (take (length q) k')) part whole q → q' ≡ ordinary_quotient F g f
+          pub quotient_is : {q' : List ℕ} → Listed (take (length q) k') (length q) q' → q' ≡ ordinary_quotient F g f
           unfolding ordinary_quotient
-          quotient_is e =
+          quotient_is listed =
               let n = fits.quotient-words in
-              let t = fits.short-dividend in
               let s = fits.dividable.some in
-              list-is F is most wide whole part tables (take (length g) k') q (carries-front (length g) (below_quotient F g f fits.dividable) ck)
-              (nk ∙ sym n) (omega arith) (omega arith) (e ∙ ap (λ i. weighed_into p (expanded_into p true (take i k')) part whole q) n)
+              listed _ (rw n (carries-front (length g) (below_quotient F g f fits.dividable) ck)) (rw n nk) (omega arith)
               ∙ ap (λ i. list_of F i (quotient_by F.series (scalar_field F) (length g) (degree_in_t F f) (meaning F g) (meaning F f))) (ap (λ i. i - 1) n ∙ named)
 
         module _ {x' : List ℕ}
@@ -212,39 +202,10 @@ module _ (F : PrimeField) where
               prefix-length (length g) (length x) x' (ap length ex ∙ length-remaining F (length x) X Y cx.below cy.below nx ny some)
               buffers.long-dividend
 
-          pub remainder_is : {r' : List ℕ} → r' ≡ weighed_into p (expanded_into p true (take (length r) x')) part whole r → r' ≡ ordinary_remainder F g f
+          pub remainder_is : {r' : List ℕ} → Listed (take (length r) x') (length r) r' → r' ≡ ordinary_remainder F g f
           unfolding ordinary_remainder
-          remainder_is e =
+          remainder_is listed =
               let n = fits.remainder-words in
-              let t = fits.short-dividend in
               let s = fits.dividable.some in
-              list-is F is most wide whole part tables (take (length g) x') r (carries-front (length g) (below-remainder F g f fits.dividable) cr)
-              (nr ∙ sym n) (omega arith) (omega arith) (e ∙ ap (λ i. weighed_into p (expanded_into p true (take i x')) part whole r) n)
+              listed _ (rw n (carries-front (length g) (below-remainder F g f fits.dividable) cr)) (rw n nr) (omega arith)
               ∙ ap (λ i. list_of F i (remainder_by F.series (scalar_field F) (length g) (degree_in_t F f) (meaning F g) (meaning F f))) (ap (λ i. i - 1) n ∙ named)
-
--- a division that tables of n entries suffice for
-pub ordinary-within : {F : PrimeField} (n : ℕ) (whole : List ℕ) {most : ℕ} {g f q r : List ℕ} → length whole ≡ n → OrdinaryFits F most g f q r
-    → length g ≤ n → length f ≤ n → OrdinaryFits F (length whole) g f q r
-ordinary-within n whole e h lg lf =
-    record {
-      dividable = h.dividable;
-      short-dividend = omega arith;
-      short-divisor = omega arith;
-      quotient-words = h.quotient-words;
-      remainder-words = h.remainder-words;
-    }
-
--- three arrays of zeros, and as much of them as is lent
-pub buffers-part : (room l : ℕ) {m n : ℕ} → l ≤ room → m ≤ l → n ≤ l
-    → Buffers m n (take l (replicate room 0)) (take l (replicate room 0)) (take l (replicate room 0))
-buffers-part room l fits lm ln =
-    let size = prefix-length l room (replicate room 0) (length-replicate room 0) fits in
-    record {
-      long-dividend = omega (arith, size);
-      long-divisor = omega (arith, size);
-      equal_y = refl;
-      equal_k = refl;
-      zero_x = zero-part l (zeros-are room);
-      zero_y = zero-part l (zeros-are room);
-      zero_k = zero-part l (zeros-are room);
-    }

@@ -6,10 +6,9 @@ ghost use Rattle.refusal.specs.Limits.{max_words};
 ghost use Rattle.refusal.specs.Refusal.{outcome_reply};
 ghost use Rattle.refusal.specs.Lowest.{lowest};
 ghost use Rattle.field.specs.Fields.{modulus, field_at, longest};
-ghost use Rattle.field_tables.specs.Factorials.{TablesFor};
-ghost use Rattle.word_scaling.specs.Scaling.{weighed_into};
 ghost use Rattle.word_expansion.specs.Expansion.{expanded_into};
-ghost use Rattle.list_powers.specs.Powers.{powers_into};
+ghost use Rattle.list_powers.specs.Powers.{list_written};
+ghost use Rattle.ordinary_theory.specs.InT.{power_words};
 ghost use Rattle.ordinary_theory.specs.Ordinary.{ordinary_quotient, ordinary_remainder, OrdinarySo};
 ghost use Rattle.list_ordinary_division.specs.Calls.{ordinary_rows, ordinary_answer, ordinary_quotient_written, ordinary_remainder_written};
 ghost use Rattle.list_ordinary_division.specs.Internal.{OrdinaryFits, Buffers};
@@ -53,16 +52,16 @@ fn judge_ordinary(field: u8, g: &[u16], f: &[u16], q: &[u16], r: &[u16]) -> Resu
 
 // The powers of t of a list, at the front of a buffer.
 fn place(field: u8, list: &[u16], x: &mut [u16])
-    requires list_in_bounds { (length list.now ≤ length x.old) × (length list.now ≤ longest field) }
-    ensures { x.new ≡ powers_into (modulus field) whole.now part.now list.now (take (length list.now) x.old) ++ drop (length list.now) x.old }
+    requires { (length list.now ≤ length x.old) × (length list.now ≤ longest field) }
+    ensures { x.new ≡ power_words (field_at field) list.now ++ drop (length list.now) x.old }
 {
     list_powers::powers_of_t(field, list, &mut x[..list.len()]);
 }
 
 // The list of a polynomial whose powers of t are at the front of a buffer.
 fn write_back(field: u8, x: &mut [u16], out: &mut [u16])
-    requires out_in_bounds { (length out.old ≤ length x.old) × (length out.old ≤ longest field) }
-    ensures { out.new ≡ weighed_into (modulus field) (expanded_into (modulus field) true (take (length out.old) x.old)) part.now whole.now out.old }
+    requires { (length out.old ≤ length x.old) × (length out.old ≤ longest field) }
+    ensures { out.new ≡ list_written field (expanded_into (modulus field) true (take (length out.old) x.old)) out.old }
 {
     list_powers::list_of_powers(field, &mut x[..out.len()], out);
 }
@@ -93,9 +92,16 @@ fn divide_in(
 }
 
 // The division where nothing is refused, in buffers of l words, in arrays of N words, which are filled with zeros.
-fn divide_sized<const N: usize>(field: u8, g: &[u16], f: &[u16], l: usize, q: &mut [u16], r: &mut [u16])
+fn divide_sized<const N: usize>(
+    field: u8,
+    g: &[u16],
+    f: &[u16],
+    l: usize,
+    q: &mut [u16],
+    r: &mut [u16],
+)
     requires ordinary_fits { OrdinaryFits (field_at field) (longest field) g.now f.now q.old r.old }
-    requires g_len_bound { (length g.now ≤ l) × (length f.now ≤ l) × (l ≤ N) × (l ≤ max_words) }
+    requires g_len_bound { (length g.now ≤ l) × (length f.now ≤ l) × (l ≤ N) × (N ≤ max_words) }
     ensures quotient { q.new ≡ ordinary_quotient (field_at field) g.now f.now }
     ensures remainder { r.new ≡ ordinary_remainder (field_at field) g.now f.now }
 {

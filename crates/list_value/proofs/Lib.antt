@@ -3,3 +3,4 @@ pub mod Values
 pub mod Weights
 pub mod Products
 pub mod Groups
+pub mod Chunks

@@ -1,23 +1,28 @@
--- Products of words, added up without a reduction: one more, and what they fit.
+-- Products of words, added up without a reduction: one more, and those of a part.
 -- Assumes nothing.
-use mathlib.Core.Path.{◌≡◌, refl, sym, ◌∙◌, ap}
+use mathlib.Core.Path.{◌≡◌, refl, ◌∙◌, ap, ap₂}
 use mathlib.Core.List.{List}
-use Prim.Native.Nat.{ℕ, ◌+◌, ◌*◌, ◌≤◌, ◌<◌}
-use native.Mathlib.Nat.{mul-le-mul}
+use Prim.Native.Nat.{ℕ, zero, suc, ◌+◌, ◌*◌, ◌<◌}
+use native.Mathlib.Nat.{zero-add}
 use native.Mathlib.Numerals.{add-one}
 use native.Mathlib.Omega.{arith}
 use lib.ListN.{get_or}
-use Rattle.list_value.specs.Internal.{most_of_group, products_of}
+use Rattle.list_value.specs.Internal.{products_of}
 
-module _ (s : List ℕ) (k : ℕ) (u : List ℕ) where
-  pub products-none : products_of s k u 0 ≡ 0
-  unfolding products_of
-  products-none = refl
+pub products-none : (s : List ℕ) (k : ℕ) (u : List ℕ) → products_of s k u 0 ≡ 0
+unfolding products_of
+products-none s k u = refl
 
-  pub products-next : (n : ℕ) {sum sum' : ℕ} → sum ≡ products_of s k u n → sum' ≡ sum + get_or s (k + n) 0 * get_or u n 0 → sum' ≡ products_of s k u (n + 1)
-  unfolding products_of
-  products-next n h q = q ∙ ap (λ a. a + get_or s (k + n) 0 * get_or u n 0) h ∙ ap (products_of s k u) (sym (add-one n))
+-- the next words are a and b
+pub products-next : (s u : List ℕ) (n : ℕ) {a b sum sum' m : ℕ} → sum ≡ products_of s 0 u n → a ≡ get_or s n 0 → b ≡ get_or u n 0
+    → sum' ≡ sum + a * b → m ≡ n + 1 → sum' ≡ products_of s 0 u m
+unfolding products_of
+products-next s u n h p q r i = r ∙ simp (h, p, q, i, add-one, zero-add)
 
--- the sum of a group times a word
-pub group-product-le : {c d : ℕ} → c ≤ most_of_group → d < 65536 → c * d ≤ most_of_group * 65535
-group-product-le h l = mul-le-mul {n₂ = most_of_group} {m₂ = 65535} h (omega arith)
+-- the products of a part are those of the list from the part's place on
+pub products-part : (t s : List ℕ) (k : ℕ) (u : List ℕ) (n : ℕ) → ((j : ℕ) → j < n → get_or t j 0 ≡ get_or s (k + j) 0)
+    → products_of t 0 u n ≡ products_of s k u n
+unfolding products_of
+products-part t s k u zero h = refl
+products-part t s k u (suc n) h =
+    ap₂ (λ a b. a + b * get_or u n 0) (products-part t s k u n (λ j l. h j (omega arith))) (ap (λ i. get_or t i 0) (zero-add n) ∙ h n (omega arith))

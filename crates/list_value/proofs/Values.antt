@@ -17,9 +17,9 @@ use Rattle.algebra.specs.Sum.{total}
 use Rattle.algebra.proofs.Sum.{total-zero, total-snoc, total_ext, total-mul}
 use Rattle.algebra.specs.PrimeField.{PrimeField, positive, scalars, residue, value}
 use Rattle.algebra.proofs.PrimeField.{residue-0, residue-1, residue-add-mod, residue-mul, residue-mul-mod, residue-neg}
-use Rattle.field.specs.Fields.{modulus, word_inverse, square, field_at}
+use Rattle.field.specs.Fields.{modulus, longest, word_inverse, square, field_at}
 use Rattle.field.proofs.Fields.{p-at, longest-in}
-use Rattle.field_tables.specs.Factorials.{TablesFor}
+use Rattle.field_tables.specs.Factorials.{Tables}
 use Rattle.lists.specs.Refused.{IsList}
 use Rattle.lists.specs.Degrees.{naive_degree}
 use Rattle.lists.specs.Lists.{word, scaled_coefficient}
@@ -115,10 +115,10 @@ module _ (F : PrimeField) {m : ℕ} (e : F.p ≡ m) where
       factor c a y b d = simp RING
 
   -- one word more
-  pub word_next : (s : List ℕ) (x y c k : ℕ) {sum power sum' power' : ℕ} → Terms F (word F s) x y c k sum power
-      → sum' ≡ (sum * y + get_or s k 0 * power) % m → power' ≡ (power * x) % m → Terms F (word F s) x y c (k + 1) sum' power'
+  pub word_next : (s : List ℕ) (x y c k v : ℕ) {j sum power sum' power' : ℕ} → Terms F (word F s) x y c k sum power → v ≡ get_or s k 0
+      → sum' ≡ (sum * y + v * power) % m → power' ≡ (power * x) % m → j ≡ k + 1 → Terms F (word F s) x y c j sum' power'
   unfolding word
-  word_next s x y c k t q r = terms-next (word F s) x y c k (get_or s k 0) t refl q r
+  word_next s x y c k v t h q r i = rw i (terms-next (word F s) x y c k v t (ap (residue F) h) q r)
 
   -- of words that times c are the scaled form of a list, at x and 1 - x
   pub evaluated : (f form : List ℕ) (x c : ℕ) {y : ℕ} → length form ≡ length f
@@ -149,7 +149,7 @@ module _ (F : PrimeField) {m : ℕ} (e : F.p ≡ m) where
           ∙ ap₂ (λ a b. a ⊗ pow (scalars F) (residue F x) j ⊗ pow (scalars F) b (length f - 1 - j)) (h j l) other
 
 -- of what `weigh_partly` writes, with c the last factorial times 2^32
-pub partly-evaluated : (k : ℕ) {whole part : List ℕ} → TablesFor k whole part → (f : List ℕ) → IsList (modulus k) (length whole) f
+pub partly-evaluated : (k : ℕ) {whole part : List ℕ} → Tables (field_at k) (longest k) whole part → (f : List ℕ) → IsList (modulus k) (longest k) f
     → (form : List ℕ) (x c n q : ℕ) {y : ℕ} → n ≡ length f → form ≡ partly_weighted (modulus k) (word_inverse k) part n f → q ≡ square k
     → c ≡ (get_or whole (length f - 1) 0 * q) % modulus k → y ≡ (1 + (modulus k - x % modulus k)) % modulus k
     → homogeneous_of (field_at k) form x y c ≡ evaluate (field_at k) f x
@@ -157,7 +157,7 @@ partly-evaluated k {whole} {part} t f l form x c n q {y} size is two factor othe
     ap (λ s. homogeneous_of (field_at k) s x y c) (is ∙ ap (λ i. partly_weighted (modulus k) (word_inverse k) part i f) size)
     ∙ evaluated (field_at k) (p-at k) f (partly_weighted (modulus k) (word_inverse k) part (length f) f) x c
     (length-partly (modulus k) (word_inverse k) part (length f) f)
-    (partly-scaled (field_at k) (p-at k) (length whole) (omega (arith, t.few, longest-in k)) whole part t.tables (square k) (constants k) (squares k) f (length f) refl l.short scale)
+    (partly-scaled (field_at k) (p-at k) (longest k) (longest-in k) whole part t (square k) (constants k) (squares k) f (length f) refl l.short scale)
     other
   where
     scale : c ≡ (get_or whole (length f - 1) 0 * square k) % modulus k

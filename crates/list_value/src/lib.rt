@@ -2,6 +2,7 @@
 #![tactic(auto)]
 
 ghost use Rattle.std.specs.Prelude.{◌≡◌, ◌+◌, ◌*◌, ◌/◌, ◌%◌, ◌≤◌, length};
+ghost use Rattle.refusal.specs.Limits.{max_words};
 ghost use Rattle.field.specs.Fields.{modulus, field_at, longest};
 ghost use Rattle.refusal.specs.Lowest.{lowest};
 ghost use Rattle.field.specs.Field.{word_reply};
@@ -46,11 +47,9 @@ fn fill_powers(field: u8, x: u16, u: &mut [u16]) -> u16
     ensures next { result ≡ power_of (field_at field) x (length u.old) }
 {
     let mut power: u16 = 1;
-    let mut j = 0;
-    while j < u.len() {
-        u[j] = power;
+    for word in u.iter_mut() {
+        *word = power;
         power = field::mul(field, power, x);
-        j += 1;
     }
     power
 }
@@ -61,10 +60,9 @@ fn fill_weights(field: u8, a: &[u16], b: &[u16], u: &mut [u16])
     ensures { u.new ≡ weights_of (modulus field) (length u.old) a.now b.now }
 {
     let n = u.len();
-    let mut j = 0;
-    while j < n {
-        u[j] = field::mul(field, a[j], b[n - 1 - j]);
-        j += 1;
+    // By places: of what a `zip` over `iter_mut` has written a proof knows nothing.
+    for (j, word) in u.iter_mut().enumerate() {
+        *word = field::mul(field, a[j], b[n - 1 - j]);
     }
 }
 
@@ -76,16 +74,14 @@ fn add_product(sum: u64, a: u16, b: u16) -> u64
     sum + a as u64 * b as u64
 }
 
-// The products of the words of s from k on with those of u, added up, and not reduced.
-fn sum_products(s: &[u16], k: usize, u: &[u16]) -> u64
-    requires { (k + length u.now ≤ length s.now) × (length u.now ≤ 8) }
-    ensures { (result ≡ products_of s.now k u.now (length u.now)) × (result ≤ most_of_group) }
+// The products of the words of s with those of u, added up, and not reduced.
+fn sum_products(s: &[u16], u: &[u16]) -> u64
+    requires { (length s.now ≡ length u.now) × (length u.now ≤ 8) }
+    ensures { (result ≡ products_of s.now 0 u.now (length u.now)) × (result ≤ most_of_group) }
 {
     let mut sum: u64 = 0;
-    let mut j = 0;
-    while j < u.len() {
-        sum = add_product(sum, s[k + j], u[j]);
-        j += 1;
+    for (&a, &b) in s.iter().zip(u) {
+        sum = add_product(sum, a, b);
     }
     sum
 }
@@ -103,14 +99,11 @@ fn sum_groups(field: u8, s: &[u16], u: &[u16], x: u16, y: u16, c: u16) -> Begun
     requires { length u.now ≡ 8 }
     ensures { Terms (field_at field) (groups (field_at field) 8 s.now u.now) x y c (length s.now / 8) result.sum result.power }
 {
-    let n = s.len() / 8;
     let mut sum: u16 = 0;
     let mut power = c;
-    let mut i = 0;
-    while i < n {
-        sum = two_products(field, sum, y, sum_products(s, 8 * i, u), power);
+    for group in s.chunks_exact(8) {
+        sum = two_products(field, sum, y, sum_products(group, u), power);
         power = field::mul(field, power, x);
-        i += 1;
     }
     Begun { sum, power }
 }
@@ -149,14 +142,10 @@ fn begin(field: u8, s: &[u16], x: u16, y: u16, c: u16) -> Begun
 fn homogeneous(field: u8, s: &[u16], x: u16, y: u16, c: u16) -> u16
     ensures { result ≡ homogeneous_of (field_at field) s.now x y c }
 {
-    let begun = begin(field, s, x, y, c);
-    let mut sum = begun.sum;
-    let mut power = begun.power;
-    let mut k = 8 * (s.len() / 8);
-    while k < s.len() {
-        sum = two_products(field, sum, y, s[k] as u64, power);
+    let Begun { mut sum, mut power } = begin(field, s, x, y, c);
+    for &word in &s[8 * (s.len() / 8)..] {
+        sum = two_products(field, sum, y, word as u64, power);
         power = field::mul(field, power, x);
-        k += 1;
     }
     sum
 }
@@ -177,7 +166,8 @@ fn value_in(field: u8, f: &[u16], x: u16, s: &mut [u16]) -> u16
 
 // The value of a list that is not refused, in an array of N words, which is filled with zeros.
 fn value_sized<const N: usize>(field: u8, f: &[u16], x: u16) -> u16
-    requires { IsList (modulus field) (longest field) f.now × (length f.now ≤ N) }
+    requires list { IsList (modulus field) (longest field) f.now }
+    requires size { (length f.now ≤ N) × (N ≤ max_words) }
     ensures { result ≡ of.evaluate (field_at field) f.now x }
 {
     let n = f.len();

@@ -1,12 +1,9 @@
--- `list_ordinary_division::divide_into` meets its contract, whichever tables and arrays are lent.
+-- `list_ordinary_division::divide_into` meets its contract, whichever arrays are lent.
 -- Assumes nothing.
 use native.Mathlib.Omega.{arith}
-use Rattle.field.proofs.Fields.{longest-room}
+use Rattle.field.specs.Fields.{longest}
 use Rattle.list_ordinary_division.proofs.divide_into.Goals as goal
 
-pub divide_many-requires : goal.divide_many-requires
-divide_many-requires c =
-    let short-dividend = c.requires.short-dividend in
-    let short-divisor = c.requires.short-divisor in
-    let most = longest-room c.args.field in
-    let longer = c.larger-l.ensures in record { ordinary_fits = c.requires; g_len_bound = (omega arith, omega arith, omega arith) }
+pub divide_sized-requires-2-clause-g_len_bound : goal.divide_sized-requires-2-clause-g_len_bound
+unfolding longest
+divide_sized-requires-2-clause-g_len_bound c = omega arith

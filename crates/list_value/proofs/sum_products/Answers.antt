@@ -1,28 +1,20 @@
--- `list_value::sum_products` meets its contract. The loop's invariant: `sum` has the first j products, and is at most j times the largest.
--- The measure is how many products are left.
+-- `list_value::sum_products` meets its contract. The loop's invariant: `sum` has as many products as there were turns, and is at most as many
+-- times the largest.
 -- Assumes nothing.
-use mathlib.Core.Path.{sym, ap, ◌∙◌}
+use mathlib.Core.Path.{sym}
 use native.Mathlib.Omega.{arith}
-use Rattle.list_value.specs.Internal.{products_of}
+use Rattle.std.proofs.lemmas.List.{length_push}
+use Rattle.std.proofs.lemmas.Slice.Zip.{zip_turn}
 use Rattle.list_value.proofs.Products.{products-none, products-next}
-use borrow.Author.Rules.{rules}
 use Rattle.list_value.proofs.sum_products.Goals as goal
 
-pub loop-j-init : goal.loop-j-init
-loop-j-init c = (search rules, sym (products-none _ _ _), search rules)
+pub loop-a-init : goal.loop-a-init
+loop-a-init c = (sym (products-none _ _ _), omega arith)
 
-pub add_product-sum-requires : goal.add_product-sum-requires
-add_product-sum-requires c = omega arith
-
-pub loop-j-preserved : goal.loop-j-preserved
-loop-j-preserved c =
+pub loop-a-preserved : goal.loop-a-preserved
+loop-a-preserved c =
     let args = c.args in
-    let loop = c.loop-j in
-    let next = products-next args.s.now args.k args.u.now loop.j loop.invariant.1 c.add_product-sum.ensures.0 in
-    (search rules, next, omega arith)
-
-pub returns : goal.returns
-returns c =
-    let args = c.args in
-    let loop = c.loop-j in
-    (loop.invariant.1 ∙ ap (products_of args.s.now args.k args.u.now) (omega arith), omega arith)
+    let loop = c.loop-a in
+    let turn = zip_turn args.s.now args.u.now loop.yielded c.into_iter-a-iterator.result loop.a-iterator c.next.new.self _ (cc) (cc) loop.yielded_by _ c.in-Some.is c.next.ensures.steps in
+    let more = length_push loop.yielded (c.in-Some.field-0-0, c.in-Some.field-0-1) in
+    (products-next args.s.now args.u.now _ loop.invariant.0 (turn.2 0) (turn.3 0) c.add_product-sum.ensures.0 more, omega arith)

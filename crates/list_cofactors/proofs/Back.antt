@@ -2,6 +2,7 @@
 --     Last           the quotient that is laid last, and those before it
 --     Reached        s and t are the cofactors of the pair that the quotients laid in the words have led to
 --     Back           the same of whatever pair the rounds began with, as a loop has it: c words can differ from 0
+--     Undone         the same after a step of the code
 -- Theorems:
 --     last-count, last-quotient, last_rest     what is read at the end of laid quotients, and what stands before it
 --     none-laid, some-laid                     no words, no quotients; and where there are words, there are quotients
@@ -9,7 +10,7 @@
 --     back_start                               before the first step, where s is 1 and t is 0
 --     step_fits                                the words of the quotient stand where they are read
 --     back_on                                  a step: t and s - q·t are the cofactors of the pair before
---     back-tight, back-round                   what a step of the code wants, and what it makes
+--     back-tight, back-fits, back-round        what a step of the code wants, and what it makes
 --     back_end                                 where no word is left: the cofactors
 -- Assumes nothing.
 use mathlib.Core.Path.{◌≡◌, refl, sym, ◌∙◌, ap, ap₂, subst}
@@ -290,15 +291,32 @@ module _ (F : PrimeField) (n : ℕ) where
               r.trail.from
               ∙ ap (λ l. before F l r.z) (none-laid r.trail.kept.quotients (sym empty ∙ r.trail.kept.words_are))
 
--- the same as the code has it, over the field k
+-- a step undone, as the code has it over the field k: so many words are left, and these were those of the quotient and the number of its words
+pub record Undone (k n : ℕ) (words₀ words s t : List ℕ) (at steps c : ℕ) : Type 0 where
+  pub back : Back (field_at k) n words₀ (take (at - (steps + 1)) words) s t c
+  pub inside : at - (steps + 1) ≤ length words
+  pub less : steps < at
+  pub few : steps ≤ n
+
 module _ (k n : ℕ) (words : List ℕ) {words₀ s t : List ℕ} (at : ℕ) {c : ℕ} (b : Back (field_at k) n words₀ (take at words) s t c) where
   pub back-tight : Tight (modulus k) s
   back-tight = record { at = λ i. rw (p-at k) at (b.below-s i) }
 
-  pub back-round : (at' : ℕ) {read steps c' : ℕ} {s' : List ℕ} → 0 < at → at ≤ length words → c ≤ read → steps ≡ last_count at words
-      → s' ≡ less_product (modulus k) s (last_quotient at words) (take read t) → at' + (steps + 1) ≡ at → c' ≡ min n (c + (steps - 1))
-      → Back (field_at k) n words₀ (take at' words) t s' c'
-  back-round at' {read} some inside far e es ea ec =
-      back_on (field_at k) n words₀ words s t at c b some inside read at' far
-      (es ∙ ap (λ p. less_product p s (last_quotient at words) (take read t)) (sym (p-at k)))
-      (ap (λ i. at' + (i + 1)) (sym e) ∙ ea) (ec ∙ ap (λ i. min n (c + (i - 1))) e)
+  pub back-fits : ¬ (at ≡ 0) → at ≤ length words → (last_count at words < at) × (last_count at words ≤ n)
+  back-fits some inside = step_fits (field_at k) n words₀ words s t at c b (omega arith) inside
+
+  pub back-round : {read steps c' : ℕ} {s' : List ℕ} → ¬ (at ≡ 0) → at ≤ length words → c ≤ read → steps ≡ last_count at words
+      → s' ≡ less_product (modulus k) s (last_quotient at words) (take read t) → c' ≡ min n (c + (steps - 1)) → Undone k n words₀ words t s' at steps c'
+  back-round {read} {steps} some inside far e es ec =
+      record {
+        back =
+            back_on (field_at k) n words₀ words s t at c b (omega arith) inside read (at - (steps + 1)) far
+            (es ∙ ap (λ p. less_product p s (last_quotient at words) (take read t)) (sym (p-at k)))
+            (omega (arith, fits)) (ec ∙ ap (λ i. min n (c + (i - 1))) e);
+        inside = omega arith;
+        less = omega (arith, fits);
+        few = omega (arith, fits);
+      }
+    where
+      fits : (last_count at words < at) × (last_count at words ≤ n)
+      fits = back-fits some inside

@@ -4,14 +4,12 @@
 --     slices-short           the result slices of the cofactors fit in the buffers
 --     cofactors-answered     what a call answers and writes that refuses nothing
 -- Assumes nothing.
-use mathlib.Core.Path.{◌≡◌, sym, ◌∙◌, ap, ap₂, subst}
-use mathlib.Core.Bool.{Bool, cond}
+use mathlib.Core.Path.{◌≡◌, sym, ◌∙◌, ap, ap₂}
 use mathlib.Core.List.{List}
 use Prim.Native.Nat.{ℕ, ◌-◌, ◌≤◌, ◌<◌}
 use native.Mathlib.Omega.{arith}
 use lib.ListN.{length}
-use Rattle.refusal.specs.declared.Refusal.{Refusal}
-use Rattle.std.specs.Prelude.{Ok, Result}
+use Rattle.std.specs.Prelude.{Ok}
 use Rattle.algebra.specs.Series.{C}
 use Rattle.algebra.proofs.Series.{coeff-C-mul}
 use Rattle.algebra.specs.PrimeField.{PrimeField, scalars, value, residue, inverse}
@@ -54,25 +52,24 @@ module _ (F : PrimeField) where
       coeff-C-mul F.series m (series_of F form) k
       ∙ ap (λ c. m ⊗ c) (coeff-series_of F form k ∙ low.at k (omega arith)) ∙ sym (coeff-C-mul F.series m s k)
 
-  pub results : (n most : ℕ) → 1 < n → (f g h a b words s t : List ℕ) (first : Bool) (w c rounds m : ℕ) {h' a' b' : List ℕ} {r : Result Gcd Refusal}
-      → Ready F n f g → Slices most f g h a b → Numbers F f g w c rounds m → h' ≡ padded most (gcd_of F f g) → TrailOf F n f g words
-      → {i : ℕ} → i ≡ n → Substituted F i words (cond first s t) (cond first t s)
-      → (a' ≡ times_list F (length a) (residue F m) (cond first t s)) × (b' ≡ times_list F (length b) (residue F m) (cond first s t))
-      → r ≡ Ok (record { degree = record { 0 = w }; power = record { 0 = c }; rounds = record { 0 = rounds } }) → Results F most f g r h' a' b'
-  results n most more f g h a b words s t first w c rounds m ready sl found eh trail ei back o er =
+  pub results : (n most : ℕ) → 1 < n → {f g h a b words s t : List ℕ} {gcd : Gcd} {m : ℕ} {h' a' b' : List ℕ}
+      → Ready F n f g → Slices most f g h a b → Numbers F f g gcd.degree.0 gcd.power.0 gcd.rounds.0 m → h' ≡ padded most (gcd_of F f g) → TrailOf F n f g words
+      → Substituted F n words s t → a' ≡ times_list F (length a) (residue F m) t → b' ≡ times_list F (length b) (residue F m) s
+      → Results F most f g gcd h' a' b'
+  results n most more {f} {g} {s = s} {t = t} ready sl found eh trail back oa ob =
       record {
-        answer = er ∙ gcd-done F f g _ _ _ found.degree-is found.power-is found.rounds_are;
+        answer = gcd-done F found;
         gcd = eh;
         cofactor-a =
-            o.0 ∙ ap₂ (λ k i. times_list F k i (cond first t s)) sl.size_a found.inverse-is
+            oa ∙ ap₂ (λ k i. times_list F k i t) sl.size_a found.inverse-is
             ∙ (unfold cofactor_a in cofactor-is n _ _ (few-a f g n ready.short_g more) both.1);
         cofactor-b =
-            o.1 ∙ ap₂ (λ k i. times_list F k i (cond first s t)) sl.size_b found.inverse-is
+            ob ∙ ap₂ (λ k i. times_list F k i s) sl.size_b found.inverse-is
             ∙ (unfold cofactor_b in cofactor-is n _ _ (few-b f g n ready.short_f more) both.0);
       }
     where
-      both : Low F n (cond first s t) (euclid_of F f g).by_x × Low F n (cond first t s) (euclid_of F f g).by_y
-      both = (subst (λ j. Substituted F j words (cond first s t) (cond first t s)) ei back).cofactors (euclid_of F f g) trail.last trail.trail
+      both : Low F n s (euclid_of F f g).by_x × Low F n t (euclid_of F f g).by_y
+      both = back.cofactors (euclid_of F f g) trail.last trail.trail
 
   pub slices-short : (n most : ℕ) → 1 < n → {f g h a b : List ℕ} → Ready F n f g → Slices most f g h a b → (length a ≤ n) × (length b ≤ n)
   slices-short n most more {f} {g} r sl =
@@ -81,10 +78,10 @@ module _ (F : PrimeField) where
       (omega (arith, sl.size_a), omega (arith, sl.size_b))
 
   -- what a call answers, and what it leaves in the slices
-  pub cofactors-answered : (n : ℕ) (f g h a b : List ℕ) {found : Outcome} {r : Result Gcd Refusal} {h' a' b' : List ℕ} → found ≡ Ok tt → Ready F n f g
-      → Results F n f g r h' a' b'
-      → (gcd_reply r ≡ reply found (gcd_values F f g)) × (h' ≡ written found (padded n (gcd_of F f g)) h)
-      × (a' ≡ written found (cofactor_a F f g) a) × (b' ≡ written found (cofactor_b F f g) b) × Greatest F f g h' r × Cofactors F f g a' b' r
+  pub cofactors-answered : (n : ℕ) (f g h a b : List ℕ) {found : Outcome} {gcd : Gcd} {h' a' b' : List ℕ} → found ≡ Ok tt → Ready F n f g
+      → Results F n f g gcd h' a' b'
+      → (gcd_reply (Ok gcd) ≡ reply found (gcd_values F f g)) × (h' ≡ written found (padded n (gcd_of F f g)) h)
+      × (a' ≡ written found (cofactor_a F f g) a) × (b' ≡ written found (cofactor_b F f g) b) × Greatest F f g h' (Ok gcd) × Cofactors F f g a' b' (Ok gcd)
   unfolding gcd_done
   cofactors-answered n f g h a b e y o =
       let of-gcd = answered F n f g h e y o.answer o.gcd in (
@@ -93,7 +90,7 @@ module _ (F : PrimeField) where
         result (cofactor_a F f g) a e o.cofactor-a,
         result (cofactor_b F f g) b e o.cofactor-b,
         of-gcd.2,
-        rw (o.answer, o.cofactor-a, o.cofactor-b) so,
+        rw (o.cofactor-a, o.cofactor-b) so,
       )
     where
       so : CofactorsSo F f g (cofactor_a F f g) (cofactor_b F f g)

@@ -1,7 +1,7 @@
 -- The lengths of the result slices, as the code finds them, and the tests of the call's judge.
 -- Theorems:
 --     few-a, few-b                                      a and b have at most n words where the lists have and n is more than 1
---     words-short, words_long                           their numbers of words by cases on the lengths of the lists
+--     words-found                                       their numbers of words from the naive degrees
 --     refused-gcd, misfit-a, misfit-b, none-refused     the judge's tests are the rows of the table
 --     cofactors-ready                                   what a call knows that refuses nothing
 -- Assumes nothing.
@@ -48,19 +48,9 @@ pub few-b : (f g : List ℕ) (n : ℕ) → length f ≤ n → 1 < n → suc (ide
 few-b f g n l h = rw (identity-comm f g) (few-a g f n l h)
 
 -- the same as the code finds it
-words-low : (d e r : ℕ) → d ≡ 0 → r ≡ max e 1 + 1 → r ≡ suc (max d 1 + max e 1 - 1 - d)
-words-low d e r l h = omega arith
-
-words-high : (d e r : ℕ) → 0 < d → r ≡ max e 1 → r ≡ suc (max d 1 + max e 1 - 1 - d)
-words-high d e r l h = omega arith
-
-pub words-short : (f g : List ℕ) (r : ℕ) → length f < 2 → r ≡ max (length g - 1) 1 + 1 → r ≡ suc (identity_degree f g - naive_degree f)
-unfolding identity_degree naive_degree
-words-short f g r l e = words-low (length f - 1) (length g - 1) r (omega arith) e
-
-pub words_long : (f g : List ℕ) (r : ℕ) → 2 ≤ length f → r ≡ max (length g - 1) 1 → r ≡ suc (identity_degree f g - naive_degree f)
-unfolding identity_degree naive_degree
-words_long f g r l e = words-high (length f - 1) (length g - 1) r (omega arith) e
+pub words-found : (f g : List ℕ) {d e r : ℕ} → d ≡ naive_degree f → e ≡ naive_degree g → r ≡ max d 1 + max e 1 - d → r ≡ suc (identity_degree f g - naive_degree f)
+unfolding identity_degree
+words-found f g ed ee er = omega arith
 
 -- the tests of the judge, one after the other
 module _ (p most : ℕ) (f g h a b : List ℕ) where

@@ -7,8 +7,7 @@
 --     times_list                the list of so many words whose scaled form is m times the words of a buffer
 --     Results n f g             what is answered and written, h having n words
 -- Assumes nothing.
-use Rattle.refusal.specs.declared.Refusal.{Refusal}
-use Rattle.std.specs.Prelude.{◌≡◌, List, ℕ, suc, ◌-◌, get_or, length, take, drop, Result}
+use Rattle.std.specs.Prelude.{◌≡◌, List, ℕ, suc, ◌-◌, get_or, length, take, drop}
 use Rattle.algebra.specs.Series.{C}
 use Rattle.algebra.specs.Euclid.{Euclid, done}
 use Rattle.algebra.specs.PrimeField.{PrimeField, scalar_field, scalars}

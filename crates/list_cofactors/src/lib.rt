@@ -1,7 +1,7 @@
 // The cofactors of the GCD of two lists.
 #![tactic(auto)]
 
-ghost use Rattle.std.specs.Prelude.{◌≡◌, cond, suc, min, ◌+◌, ◌-◌, ◌<◌, ◌≤◌, length, take};
+ghost use Rattle.std.specs.Prelude.{◌≡◌, cond, suc, min, ◌+◌, ◌-◌, ◌*◌, ◌<◌, ◌≤◌, length, take};
 ghost use Rattle.algebra.specs.PrimeField.{residue};
 ghost use Rattle.refusal.specs.Limits.{max_words};
 ghost use Rattle.refusal.specs.Lowest.{lowest};
@@ -43,20 +43,20 @@ pub fn cofactors_over(
 fn cofactor_words(list: &[u16], other: &[u16]) -> usize
     ensures { result ≡ suc (identity_degree list.now other.now - naive_degree list.now) }
 {
-    if list.len() < 2 {
-        if other.len() < 2 {
-            return 2;
-        }
-        return other.len();
-    }
-    if other.len() < 2 {
-        return 1;
-    }
-    other.len() - 1
+    let d = lists::degree_of(list).0;
+    let e = lists::degree_of(other).0;
+    d.max(1) + e.max(1) - d
 }
 
 // What the call refuses: what the GCD does, and slices for a and b of other lengths.
-fn judge_cofactors(field: u8, f: &[u16], g: &[u16], h: &[u16], a: &[u16], b: &[u16]) -> Result<(), Refusal>
+fn judge_cofactors(
+    field: u8,
+    f: &[u16],
+    g: &[u16],
+    h: &[u16],
+    a: &[u16],
+    b: &[u16],
+) -> Result<(), Refusal>
     ensures { result ≡ lowest (cofactor_rows (modulus field) (longest field) f.now g.now h.now a.now b.now) }
 {
     list_gcd::judge_gcd(field, f, g, h)?;
@@ -78,7 +78,7 @@ fn words_read(n: usize, c: usize) -> usize
     requires { (n ≤ max_words) × (c ≤ n) }
     ensures { (c ≤ result) × (result ≤ n) }
 {
-    words::smaller(n, (c + 7) / 8 * 8)
+    c.next_multiple_of(8).min(n)
 }
 
 // How many of n words can differ from 0 in s - q·t, where c can in s and t, and q has `steps`.
@@ -86,10 +86,7 @@ fn words_after(n: usize, c: usize, steps: usize) -> usize
     requires { (n ≤ max_words) × (c ≤ n) × (steps ≤ n) }
     ensures { result ≡ min n (c + (steps - 1)) }
 {
-    if steps == 0 {
-        return c;
-    }
-    words::smaller(n, c + (steps - 1))
+    (c + steps.saturating_sub(1)).min(n)
 }
 
 // s less q·t, where q is the quotient that is laid last in the first `at` words, and of t so many words are read. The number of words of q.
@@ -134,14 +131,7 @@ fn substitute_back(field: u8, kept: &[u16], used: usize, s: &mut [u16], t: &mut 
 }
 
 // a from t and b from s, each times m.
-fn write_pair(
-    field: u8,
-    s: &mut [u16],
-    t: &mut [u16],
-    m: u16,
-    a: &mut [u16],
-    b: &mut [u16],
-)
+fn write_pair(field: u8, s: &mut [u16], t: &mut [u16], m: u16, a: &mut [u16], b: &mut [u16])
     requires s_in_bounds { length s.old ≤ longest field }
     requires t_len { (length t.old ≡ length s.old) × (length a.old ≤ length s.old) × (length b.old ≤ length s.old) }
     ensures a_after { a.new ≡ times_list (field_at field) (length a.old) (residue (field_at field) m) t.old }
@@ -151,28 +141,6 @@ fn write_pair(
     let part = field_tables::inverse_factorials(field);
     euclid_round::write_list(field, whole, part, t, m, a.len(), a);
     euclid_round::write_list(field, whole, part, s, m, b.len(), b);
-}
-
-// The same where s and t have changed places unless `first`.
-fn write_cofactors(
-    field: u8,
-    first: bool,
-    s: &mut [u16],
-    t: &mut [u16],
-    m: u16,
-    a: &mut [u16],
-    b: &mut [u16],
-)
-    requires s_in_bounds { length s.old ≤ longest field }
-    requires t_len { (length t.old ≡ length s.old) × (length a.old ≤ length s.old) × (length b.old ≤ length s.old) }
-    ensures a_after { a.new ≡ times_list (field_at field) (length a.old) (residue (field_at field) m) (cond first t.old s.old) }
-    ensures b_after { b.new ≡ times_list (field_at field) (length b.old) (residue (field_at field) m) (cond first s.old t.old) }
-{
-    if first {
-        write_pair(field, s, t, m, a, b);
-        return;
-    }
-    write_pair(field, t, s, m, a, b);
 }
 
 // The GCD and its cofactors by way of buffers. The cofactors are divided by the last word of the last x, as h is.
@@ -197,8 +165,11 @@ fn cofactors_in(
 {
     let inverses = field_tables::inverses(field);
     let found = list_gcd::gcd_in(field, inverses, f, g, x, y, kept, h);
-    let first = substitute_back(field, kept, found.kept, s, t);
-    write_cofactors(field, first, s, t, found.inverse, a, b);
+    if substitute_back(field, kept, found.kept, s, t) {
+        write_pair(field, s, t, found.inverse, a, b);
+    } else {
+        write_pair(field, t, s, found.inverse, a, b);
+    }
     found.gcd
 }
 
@@ -214,7 +185,7 @@ fn cofactors_sized<const N: usize, const K: usize>(
     b: &mut [u16],
 ) -> Gcd
     requires ready { Ready (field_at field) n f.now g.now × (1 < n) × (n ≤ longest field) }
-    requires sizes { (n ≤ N) × (3 * n ≤ K) }
+    requires sizes { (n ≤ N) × (N ≤ max_words) × (K ≡ 3 * N) }
     requires slices { Slices (longest field) f.now g.now h.old a.old b.old }
     ensures { Results (field_at field) (longest field) f.now g.now result h.new a.new b.new }
 {

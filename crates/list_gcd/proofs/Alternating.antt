@@ -57,11 +57,11 @@ module _ (F : PrimeField) (n : ℕ) where
     pub enough : at' + (max ny left + 2 * left) ≤ room
     pub within : at' ≤ room
 
-  pub led-start : (x y : List ℕ) → Buffer F n x → Buffer F n y → Led F n x y x y 0 []
-  led-start x y bx by =
+  pub led-start : {x y : List ℕ} → Buffer F n x → Buffer F n y → Led F n x y x y 0 []
+  led-start {x} {y} bx by =
       record { buffer_x = bx; buffer_y = by; last = refl; count = omega arith; trail = trail-none F n (euclid_on F n x y) }
 
-  module _ (x₀ y₀ x y : List ℕ) (rounds : ℕ) (words : List ℕ) (t : Led F n x₀ y₀ x y rounds words) where
+  module _ {x₀ y₀ x y : List ℕ} {rounds : ℕ} {words : List ℕ} (t : Led F n x₀ y₀ x y rounds words) where
     -- a round made
     module _ (some : 0 < significant y) where
       carries : Carries F (quotient_words F x y) (quotient_by F.series (scalar_field F) n (significant y - 1) (series_of F x) (series_of F y))
@@ -109,28 +109,31 @@ module _ (F : PrimeField) (n : ℕ) where
           let l : (euclid_on F n x₀ y₀).rounds ≤ n = unfold euclid_on in rounds-few F n x₀ y₀ bx.below by.below bx.size by.size in
           omega (arith, step-rounds)
 
-      -- as the code makes it
-      pub led_on : (at : ℕ) {nx ny room steps left : ℕ} {x' words' : List ℕ} → Buffer F n x₀ → Buffer F n y₀ → nx ≡ significant x → ny ≡ significant y
-          → at + (max nx ny + 2 * ny) ≤ room → RoundKept F x y words steps left x' words'
-          → LedOn x₀ y₀ y x' rounds words' (at + (steps + 1)) ny left room
-      unfolding round_steps
-      led_on at {nx} {ny} {room} {steps} {left} bx by ex ey enough r =
-          record {
-            next = rw (r.remainder, r.quotient, r.steps_are) led-round;
-            count = r.count;
-            smaller = fewer;
-            few = led-few bx by;
-            enough = rest;
-            within = omega (arith, rest);
-          }
-        where
-          fewer : left < ny
-          fewer =
-              let less = round-smaller F n x y t.buffer_x.below t.buffer_y.below t.buffer_x.size t.buffer_y.size some in
-              omega (arith, less, r.count ∙ ap significant r.remainder)
+    -- as the code makes it
+    pub led_on : (at : ℕ) {nx ny room steps left : ℕ} {x' words' : List ℕ} → Buffer F n x₀ → Buffer F n y₀ → nx ≡ significant x → ny ≡ significant y
+        → ¬ (ny ≡ 0) → at + (max nx ny + 2 * ny) ≤ room → RoundKept F x y words steps left x' words'
+        → LedOn x₀ y₀ y x' rounds words' (at + (steps + 1)) ny left room
+    unfolding round_steps
+    led_on at {nx} {ny} {room} {steps} {left} bx by ex ey full enough r =
+        record {
+          next = rw (r.remainder, r.quotient, r.steps_are) (led-round some);
+          count = r.count;
+          smaller = fewer;
+          few = led-few some bx by;
+          enough = rest;
+          within = omega (arith, rest);
+        }
+      where
+        some : 0 < significant y
+        some = omega arith
 
-          rest : at + (steps + 1) + (max ny left + 2 * left) ≤ room
-          rest = room-left at nx ny steps left room enough (r.steps_are ∙ ap₂ (λ i j. i - (j - 1)) (sym ex) (sym ey)) (omega arith) fewer
+        fewer : left < ny
+        fewer =
+            let less = round-smaller F n x y t.buffer_x.below t.buffer_y.below t.buffer_x.size t.buffer_y.size some in
+            omega (arith, less, r.count ∙ ap significant r.remainder)
+
+        rest : at + (steps + 1) + (max ny left + 2 * left) ≤ room
+        rest = room-left at nx ny steps left room enough (r.steps_are ∙ ap₂ (λ i j. i - (j - 1)) (sym ex) (sym ey)) (omega arith) fewer
 
     -- the end
     module _ (none : significant y ≡ 0) where

@@ -3,11 +3,11 @@
 use mathlib.Core.Path.{◌≡◌, sym, ◌∙◌, ap, ap₂, subst}
 use mathlib.Core.Bool.{cond}
 use mathlib.Core.List.{List, [], ◌∷◌}
-use Prim.Native.Nat.{ℕ, suc, ◌-◌, ◌≤◌, ◌<◌}
+use Prim.Native.Nat.{ℕ, suc, ◌+◌, ◌-◌, ◌≤◌, ◌<◌}
 use native.Mathlib.Omega.{arith}
 use lib.ListN.{get_or, length, take, get_or-eq_default}
 use lib.Seq.{take_at}
-use Rattle.std.specs.Prelude.{Ok, Err, Result}
+use Rattle.std.specs.Prelude.{Ok, Err}
 use Rattle.algebra.specs.Series.{C}
 use Rattle.algebra.specs.Degree.{size}
 use Rattle.algebra.specs.Euclid.{done, euclid}
@@ -21,14 +21,13 @@ use Rattle.field.specs.Field.{inverse_of, inverse_or_zero}
 use Rattle.field.proofs.Field.{residue-inverse}
 use Rattle.field_inverse.proofs.OrZero.{inverse-some}
 use Rattle.field_tables.specs.Factorials.{Tables}
-use Rattle.lists.specs.declared.NaiveDegree.{NaiveDegree}
-use Rattle.lists.specs.declared.Power.{Power}
 use Rattle.lists.specs.Degrees.{naive_degree, significant, extent}
 use Rattle.lists.proofs.Extents.{significant-le, extent-largest}
 use Rattle.lists.specs.Lists.{Coefficients, scaled, unscaled}
 use Rattle.lists.specs.Words.{series_of}
 use Rattle.lists.proofs.Words.{coeff-series_of}
-use Rattle.euclid_theory.specs.Gcd.{gcd_of, rounds_of, common_power}
+use Rattle.euclid_theory.specs.Gcd.{euclid_of, gcd_of, rounds_of, common_power}
+use Rattle.euclid_theory.specs.Gcd as G
 use Rattle.lists.specs.Padded.{padded}
 use Rattle.euclid_theory.proofs.Gcd.{length-gcd, size-last, gcd-ends, gcd-rounds}
 use Rattle.euclid_theory.proofs.Greatest.{gcd-is-greatest}
@@ -38,22 +37,18 @@ use Rattle.euclid_round.specs.Round.{multiplied, write_fits, written_words, writ
 use Rattle.euclid_round.proofs.Significant.{significant-series}
 use Rattle.euclid_round.proofs.Written.{write-is}
 use Rattle.list_gcd.specs.declared.Gcd.{Gcd}
-use Rattle.list_gcd.specs.declared.Rounds.{Rounds}
 use Rattle.list_gcd.specs.Calls.{gcd_reply, gcd_values, GreatestSo, Greatest}
 use Rattle.list_gcd.specs.Quotients.{Trail}
-use Rattle.list_gcd.specs.Internal.{Ready, Buffer, Holds, euclid_on, Ends, monic_list, monic_words, LastOf, TrailOf, gcd_done}
+use Rattle.list_gcd.specs.Internal.{Ready, Buffer, Holds, euclid_on, Ends, monic_list, monic_words, last_inverse, LastOf, TrailOf, Numbers, gcd_done}
 use Rattle.list_gcd.proofs.Ready.{ready}
 
 module _ (F : PrimeField) where
   open F.series.ring use {Carrier as S, mul as ◌*ˢ◌}
 
   infixl 70 ◌*ˢ◌
-  pub gcd-done : (f g : List ℕ) (w : NaiveDegree) (c : Power) (rounds : Rounds) → w.0 ≡ naive_degree (gcd_of F f g)
-      → c.0 ≡ common_power (f ∷ g ∷ []) → rounds.0 ≡ rounds_of F f g → Ok (record { degree = w; power = c; rounds = rounds }) ≡ gcd_done F f g
+  pub gcd-done : {f g : List ℕ} {gcd : Gcd} {inverse : ℕ} → Numbers F f g gcd.degree.0 gcd.power.0 gcd.rounds.0 inverse → gcd ≡ gcd_done F f g
   unfolding gcd_done
-  gcd-done f g w c rounds ew ec er =
-      ap (λ n. Ok (record { degree = record { 0 = n }; power = c; rounds = rounds })) ew
-      ∙ ap₂ (λ n m. Ok (record { degree = record { 0 = naive_degree (gcd_of F f g) }; power = record { 0 = n }; rounds = record { 0 = m } })) ec er
+  gcd-done {f} {g} {gcd} n = rw (n.degree-is, n.power-is, n.rounds_are)
 
   module _ (n : ℕ) (f g : List ℕ) (r : Ready F n f g) where
     -- the answer has the promised property
@@ -128,10 +123,20 @@ module _ (F : PrimeField) where
   pub holds_as : {n m : ℕ} {x : List ℕ} {s : S} → n ≡ m → Holds F n x s → Holds F m x s
   holds_as e h = record { buffer = buffer-as e h.buffer; series = h.series }
 
-  -- the words of the last x, made to end in 1, are those of the GCD
-  pub last-words : (room : ℕ) {n : ℕ} {f g last : List ℕ} → LastOf F n f g last → monic_words F room last ≡ padded room (gcd_of F f g)
-  last-words room {n} {f} {g} {last} l =
-      ap (λ i. padded room (monic_list F i (series_of F last))) l.buffer.size ∙ ap (padded room) l.list
+  -- what is written from the last x, made to end in 1: h, its naive degree, and the inverse of its last word
+  pub record Made (room : ℕ) (f g : List ℕ) (degree inverse : ℕ) (h : List ℕ) : Type 0 where
+    pub degree-is : degree ≡ naive_degree (gcd_of F f g)
+    pub inverse-is : residue F inverse ≡ top_inverse F.series (scalar_field F) (G.room f g) (euclid_of F f g).last
+    pub h-is : h ≡ padded room (gcd_of F f g)
+
+  pub last-made : {n room : ℕ} {f g last h : List ℕ} {degree inverse : ℕ} → LastOf F n f g last → degree + 1 ≡ significant last
+      → residue F inverse ≡ last_inverse F last → h ≡ monic_words F room last → Made room f g degree inverse h
+  last-made {room = room} {last = last} l ed ei eh =
+      record {
+        degree-is = omega (arith, l.size);
+        inverse-is = ei ∙ l.inverse;
+        h-is = eh ∙ ap (λ i. padded room (monic_list F i (series_of F last))) l.buffer.size ∙ ap (padded room) l.list;
+      }
 
   -- what is written from the last x
   module _ (n : ℕ) (last : List ℕ) (b : Buffer F n last) where
@@ -191,12 +196,12 @@ refused F n f g h e = (
   kept (padded n (gcd_of F f g)) h e,
 )
 
-pub answered : (F : PrimeField) (n : ℕ) (f g h : List ℕ) {found : Outcome} {r : Result Gcd Refusal} {h' : List ℕ} → found ≡ Ok tt → Ready F n f g
-    → r ≡ gcd_done F f g → h' ≡ padded n (gcd_of F f g)
-    → (gcd_reply r ≡ reply found (gcd_values F f g)) × (h' ≡ written found (padded n (gcd_of F f g)) h) × Greatest F f g h' r
+pub answered : (F : PrimeField) (n : ℕ) (f g h : List ℕ) {found : Outcome} {gcd : Gcd} {h' : List ℕ} → found ≡ Ok tt → Ready F n f g
+    → gcd ≡ gcd_done F f g → h' ≡ padded n (gcd_of F f g)
+    → (gcd_reply (Ok gcd) ≡ reply found (gcd_values F f g)) × (h' ≡ written found (padded n (gcd_of F f g)) h) × Greatest F f g h' (Ok gcd)
 unfolding gcd_done gcd_values
 answered F n f g h e ready er eh = (
-  ap gcd_reply er ∙ sym (ap (λ o. reply o (gcd_values F f g)) e),
+  ap (λ r. gcd_reply (Ok r)) er ∙ sym (ap (λ o. reply o (gcd_values F f g)) e),
   result (padded n (gcd_of F f g)) h e eh,
   rw (er, eh) (ready-greatest F n f g ready),
 )

@@ -16,8 +16,7 @@
 --     Numbers f g          w, c, the number of rounds, and 1 over the last coefficient of the last x
 --     gcd_done f g         the answer of the GCD of f and g: w, c and rounds
 -- Assumes nothing.
-use Rattle.refusal.specs.declared.Refusal.{Refusal}
-use Rattle.std.specs.Prelude.{◌≡◌, List, [], ◌∷◌, ◌++◌, ℕ, suc, ◌+◌, ◌*◌, ◌≤◌, ◌<◌, get_or, length, Ok, Result}
+use Rattle.std.specs.Prelude.{◌≡◌, List, [], ◌∷◌, ◌++◌, ℕ, suc, ◌+◌, ◌*◌, ◌≤◌, ◌<◌, get_or, length}
 use Rattle.algebra.specs.Ring.{CommRing}
 use Rattle.algebra.specs.Degree.{size}
 use Rattle.algebra.specs.Euclid.{Euclid, done, euclid}

@@ -48,10 +48,7 @@ pub fn gcd_over(field: u8, f: &[u16], g: &[u16], h: &mut [u16]) -> Result<Gcd, R
 fn both_zero(f: &[u16], g: &[u16]) -> bool
     ensures { result ≡ eqb (significant f.now + significant g.now) 0 }
 {
-    if lists::significant_words(f) != 0 {
-        return false;
-    }
-    lists::significant_words(g) == 0
+    lists::significant_words(f) == 0 && lists::significant_words(g) == 0
 }
 
 // What the GCD refuses.
@@ -72,20 +69,12 @@ pub fn judge_gcd(field: u8, f: &[u16], g: &[u16], h: &[u16]) -> Result<(), Refus
 fn common_power(f: &[u16], g: &[u16]) -> Power
     ensures { result.0 ≡ common_power (f.now ∷ g.now ∷ []) }
 {
-    let nf = lists::significant_words(f);
-    let ng = lists::significant_words(g);
-    if nf == 0 {
-        if ng == 0 {
-            return Power(0);
-        }
-        return lists::power_in(g);
+    match (lists::significant_words(f), lists::significant_words(g)) {
+        (0, 0) => Power(0),
+        (0, _) => lists::power_in(g),
+        (_, 0) => lists::power_in(f),
+        _ => Power(lists::power_in(f).0.min(lists::power_in(g).0)),
     }
-    let pf = lists::power_in(f);
-    if ng == 0 {
-        return pf;
-    }
-    let pg = lists::power_in(g);
-    Power(pf.0.min(pg.0))
 }
 
 // The words of the scaled form of a list, to a buffer of zeros.
@@ -102,7 +91,7 @@ fn scale_into(field: u8, list: &[u16], buffer: &mut [u16])
 // Where the rounds ended: how many they were, whether the last x stands in the first buffer, and how many words of quotients were kept.
 #[derive(Clone, Copy)]
 struct Ended {
-    rounds: usize,
+    rounds: Rounds,
     first: bool,
     kept: usize,
 }
@@ -134,7 +123,7 @@ fn all_rounds(field: u8, inverses: &[u16], x: &mut [u16], y: &mut [u16], kept: &
     requires buffer { Buffer (field_at field) (length x.old) x.old }
     requires buffer_2 { Buffer (field_at field) (length x.old) y.old }
     requires x_len_bound { (length x.old ≤ max_words) × (length kept.old ≡ 3 * length x.old) }
-    ensures ends { Ends (field_at field) (length x.old) x.old y.old (cond result.first x.new y.new) result.rounds (take result.kept kept.new) }
+    ensures ends { Ends (field_at field) (length x.old) x.old y.old (cond result.first x.new y.new) result.rounds.0 (take result.kept kept.new) }
     ensures kept_in_bounds { result.kept ≤ length kept.old }
 {
     let mut rounds = 0;
@@ -144,7 +133,7 @@ fn all_rounds(field: u8, inverses: &[u16], x: &mut [u16], y: &mut [u16], kept: &
     loop {
         if ny == 0 {
             return Ended {
-                rounds,
+                rounds: Rounds(rounds),
                 first: true,
                 kept: at,
             };
@@ -155,7 +144,7 @@ fn all_rounds(field: u8, inverses: &[u16], x: &mut [u16], y: &mut [u16], kept: &
         rounds += 1;
         if nx == 0 {
             return Ended {
-                rounds,
+                rounds: Rounds(rounds),
                 first: false,
                 kept: at,
             };
@@ -170,7 +159,7 @@ fn all_rounds(field: u8, inverses: &[u16], x: &mut [u16], y: &mut [u16], kept: &
 // What was written: the naive degree of h, and the inverse of the last word of the last x, by which it was multiplied.
 #[derive(Clone, Copy)]
 struct Monic {
-    degree: usize,
+    degree: NaiveDegree,
     inverse: u16,
 }
 
@@ -178,7 +167,7 @@ struct Monic {
 fn write_gcd(field: u8, inverses: &[u16], last: &mut [u16], h: &mut [u16]) -> Monic
     requires buffer { Buffer (field_at field) (length last.old) last.old × (length last.old ≤ longest field) }
     requires last_nonzero { (0 < significant last.old) × (length h.old ≡ longest field) }
-    ensures degree_value { result.degree + 1 ≡ significant last.old }
+    ensures degree_value { result.degree.0 + 1 ≡ significant last.old }
     ensures inverse_value { residue (field_at field) result.inverse ≡ last_inverse (field_at field) last.old }
     ensures h_after { h.new ≡ monic_words (field_at field) (longest field) last.old }
 {
@@ -188,30 +177,9 @@ fn write_gcd(field: u8, inverses: &[u16], last: &mut [u16], h: &mut [u16]) -> Mo
     let inv = field_inverse::inverse_or_zero(field, inverses, last[n - 1]);
     euclid_round::write_list(field, whole, part, last, inv, n, h);
     Monic {
-        degree: n - 1,
+        degree: NaiveDegree(n - 1),
         inverse: inv,
     }
-}
-
-// The same from the buffer that holds the last x.
-fn write_last(
-    field: u8,
-    inverses: &[u16],
-    first: bool,
-    x: &mut [u16],
-    y: &mut [u16],
-    h: &mut [u16],
-) -> Monic
-    requires buffer { Buffer (field_at field) (length (cond first x.old y.old)) (cond first x.old y.old) × (length (cond first x.old y.old) ≤ longest field) }
-    requires nonzero { (0 < significant (cond first x.old y.old)) × (length h.old ≡ longest field) }
-    ensures degree_value { result.degree + 1 ≡ significant (cond first x.old y.old) }
-    ensures inverse_value { residue (field_at field) result.inverse ≡ last_inverse (field_at field) (cond first x.old y.old) }
-    ensures h_after { h.new ≡ monic_words (field_at field) (longest field) (cond first x.old y.old) }
-{
-    if first {
-        return write_gcd(field, inverses, x, h);
-    }
-    write_gcd(field, inverses, y, h)
 }
 
 // Euclid's rounds on the scaled forms of g and f, in buffers x and y of zeros, with their quotients kept.
@@ -226,7 +194,7 @@ fn find_last(
 ) -> Ended
     requires ready { Ready (field_at field) (length x.old) f.now g.now × (length x.old ≤ longest field) }
     requires zeros { Zeros (length x.old) x.old y.old kept.old }
-    ensures rounds_value { result.rounds ≡ rounds_of (field_at field) f.now g.now }
+    ensures rounds_value { result.rounds.0 ≡ rounds_of (field_at field) f.now g.now }
     ensures last_of { LastOf (field_at field) (length x.old) f.now g.now (cond result.first x.new y.new) }
     ensures trail_of { TrailOf (field_at field) (length x.old) f.now g.now (take result.kept kept.new) × (result.kept ≤ length kept.old) }
 {
@@ -262,12 +230,16 @@ pub fn gcd_in(
     ensures trail_of { TrailOf (field_at field) (length x.old) f.now g.now (take result.kept kept.new) × (result.kept ≤ length kept.old) }
 {
     let ended = find_last(field, inverses, f, g, x, y, kept);
-    let made = write_last(field, inverses, ended.first, x, y, h);
+    let made = if ended.first {
+        write_gcd(field, inverses, x, h)
+    } else {
+        write_gcd(field, inverses, y, h)
+    };
     Found {
         gcd: Gcd {
-            degree: NaiveDegree(made.degree),
+            degree: made.degree,
             power: common_power(f, g),
-            rounds: Rounds(ended.rounds),
+            rounds: ended.rounds,
         },
         inverse: made.inverse,
         kept: ended.kept,
@@ -283,9 +255,15 @@ pub fn buffer_words(field: u8, f: &[u16], g: &[u16]) -> usize
 }
 
 // The GCD where nothing is refused, in buffers of n words, in arrays of N words, which are filled with zeros; of quotients K words are kept.
-fn gcd_sized<const N: usize, const K: usize>(field: u8, f: &[u16], g: &[u16], n: usize, h: &mut [u16]) -> Gcd
+fn gcd_sized<const N: usize, const K: usize>(
+    field: u8,
+    f: &[u16],
+    g: &[u16],
+    n: usize,
+    h: &mut [u16],
+) -> Gcd
     requires ready { Ready (field_at field) n f.now g.now × (n ≤ longest field) }
-    requires sizes { (n ≤ N) × (3 * n ≤ K) }
+    requires sizes { (n ≤ N) × (N ≤ max_words) × (K ≡ 3 * N) }
     requires h_len { length h.old ≡ longest field }
     ensures value { result ≡ gcd_done (field_at field) f.now g.now }
     ensures h_after { h.new ≡ padded (longest field) (gcd_of (field_at field) f.now g.now) }

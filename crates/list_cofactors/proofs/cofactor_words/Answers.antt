@@ -1,17 +1,14 @@
--- `list_cofactors::cofactor_words` meets its contract: the number of words by cases on the two lengths.
+-- `list_cofactors::cofactor_words` meets its contract: the number of words from the naive degrees.
 -- Assumes nothing.
+use borrow.Author.Rules.{rules}
 use native.Mathlib.Omega.{arith}
-use Rattle.list_cofactors.proofs.Slices.{words-short, words_long}
+use Rattle.lists.specs.Degrees.{naive_degree}
+use Rattle.list_cofactors.proofs.Slices.{words-found}
 use Rattle.list_cofactors.proofs.cofactor_words.Goals as goal
 
-pub returns-then-other-lt2 : goal.returns-then-other-lt2
-returns-then-other-lt2 c = words-short _ _ _ (omega arith) (omega arith)
-
-pub returns-then-list-lt2 : goal.returns-then-list-lt2
-returns-then-list-lt2 c = words-short _ _ _ (omega arith) (omega arith)
-
-pub returns-then-other-lt2-2 : goal.returns-then-other-lt2-2
-returns-then-other-lt2-2 c = words_long _ _ _ (omega arith) (omega arith)
+pub overflow_add-result : goal.overflow_add-result
+unfolding naive_degree
+overflow_add-result c = search rules
 
 pub returns : goal.returns
-returns c = words_long _ _ _ (omega arith) (omega arith)
+returns c = words-found c.args.list.now c.args.other.now c.degree_of-d.ensures c.degree_of-e.ensures (omega arith)

@@ -8,7 +8,11 @@ use Rattle.list_cofactors.proofs.Back.{Back}
 use Rattle.list_cofactors.proofs.substitute_back.Given as goal
 
 abbrev pub invariant-loop-at : goal.invariant-loop-at
-invariant-loop-at l = Back (field_at l.field) l.n (take l.used l.kept) (take l.at l.kept) l.s l.t l.c × (l.at ≤ length l.kept)
+invariant-loop-at l =
+    record {
+      back : Back (field_at l.field) l.n (take l.used l.kept) (take l.at l.kept) l.s l.t l.c;
+      inside : l.at ≤ length l.kept;
+    }
 
 abbrev pub decreases-loop-at : goal.decreases-loop-at
 decreases-loop-at l = l.at

@@ -20,20 +20,14 @@ quotient-lent p at read kept s t l e =
     let words : at - 1 - (at - 1 - last_count at kept) ≡ last_count at kept = omega arith in
     e ∙ ap (λ i. less_product p s (take i (drop (at - 1 - last_count at kept) kept)) (take read t)) words
 
-pub overflow_cast-steps : goal.overflow_cast-steps
-overflow_cast-steps c = omega (arith, c.type_inv.kept (c.args.at - 1))
-
 pub overflow_sub-end-2 : goal.overflow_sub-end-2
 unfolding last_count
 overflow_sub-end-2 c = search rules
 
-pub slice_bounds-sub_product-end-2 : goal.slice_bounds-sub_product-end-2
-slice_bounds-sub_product-end-2 c = simp length-take (omega arith)
-
-pub sub_product-requires : goal.sub_product-requires
+pub sub_product-requires-clause-q_in_bounds : goal.sub_product-requires-clause-q_in_bounds
 unfolding last_count
-sub_product-requires c = let pre = c.requires in record { q_in_bounds = simp length-take (omega arith); tight = pre.tight }
+sub_product-requires-clause-q_in_bounds c = simp length-take (omega arith)
 
 pub returns : goal.returns
 unfolding last_count
-returns c = let pre = c.requires in record { value = refl; s_after = quotient-lent (modulus c.args.field) c.args.at c.args.read c.args.kept.now c.args.s.now c.args.t.now pre.at_in_bounds.1 c.sub_product.ensures }
+returns c = record { value = refl; s_after = quotient-lent (modulus c.args.field) c.args.at c.args.read c.args.kept.now c.args.s.now c.args.t.now c.requires.at_in_bounds.1 c.sub_product.ensures }

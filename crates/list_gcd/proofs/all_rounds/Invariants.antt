@@ -11,8 +11,13 @@ use Rattle.list_gcd.proofs.all_rounds.Given as goal
 
 abbrev pub invariant-loop-ny : goal.invariant-loop-ny
 invariant-loop-ny l =
-    Led (field_at l.field) (length l.initial.x) l.initial.x l.initial.y l.x l.y l.rounds (take l.at l.kept)
-    × (length l.kept ≡ length l.initial.kept) × (l.nx ≡ significant l.x) × (l.ny ≡ significant l.y) × (l.at + (max l.nx l.ny + 2 * l.ny) ≤ length l.initial.kept)
+    record {
+      led : Led (field_at l.field) (length l.initial.x) l.initial.x l.initial.y l.x l.y l.rounds (take l.at l.kept);
+      kept_length : length l.kept ≡ length l.initial.kept;
+      nx_is : l.nx ≡ significant l.x;
+      ny_is : l.ny ≡ significant l.y;
+      enough : l.at + (max l.nx l.ny + 2 * l.ny) ≤ length l.initial.kept;
+    }
 
 abbrev pub decreases-loop-ny : goal.decreases-loop-ny
 decreases-loop-ny l = l.ny

@@ -8,13 +8,11 @@ use native.Mathlib.Omega.{arith}
 use lib.ListN.{length, take, set, length-set}
 use lib.Seq.{take_all, take-suc-set}
 use borrow.Author.Tests.{lt-ltb, le-ltb}
-use Rattle.refusal.specs.Refusal.{Outcome}
-use Rattle.std.specs.Prelude.{Ok, Err}
+use Rattle.std.specs.Prelude.{Ok}
 use Rattle.refusal.specs.Limits.{max_lists}
 use Rattle.refusal.specs.Lowest.{lowest}
 use Rattle.album_layout.specs.Layout.{count, degree_at, offset_at}
 use Rattle.album_contents.specs.Calls.{record_at, records_from, contents_rows, filled}
-use Rattle.album_contents.specs.Internal.{records_due}
 use Rattle.album_contents.specs.declared.Entry.{Entry}
 use Rattle.album_contents.proofs.Judged.{fit_all}
 
@@ -57,17 +55,9 @@ after_first s xs (suc i) l =
 after-all : (s : List ℕ) (xs : List Entry) (n : ℕ) → length xs ≡ n → after s xs n ≡ records_from s 0 n
 after-all s xs n e = sym (take_all n (after s xs n) (omega (arith, length-after s xs n))) ∙ after_first s xs n (omega arith)
 
-module _ (p : ℕ) (s : List ℕ) (xs : List Entry) where
-  -- what is due fits the slice
-  pub due-fits : (o : Outcome) → o ≡ lowest (contents_rows p s (length xs)) → records_due o ≤ length xs
-  due-fits (Ok _) e = omega (arith, fit_all p s (length xs) (sym e))
-  due-fits (Err why) e = omega arith
-
-  -- the slice after what is due is written
-  pub after-due : (o : Outcome) → o ≡ lowest (contents_rows p s (length xs)) → (d : ℕ) → d ≡ records_due o
-      → after s xs d ≡ filled (lowest (contents_rows p s (length xs))) (records_from s 0 max_lists) xs
-  after-due o e d q = due o e q ∙ ap (λ r. filled r (records_from s 0 max_lists) xs) e
-    where
-      due : (o : Outcome) → o ≡ lowest (contents_rows p s (length xs)) → d ≡ records_due o → after s xs d ≡ filled o (records_from s 0 max_lists) xs
-      due (Ok _) e q = after-all s xs d (fit_all p s (length xs) (sym e) ∙ sym q) ∙ ap (records_from s 0) q
-      due (Err why) e q = ap (after s xs) q
+-- the slice after all its records are written
+pub after_done : (p : ℕ) (s : List ℕ) (xs : List Entry) → lowest (contents_rows p s (length xs)) ≡ Ok tt → (n : ℕ) → n ≡ length xs
+    → after s xs n ≡ filled (lowest (contents_rows p s (length xs))) (records_from s 0 max_lists) xs
+after_done p s xs e n q =
+    let all : n ≡ max_lists = q ∙ fit_all p s (length xs) e in
+    after-all s xs n (sym q) ∙ ap (records_from s 0) all ∙ sym (ap (λ r. filled r (records_from s 0 max_lists) xs) e)

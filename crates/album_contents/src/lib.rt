@@ -6,13 +6,12 @@ ghost use Rattle.refusal.specs.Refusal.{outcome_reply};
 ghost use Rattle.refusal.specs.Lowest.{lowest};
 ghost use Rattle.field.specs.Fields.{modulus};
 ghost use Rattle.album_contents.specs.Calls.{record_at, contents_rows, contents_answer, contents_written};
-ghost use Rattle.album_contents.specs.Internal.{records_due};
 
 use refusal::Refusal;
 
 // Where a list's body starts in the album, and the list's naive degree.
 #[repr(C)]
-#[derive(Clone, Copy)]
+#[derive(Clone, Copy, Debug, PartialEq, Eq)]
 pub struct Entry {
     pub offset: u16,
     pub degree: u16,
@@ -23,14 +22,11 @@ pub fn contents(album: &[u8], out: &mut [Entry]) -> Result<(), Refusal>
     ensures answer { outcome_reply result ≡ contents_answer 0 album.now out.old }
     ensures writes { out.new ≡ contents_written 0 album.now out.old }
 {
-    let answer = judge_contents(0, album, out.len());
-    let due = records_due(answer);
-    let mut k = 0;
-    while k < due {
-        out[k] = record_at(album, k);
-        k += 1;
+    judge_contents(0, album, out.len())?;
+    for (k, entry) in out.iter_mut().enumerate() {
+        *entry = record_at(album, k);
     }
-    answer
+    Ok(())
 }
 
 // What a call over a field refuses that is lent n records.
@@ -42,16 +38,6 @@ fn judge_contents(field: u8, album: &[u8], n: usize) -> Result<(), Refusal>
         return Err(Refusal::Misfit);
     }
     Ok(())
-}
-
-// How many records a call with this answer writes: a refused call none.
-fn records_due(answer: Result<(), Refusal>) -> usize
-    ensures { result ≡ records_due answer }
-{
-    match answer {
-        Ok(()) => refusal::MAX_LISTS,
-        Err(_) => 0,
-    }
 }
 
 // The record of list k; zeros after the last list.

@@ -33,7 +33,7 @@ use Rattle.album_writer.proofs.Judged.{some-lists, right-lists, all-low, short-d
 use Rattle.bind_text.specs.Text.{lines_of, lists_in, has_other}
 use Rattle.bind_text.specs.Calls.{max_input, text_refusals, bind_rows, bind_answer, bind_written}
 use Rattle.bind_text.specs.Internal.{capped, Sound, Loaded}
-use Rattle.bind_text.proofs.Lines.{length-lists, each_right}
+use Rattle.bind_text.proofs.Lists.{length-lists, each_right}
 use Rattle.bind_text.proofs.Numbers.{loose-capped, tight-capped}
 
 module _ (text : List ℕ) where

@@ -1,7 +1,6 @@
 pub mod Parts
-pub mod Lines
+pub mod Lists
 pub mod Numbers
-pub mod Others
 pub mod Reading
 pub mod Judged
 pub mod Text

@@ -6,17 +6,15 @@
 use mathlib.Core.Path.{◌≡◌, refl, sym, ◌∙◌, ap, ap₂}
 use mathlib.Core.Bool.{false, ◌||◌}
 use mathlib.Core.List.{List, [], ◌∷◌, map}
-use Prim.Native.Nat.{ℕ, ◌+◌, ◌-◌, ◌*◌, ◌≤◌, ◌<◌, min}
-use native.Mathlib.Numerals.{add-one}
+use Prim.Native.Nat.{ℕ, ◌+◌, ◌-◌, ◌*◌, ◌≤◌}
 use native.Mathlib.Decide.{dec_le}
 use native.Mathlib.Omega.{arith}
 use lib.Dec.{leb}
-use lib.ListN.{length, get_or, drop, drop_of_length-le}
-use lib.Seq.{drop-cons}
 use borrow.Author.Tests.{leb-false, le-leb, lt-leb}
+use Rattle.std.specs.List.{fold}
 use Rattle.refusal.proofs.First.{or-false}
 use Rattle.lists.specs.Refused.{has_loose}
-use Rattle.bind_text.specs.Text.{⟨0⟩, value_from}
+use Rattle.bind_text.specs.Text.{⟨0⟩, value_from, value_of}
 use Rattle.bind_text.specs.Internal.{capped}
 
 grows : (n : ℕ) (digits : List ℕ) → n ≤ value_from n digits
@@ -32,23 +30,22 @@ capped-from n digits = go (dec_le n 65535)
     go (yes l) = let e : capped n ≡ n = omega arith in ap (λ m. capped (value_from m digits)) e
     go (no l) = omega (arith, grows (capped n) digits, grows n digits)
 
-module _ (digits : List ℕ) (k : ℕ) where
-  value-next : (n : ℕ) → k < length digits → value_from n (drop k digits) ≡ value_from (10 * n + (get_or digits k 0 - ⟨0⟩)) (drop (k + 1) digits)
-  unfolding value_from
-  value-next n l =
-      ap (value_from n) (drop-cons digits k 0 l)
-      ∙ ap (λ i. value_from (10 * n + (get_or digits k 0 - ⟨0⟩)) (drop i digits)) (sym (add-one k))
+-- one digit more, where both the product and the sum are cut off
+abbrev pub next : ℕ → ℕ → ℕ
+next n x = capped (capped (n * 10) + (x - ⟨0⟩))
 
-  pub number-next : (n d : ℕ) {m : ℕ} → k < length digits → d ≡ get_or digits k 0 - ⟨0⟩ → m ≡ min (10 * n + d) 65535
-      → capped (value_from m (drop (k + 1) digits)) ≡ capped (value_from n (drop k digits))
-  number-next n d {m} l e q =
-      ap (λ i. capped (value_from i (drop (k + 1) digits))) (q ∙ ap (λ i. capped (10 * n + i)) e)
-      ∙ capped-from (10 * n + (get_or digits k 0 - ⟨0⟩)) (drop (k + 1) digits)
-      ∙ ap (λ i. capped i) (sym (value-next n l))
+fold-from : (n : ℕ) (digits : List ℕ) → n ≤ 65535 → fold next n digits ≡ capped (value_from n digits)
+unfolding value_from
+fold-from n [] l = omega arith
+fold-from n (x ∷ digits) l =
+    let e : next n x ≡ capped (10 * n + (x - ⟨0⟩)) = omega arith in
+    fold-from (next n x) digits (omega arith)
+    ∙ ap (λ m. capped (value_from m digits)) e
+    ∙ capped-from (10 * n + (x - ⟨0⟩)) digits
 
-  pub number-end : (n : ℕ) → length digits ≤ k → value_from n (drop k digits) ≡ n
-  unfolding value_from
-  number-end n l = ap (value_from n) (drop_of_length-le digits l)
+pub fold-value : (digits : List ℕ) → fold next 0 digits ≡ capped (value_of digits)
+unfolding value_of
+fold-value digits = fold-from 0 digits (omega arith)
 
 module _ (p : ℕ) (small : p ≤ 65535) where
   word-loose : (n : ℕ) → leb p (capped n) ≡ leb p n

@@ -1,72 +1,94 @@
--- The parts of some bytes, from a place on.
---     before_here, before_on, before-none     the search for the end of a part, one byte on
---     parts_next, parts_none                  the first part and those after it; none past the end
---     length_part                             the length of a part
+-- The parts of some bytes.
+--     parts_at, parts_whole     the first part ends at the first b; where there is none, it is all of the bytes
+--     filled-split              the parts that are not empty are those that `split` and `filter` give
 -- Assumes nothing.
-use mathlib.Core.Path.{◌≡◌, refl, sym, ◌∙◌, ap, ap₂}
-use mathlib.Core.Bool.{Bool, true, false, cond}
-use mathlib.Core.List.{List, [], ◌∷◌}
-use Prim.Native.Nat.{ℕ, suc, ◌+◌, ◌-◌, ◌≤◌, ◌<◌}
-use native.Mathlib.Numerals.{add-one}
+use mathlib.Core.Path.{◌≡◌, refl, ◌∙◌, ap}
+use mathlib.Core.Bool.{Bool, true, false, cond, not}
+use mathlib.Core.List.{List, [], ◌∷◌, ◌++◌}
+use mathlib.Core.Logic.{◌⊎◌, inl, inr}
+use Prim.Native.Nat.{ℕ, zero, suc, ◌≤◌, ◌<◌}
 use native.Mathlib.Omega.{arith}
 use lib.Dec.{eqb}
-use lib.ListN.{length, get_or, take, drop, length-take, length-drop, drop_of_length-le}
-use lib.Seq.{drop-cons, drop-drop}
+use lib.ListN.{length, get_or, take, drop}
 use borrow.Author.Tests.{eq-eqb, ne_eqb}
-use Rattle.bind_text.specs.Text.{onto, parts}
-use Rattle.bind_text.specs.Internal.{before, PartEnd}
-
-pub length_part : (s : List ℕ) (at end : ℕ) → end ≤ length s → length (take (end - at) (drop at s)) ≡ end - at
-length_part s at end l = simp (length-take, length-drop) (omega arith)
+use Rattle.std.specs.List.{filter, slice_split, onto_first}
+use Rattle.bind_text.specs.Text.{onto, parts, filled_of}
 
 module _ (b : ℕ) where
-  -- one byte in front, by the test of whether it is b
-  one-part : (x : ℕ) (s : List ℕ) (t : Bool)
-      → onto x (parts b s) ≡ (x ∷ take (before b s) s) ∷ parts b (drop (suc (before b s)) s)
-      → cond t ([] ∷ parts b s) (onto x (parts b s))
-      ≡ take (cond t 0 (suc (before b s))) (x ∷ s) ∷ parts b (drop (suc (cond t 0 (suc (before b s)))) (x ∷ s))
-  one-part x s true e = refl
-  one-part x s false e = e
+  onto-short : (x n : ℕ) (some : List (List ℕ)) → length some ≤ n → length (onto x some) ≤ suc n
+  unfolding onto
+  onto-short x n [] l = omega arith
+  onto-short x n (part ∷ rest) l = omega arith
 
-  parts-cons : (x : ℕ) (s : List ℕ)
-      → parts b (x ∷ s) ≡ take (before b (x ∷ s)) (x ∷ s) ∷ parts b (drop (suc (before b (x ∷ s))) (x ∷ s))
-  unfolding onto parts before
-  parts-cons x [] = one-part x [] (eqb x b) refl
-  parts-cons x (y ∷ s) = one-part x (y ∷ s) (eqb x b) (ap (onto x) (parts-cons y s))
+  pub parts-short : (s : List ℕ) → length (parts b s) ≤ length s
+  unfolding parts
+  parts-short [] = omega arith
+  parts-short (x ∷ s) = go (eqb x b) (parts-short s)
+    where
+      go : (t : Bool) → length (parts b s) ≤ length s → length (cond t ([] ∷ parts b s) (onto x (parts b s))) ≤ suc (length s)
+      go true l = omega arith
+      go false l = onto-short x (length s) (parts b s) l
 
-  parts-some : (s : List ℕ) → 0 < length s → parts b s ≡ take (before b s) s ∷ parts b (drop (suc (before b s)) s)
-  parts-some [] l = absurd (omega arith)
-  parts-some (x ∷ s) l = parts-cons x s
+  pub parts_at : (s : List ℕ) (i : ℕ) → i < length s → get_or s i 0 ≡ b → ((k : ℕ) → k < i → get_or s k 0 ≡ b → ⊥)
+      → parts b s ≡ take i s ∷ parts b (drop (suc i) s)
+  unfolding onto parts
+  parts_at [] i l e f = absurd (omega arith)
+  parts_at (x ∷ s) zero l e f = ap (λ t. cond t ([] ∷ parts b s) (onto x (parts b s))) (eq-eqb x b e)
+  parts_at (x ∷ s) (suc i) l e f =
+      ap (λ t. cond t ([] ∷ parts b s) (onto x (parts b s))) (ne_eqb x b (f 0 (omega arith)))
+      ∙ ap (onto x) (parts_at s i (omega arith) e (λ k h. f (suc k) (omega arith)))
 
-  module _ (s : List ℕ) (at : ℕ) where
-    before-cons : at < length s → before b (drop at s) ≡ cond (eqb (get_or s at 0) b) 0 (suc (before b (drop (at + 1) s)))
-    unfolding before
-    before-cons l =
-        ap (before b) (drop-cons s at 0 l) ∙ ap (λ i. cond (eqb (get_or s at 0) b) 0 (suc (before b (drop i s)))) (sym (add-one at))
+  pub parts_whole : (s : List ℕ) → 0 < length s → ((k : ℕ) → k < length s → get_or s k 0 ≡ b → ⊥) → parts b s ≡ s ∷ []
+  unfolding onto parts
+  parts_whole [] l f = absurd (omega arith)
+  parts_whole (x ∷ []) l f = ap (λ t. cond t ([] ∷ []) (onto x [])) (ne_eqb x b (f 0 (omega arith)))
+  parts_whole (x ∷ y ∷ s) l f =
+      ap (λ t. cond t ([] ∷ parts b (y ∷ s)) (onto x (parts b (y ∷ s)))) (ne_eqb x b (f 0 (omega arith)))
+      ∙ ap (onto x) (parts_whole (y ∷ s) (omega arith) (λ k h. f (suc k) (omega arith)))
 
-    pub before_here : at < length s → get_or s at 0 ≡ b → before b (drop at s) ≡ 0
-    before_here l e = before-cons l ∙ simp (eq-eqb (get_or s at 0) b e)
+  -- what `split` gives: the parts, and where no part stands at the end, an empty one
+  abbrev Split : (split some : List (List ℕ)) → Type 0
+  Split split some = (split ≡ some) ⊎ (split ≡ some ++ ([] ∷ []))
 
-    pub before_on : at < length s → (get_or s at 0 ≡ b → ⊥) → before b (drop at s) ≡ suc (before b (drop (at + 1) s))
-    before_on l f = before-cons l ∙ simp (ne_eqb (get_or s at 0) b f)
+  split-onto : (x : ℕ) (split some : List (List ℕ)) → Split split some → Split (onto_first x split) (onto x some)
+  unfolding onto
+  split-onto x split [] (inl e) = inl (ap (onto_first x) e)
+  split-onto x split (part ∷ rest) (inl e) = inl (ap (onto_first x) e)
+  split-onto x split [] (inr e) = inl (ap (onto_first x) e)
+  split-onto x split (part ∷ rest) (inr e) = inr (ap (onto_first x) e)
 
-    pub before-none : length s ≤ at → before b (drop at s) ≡ 0
-    unfolding before
-    before-none l = ap (before b) (drop_of_length-le s l)
+  split-part : (split some : List (List ℕ)) → Split split some → Split ([] ∷ split) ([] ∷ some)
+  split-part split some (inl e) = inl (ap (λ r. [] ∷ r) e)
+  split-part split some (inr e) = inr (ap (λ r. [] ∷ r) e)
 
-    pub parts_next : {end : ℕ} → at < length s → PartEnd b s at end
-        → parts b (drop at s) ≡ take (end - at) (drop at s) ∷ parts b (drop (end + 1) s)
-    parts_next {end} l e =
-        parts-some (drop at s) (simp length-drop (omega arith))
-        ∙ ap (λ r. take (before b (drop at s)) (drop at s) ∷ parts b r) (drop-drop (suc (before b (drop at s))) at s)
-        ∙ ap₂ (λ n i. take n (drop at s) ∷ parts b (drop i s)) size next
-      where
-        size : before b (drop at s) ≡ end - at
-        size = omega (arith, e.is)
+  split-parts : (s : List ℕ) → Split (slice_split (λ x. eqb x b) s) (parts b s)
+  unfolding parts
+  split-parts [] = inr refl
+  split-parts (x ∷ s) = go (eqb x b) _ _ (split-parts s)
+    where
+      go : (t : Bool) (split some : List (List ℕ)) → Split split some
+          → Split (cond t ([] ∷ split) (onto_first x split)) (cond t ([] ∷ some) (onto x some))
+      go true split some w = split-part split some w
+      go false split some w = split-onto x split some w
 
-        next : at + suc (before b (drop at s)) ≡ end + 1
-        next = omega (arith, e.is)
+  -- that one is left out
+  filled-end : (some : List (List ℕ)) → filled_of (some ++ ([] ∷ [])) ≡ filled_of some
+  unfolding filled_of
+  filled-end [] = refl
+  filled-end (part ∷ rest) = ap (λ r. cond (eqb (length part) 0) r (part ∷ r)) (filled-end rest)
 
-    pub parts_none : length s ≤ at → parts b (drop at s) ≡ []
-    unfolding parts
-    parts_none l = ap (parts b) (drop_of_length-le s l)
+  filled-filter : (some : List (List ℕ)) → filter (λ part. not (eqb (length part) 0)) some ≡ filled_of some
+  unfolding filled_of
+  filled-filter [] = refl
+  filled-filter (part ∷ rest) = go (eqb (length part) 0) (filled-filter rest)
+    where
+      go : (t : Bool) {r s : List (List ℕ)} → r ≡ s → cond (not t) (part ∷ r) r ≡ cond t s (part ∷ s)
+      go true e = e
+      go false e = ap (λ r. part ∷ r) e
+
+  pub filled-split : (s : List ℕ) → filter (λ part. not (eqb (length part) 0)) (slice_split (λ x. eqb x b) s) ≡ filled_of (parts b s)
+  filled-split s = filled-filter _ ∙ go (slice_split (λ x. eqb x b) s) (split-parts s)
+    where
+      go : (split : List (List ℕ)) → Split split (parts b s) → filled_of split ≡ filled_of (parts b s)
+      go split (inl e) = ap filled_of e
+      go split (inr e) = ap filled_of e ∙ filled-end (parts b s)

@@ -1,25 +1,19 @@
 -- What the functions behind a text need and find.
---     before b s         the number of bytes that stand before the first b, or of all where there is none
---     PartEnd            where the part of some bytes ends that begins at a place: at the next b, or with the bytes
+--     lines_left         the lines that an iterator over a text's lines has left
 --     capped n           a number as a word: the largest word where it is larger, and so as loose as the number is
 --     Sound              a text that is not refused with 1 or 4
 --     Loaded             n words and the degrees of a text's lists stand at the front of two buffers
 -- Assumes nothing.
-use Rattle.std.specs.Prelude.{◌≡◌, false, cond, List, [], ◌∷◌, map, ℕ, suc, ◌+◌, ◌≤◌, min, eqb, length, take, drop}
+use Rattle.std.specs.Prelude.{◌≡◌, false, List, map, ℕ, ◌≤◌, min, length, take}
 use Rattle.refusal.specs.Limits.{max_lists, max_words}
 use Rattle.lists.specs.Degrees.{naive_degree}
 use Rattle.lists.specs.Refused.{wrong_length, any_of}
 use Rattle.album_writer.specs.Cut.{joined}
+use Rattle.bind_text.specs.declared.Lines.{Lines}
 use Rattle.bind_text.specs.Text.{lines_of, lists_in}
 
-unfoldable pub before : ℕ → List ℕ → ℕ
-before b [] = 0
-before b (x ∷ s) = cond (eqb x b) 0 (suc (before b s))
-
-pub record PartEnd (b : ℕ) (s : List ℕ) (at end : ℕ) : Type 0 where
-  pub after : at ≤ end
-  pub inside : end ≤ length s
-  pub is : end ≡ at + before b (drop at s)
+abbrev pub lines_left : Lines → List (List ℕ)
+lines_left s = lines_of s.0.now
 
 abbrev pub capped : ℕ → ℕ
 capped n = min n 65535

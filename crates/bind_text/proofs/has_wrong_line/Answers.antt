@@ -1,30 +1,19 @@
--- `bind_text::has_wrong_line` meets its contract. The loop's invariant: the lines from `at` on answer for all. The measure is the number of bytes
--- left.
+-- `bind_text::has_wrong_line` meets its contract: `any` is the search for a list of a wrong length.
 -- Assumes nothing.
-use mathlib.Core.Path.{refl, sym, ◌∙◌}
-use native.Mathlib.Omega.{arith}
-use Rattle.bind_text.proofs.Lines.{wrong-here, wrong-on, wrong-none}
-use borrow.Author.Rules.{rules}
+use mathlib.Core.Path.{◌∙◌}
+use Rattle.std.proofs.Common.{rules, tests}
+use Rattle.std.proofs.lemmas.Iterator.Consumers.{YieldsList-from_first}
+use Rattle.std.proofs.lemmas.Iterator.Search.{any_from_yields_List}
+use Rattle.refusal.specs.Limits.{max_words}
+use Rattle.lists.specs.Refused.{wrong_length}
+use Rattle.bind_text.specs.Text.{list_of, lines_of}
+use Rattle.bind_text.specs.Internal.{lines_left}
+use Rattle.bind_text.proofs.Lists.{wrong-any}
 use Rattle.bind_text.proofs.has_wrong_line.Goals as goal
 
-pub loop-at-init : goal.loop-at-init
-loop-at-init c = (search rules, refl)
-
-pub returns-then-wrong_line : goal.returns-then-wrong_line
-returns-then-wrong_line c =
-    let text = c.args.text.now in
-    let wrong = sym c.wrong_line.ensures ∙ c.if-wrong_line.true in
-    let loop = c.loop-at in
-    let line = c.loop-at-test.true in
-    sym (wrong-here text loop.at line c.part_end-end.ensures wrong) ∙ loop.invariant.1
-
-pub loop-at-preserved : goal.loop-at-preserved
-loop-at-preserved c =
-    let text = c.args.text.now in
-    let right = sym c.wrong_line.ensures ∙ c.if-wrong_line.false in
-    let loop = c.loop-at in
-    let line = c.loop-at-test.true in
-    (omega arith, sym (wrong-on text loop.at line c.part_end-end.ensures right) ∙ loop.invariant.1)
-
 pub returns : goal.returns
-returns c = sym (wrong-none c.args.text.now c.loop-at.at (omega arith)) ∙ c.loop-at.invariant.1
+returns c =
+    let text = c.args.text.now in
+    any_from_yields_List (λ line. wrong_length max_words (list_of line)) c.any.new.self _ _ c.any.ensures.ran
+    (YieldsList-from_first (λ line. line.now) lines_left (lines_of text) (cc)) (λ x b q k. search (rules, tests))
+    ∙ wrong-any text

@@ -4,12 +4,15 @@ use mathlib.Core.Path.{sym, ◌∙◌}
 use native.Mathlib.Omega.{arith}
 use Rattle.bind_text.proofs.Judged.{text-none, text-many, text-long, text-other, text-wrong, text-done}
 use Rattle.bind_text.proofs.judge_text.Goals as goal
+use Rattle.bind_text.proofs.judge_text.Goals.{then-lists-eq0-via-then-lists-eq0, then-lists-eq0-via-else-lists-eq0+then-lists-gt-MAX_LISTS}
 
 pub returns-then-lists-eq0 : goal.returns-then-lists-eq0
-returns-then-lists-eq0 c = text-none c.args.text.now (omega arith)
-
-pub returns-then-lists-gt-MAX_LISTS : goal.returns-then-lists-gt-MAX_LISTS
-returns-then-lists-gt-MAX_LISTS c = text-many c.args.text.now (omega arith)
+returns-then-lists-eq0 c =
+    let text = c.args.text.now in
+    elim c.then-lists-eq0.branch [
+      | then-lists-eq0-via-then-lists-eq0 w ↦ text-none text (omega arith)
+      | then-lists-eq0-via-else-lists-eq0+then-lists-gt-MAX_LISTS w ↦ text-many text (omega arith)
+    ]
 
 pub returns-then-text-gt-MAX_INPUT : goal.returns-then-text-gt-MAX_INPUT
 returns-then-text-gt-MAX_INPUT c = text-long c.args.text.now (omega arith) (omega arith) c.if-text-gt-MAX_INPUT.true

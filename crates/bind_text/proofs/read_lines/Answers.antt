@@ -1,97 +1,52 @@
--- `bind_text::read_lines` meets its contract. The loop's invariant: the lines before `at` are read, `used` words and k degrees. The measure is the
--- number of bytes left.
+-- `bind_text::read_lines` meets its contract. The loop's invariant: `used` words and k degrees are read, and the iterator has the lines left.
 -- Assumes nothing.
-use native.Mathlib.Omega.{arith}
-use lib.ListN.{length-take, length-drop, length-set}
-use Rattle.bind_text.proofs.Reading.{Turn, partway_start, turn, partway-next, partway_end}
-use borrow.Author.Rules.{rules}
+use mathlib.Core.Path.{◌∙◌, ap}
+use lib.ListN.{length-set}
+use Rattle.std.proofs.Common.{rules, arith}
+use Rattle.std.specs.Iterator.Adapters.{enumerate_source, enumerate_count}
+use Rattle.bind_text.specs.Internal.{lines_left}
+use Rattle.bind_text.proofs.Reading.{partway_start, turn, partway-next, partway_end}
 use Rattle.bind_text.proofs.read_lines.Goals as goal
 
-pub loop-at-init : goal.loop-at-init
-loop-at-init c = (search rules, search rules, search rules, partway_start _ _ _ c.requires.sound.each)
+pub loop-k-init : goal.loop-k-init
+loop-k-init c =
+    let gives = c.into_iter-k-iterator.ensures.into_iter_gives in
+    let items = c.enumerate-k-items.ensures in
+    record {
+      words_len = search rules;
+      degrees_len = search rules;
+      partway =
+          partway_start _ _ _ (ap enumerate_count gives ∙ items.count)
+          (ap (λ s. lines_left (enumerate_source s)) gives ∙ ap lines_left items.source)
+          c.requires.sound.each;
+    }
 
 pub overflow_add-used : goal.overflow_add-used
 overflow_add-used c =
-    let in-turn : Turn c.loop-at.used c.loop-at.k c.words_in-n.result = let few = c.requires.sound.few in
-    let ended = c.part_end-end.ensures in
-    turn c.loop-at.invariant.3 c.loop-at-test.true ended c.words_in-n.ensures few in
-    let limits = in-turn in omega arith
+    let limits = turn c.loop-k.invariant.partway c.in-Some.ensures.steps.0 c.requires.sound.few in
+    omega arith
 
-pub offset_bounds-words-used : goal.offset_bounds-words-used
-offset_bounds-words-used c =
-    let in-turn : Turn c.loop-at.used c.loop-at.k c.words_in-n.result = let few = c.requires.sound.few in
-    let ended = c.part_end-end.ensures in
-    turn c.loop-at.invariant.3 c.loop-at-test.true ended c.words_in-n.ensures few in
-    let limits = in-turn in omega arith
-
-pub slice_bounds-read_line-end-in-loop-at : goal.slice_bounds-read_line-end-in-loop-at
-slice_bounds-read_line-end-in-loop-at c =
-    let in-turn : Turn c.loop-at.used c.loop-at.k c.words_in-n.result = let few = c.requires.sound.few in
-    let ended = c.part_end-end.ensures in
-    turn c.loop-at.invariant.3 c.loop-at-test.true ended c.words_in-n.ensures few in
-    let limits = in-turn in omega arith
-
-pub read_line-requires : goal.read_line-requires
-read_line-requires c =
-    let in-turn : Turn c.loop-at.used c.loop-at.k c.words_in-n.result = let few = c.requires.sound.few in
-    let ended = c.part_end-end.ensures in
-    turn c.loop-at.invariant.3 c.loop-at-test.true ended c.words_in-n.ensures few in
-    let limits = in-turn in simp (length-take, length-drop) (omega arith)
+pub slice_bounds-read_line-end : goal.slice_bounds-read_line-end
+slice_bounds-read_line-end c =
+    let limits = turn c.loop-k.invariant.partway c.in-Some.ensures.steps.0 c.requires.sound.few in
+    omega arith
 
 pub overflow_sub-degrees : goal.overflow_sub-degrees
 overflow_sub-degrees c =
-    let in-turn : Turn c.loop-at.used c.loop-at.k c.words_in-n.result = let few = c.requires.sound.few in
-    let ended = c.part_end-end.ensures in
-    turn c.loop-at.invariant.3 c.loop-at-test.true ended c.words_in-n.ensures few in
-    let limits = in-turn in omega arith
+    let limits = turn c.loop-k.invariant.partway c.in-Some.ensures.steps.0 c.requires.sound.few in
+    omega arith
 
-pub overflow_cast-degrees : goal.overflow_cast-degrees
-overflow_cast-degrees c =
-    let in-turn : Turn c.loop-at.used c.loop-at.k c.words_in-n.result = let few = c.requires.sound.few in
-    let ended = c.part_end-end.ensures in
-    turn c.loop-at.invariant.3 c.loop-at-test.true ended c.words_in-n.ensures few in
-    let limits = in-turn in omega arith
-
-pub offset_bounds-degrees-k : goal.offset_bounds-degrees-k
-offset_bounds-degrees-k c =
-    let in-turn : Turn c.loop-at.used c.loop-at.k c.words_in-n.result = let few = c.requires.sound.few in
-    let ended = c.part_end-end.ensures in
-    turn c.loop-at.invariant.3 c.loop-at-test.true ended c.words_in-n.ensures few in
-    let limits = in-turn in omega arith
-
-pub bounds-degrees-k : goal.bounds-degrees-k
-bounds-degrees-k c =
-    let in-turn : Turn c.loop-at.used c.loop-at.k c.words_in-n.result = let few = c.requires.sound.few in
-    let ended = c.part_end-end.ensures in
-    turn c.loop-at.invariant.3 c.loop-at-test.true ended c.words_in-n.ensures few in
-    let limits = in-turn in omega arith
-
-pub overflow_add-used-in-loop-at : goal.overflow_add-used-in-loop-at
-overflow_add-used-in-loop-at c =
-    let in-turn : Turn c.loop-at.used c.loop-at.k c.words_in-n.result = let few = c.requires.sound.few in
-    let ended = c.part_end-end.ensures in
-    turn c.loop-at.invariant.3 c.loop-at-test.true ended c.words_in-n.ensures few in
-    let limits = in-turn in omega arith
-
-pub overflow_add-k : goal.overflow_add-k
-overflow_add-k c =
-    let in-turn : Turn c.loop-at.used c.loop-at.k c.words_in-n.result = let few = c.requires.sound.few in
-    let ended = c.part_end-end.ensures in
-    turn c.loop-at.invariant.3 c.loop-at-test.true ended c.words_in-n.ensures few in
-    let limits = in-turn in omega arith
-
-pub loop-at-preserved : goal.loop-at-preserved
-loop-at-preserved c =
-    let in-turn : Turn c.loop-at.used c.loop-at.k c.words_in-n.result = let few = c.requires.sound.few in
-    let ended = c.part_end-end.ensures in
-    turn c.loop-at.invariant.3 c.loop-at-test.true ended c.words_in-n.ensures few in
-    let limits = in-turn in
-    let loop = c.loop-at in
-    let line = c.loop-at-test.true in
-    let ended = c.part_end-end.ensures in
-    let words = c.words_in-n.ensures in
-    let next = partway-next loop.invariant.3 line ended words _ limits (omega arith) (omega arith) in
-    (omega arith, omega arith, simp length-set (omega arith), next c.read_line.ensures)
+pub loop-k-preserved : goal.loop-k-preserved
+loop-k-preserved c =
+    let sound = c.requires.sound in
+    let loop = c.loop-k.invariant in
+    let steps = c.in-Some.ensures.steps in
+    let limits = turn loop.partway steps.0 sound.few in
+    record {
+      words_len = omega arith;
+      degrees_len = simp length-set (omega arith);
+      partway = partway-next loop.partway steps.0 _ sound.few steps.1 steps.2 c.words_in-n.ensures loop.words_len loop.degrees_len c.read_line.ensures;
+    }
 
 pub returns : goal.returns
-returns c = partway_end c.loop-at.invariant.3 (omega arith)
+returns c = partway_end c.loop-k.invariant.partway c.in-None.ensures.steps.0.0

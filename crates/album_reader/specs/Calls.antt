@@ -6,7 +6,7 @@
 -- Assumes nothing.
 use Rattle.refusal.specs.declared.Refusal.{Refusal}
 use Rattle.std.specs.Prelude.{not, List, [], ◌∷◌, ◌++◌, ℕ, eqb, length, Ok, Err, Result}
-use Rattle.refusal.specs.Refusal.{Reply, number, reply, written}
+use Rattle.refusal.specs.Refusal.{Reply, number, reply, written, value_reply}
 use Rattle.refusal.specs.Lowest.{Condition, ◌given-when◌, lowest}
 use Rattle.refusal.specs.declared.Refusal.TheVariants.{Misfit}
 use Rattle.field.specs.Fields.{modulus, longest}
@@ -25,5 +25,4 @@ abbrev pub read_written : (k : ℕ) → List ℕ → ℕ → List ℕ → List �
 read_written k s i out = written (lowest (read_rows (modulus k) (longest k) s i out)) (padded (longest k) (nth_list s i)) out
 
 abbrev pub listed_reply : Result NaiveDegree Refusal → Reply
-listed_reply (Ok n) = record { number = 0; values = n.0 ∷ [] }
-listed_reply (Err why) = record { number = number why; values = [] }
+listed_reply = value_reply (λ degree. degree.0)

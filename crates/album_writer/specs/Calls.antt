@@ -11,7 +11,7 @@
 use Rattle.refusal.specs.declared.Refusal.{Refusal}
 use Rattle.std.specs.Prelude.{Bool, false, not, ◌||◌, List, [], ◌∷◌, ◌++◌, ℕ, eqb, ltb, length, drop, Ok, Err, Result}
 use Rattle.refusal.specs.Limits.{max_degree, max_lists, max_bytes}
-use Rattle.refusal.specs.Refusal.{Reply, number, reply, written}
+use Rattle.refusal.specs.Refusal.{Reply, number, reply, written, value_reply}
 use Rattle.refusal.specs.Lowest.{Condition, ◌given-when◌, lowest}
 use Rattle.refusal.specs.declared.Refusal.TheVariants.{Count, Contents, Length, LooseWord, Misfit}
 use Rattle.field.specs.Fields.{modulus}
@@ -45,6 +45,5 @@ abbrev pub write_written : (k : ℕ) → (words degrees out : List ℕ) → List
 write_written k words degrees out =
     written (lowest (write_rows (modulus k) words degrees out)) (over_front (album_of (cut_by degrees words)) out) out
 
-abbrev pub written_reply : (Result ℕ Refusal) → Reply
-written_reply (Ok size) = record { number = 0; values = size ∷ [] }
-written_reply (Err why) = record { number = number why; values = [] }
+abbrev pub written_reply : Result ℕ Refusal → Reply
+written_reply = value_reply (λ size. size)

@@ -178,7 +178,7 @@ module _ (p : ℕ) (small : p ≤ 65535) (text words degrees out : List ℕ) (g 
       ≡ written (lowest (bind_rows p text out)) (over_front (album_of (lists_in text)) out) out
   bind-writes = left _ _ out same_rows (λ e. ap (λ lists. over_front (album_of lists) out) (same_lists e))
 
-pub album-inside : (k : ℕ) (text out : List ℕ) {left : List ℕ} {n : ℕ} {r : (Result ℕ Refusal)} → r ≡ Ok n
+pub album-inside : (k : ℕ) (text out : List ℕ) {left : List ℕ} {n : ℕ} {r : Result ℕ Refusal} → r ≡ Ok n
     → written_reply r ≡ bind_answer k text out → left ≡ bind_written k text out → n ≤ length left
 album-inside k text out {left} {n} i e w =
     let album = album_of (lists_in text) in

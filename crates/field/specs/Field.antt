@@ -1,6 +1,6 @@
 -- The arithmetic of coefficients: words below p, with sum, difference, product and inverse modulo p.
 --     loose p a                  a loose word: p or more, so no coefficient
---     word_reply word            what a Word answers: 0 and the word, or the refusal's number
+--     word_reply word            what an answer says that is a word: 0 and the word, or the refusal's number
 --     sum_of p a b               the sum of two coefficients modulo p
 --     difference_of p a b         the difference
 --     product_of p a b            the product
@@ -20,16 +20,15 @@
 use Rattle.refusal.specs.declared.Refusal.{Refusal}
 use Rattle.std.specs.Prelude.{◌≡◌, Bool, false, cond, not, ◌&&◌, ◌||◌, List, [], ◌∷◌, ℕ, zero, suc, ◌+◌, ◌-◌, ◌*◌, ◌%◌, ◌≤◌, ◌<◌, leb, ltb, eqb, Ok, Err, Result}
 use Rattle.algebra.specs.PrimeField.{PrimeField, residue, value, inverse}
-use Rattle.refusal.specs.Refusal.{Reply, number}
+use Rattle.refusal.specs.Refusal.{Reply, number, value_reply}
 use Rattle.refusal.specs.Lowest.{Condition, ◌given-when◌}
 use Rattle.refusal.specs.declared.Refusal.TheVariants.{LooseWord, AllZero, NoInverse}
 
 abbrev pub loose : ℕ → ℕ → Bool
 loose p a = leb p a
 
-abbrev pub word_reply : (Result ℕ Refusal) → Reply
-word_reply (Ok word) = record { number = 0; values = word ∷ [] }
-word_reply (Err why) = record { number = number why; values = [] }
+abbrev pub word_reply : Result ℕ Refusal → Reply
+word_reply = value_reply (λ word. word)
 
 abbrev pub operand_refusals : ℕ → ℕ → ℕ → List Condition
 operand_refusals p a b = LooseWord given-when (loose p a || loose p b) ∷ []

@@ -12,6 +12,6 @@ use Rattle.field.specs.Fields.{modulus, field_at}
 abbrev pub inverse_answer : (k a : ℕ) → Reply
 inverse_answer k a = reply (lowest (inverse_refusals (modulus k) a)) (inverse_of (field_at k) a ∷ [])
 
-abbrev pub Inverts : ℕ → ℕ → (Result ℕ Refusal) → Type 0
+abbrev pub Inverts : ℕ → ℕ → Result ℕ Refusal → Type 0
 Inverts p a (Ok b) = IsInverse p a b
 Inverts p a (Err why) = (number why ≡ 5) ⊎ (number why ≡ 9)

@@ -35,11 +35,11 @@ line_refusals line = Line given-when outside_grammar line ∷ Nesting given-when
 abbrev pub read_outcome : (line code : List ℕ) → Outcome
 read_outcome line code = cond (ltb (length code) max_line) (Err Misfit) (lowest (line_refusals line))
 
-abbrev pub judged_outcome : (Result ℕ Refusal) → Outcome
+abbrev pub judged_outcome : Result ℕ Refusal → Outcome
 judged_outcome (Ok n) = Ok tt
 judged_outcome (Err why) = Err why
 
-abbrev pub ProgramOf : List ℕ → List ℕ → (Result ℕ Refusal) → Type 0
+abbrev pub ProgramOf : List ℕ → List ℕ → Result ℕ Refusal → Type 0
 ProgramOf line code (Ok n) =
     (e : Tree) × (reading_of (tokens line) ≡ reads e) × (n ≤ max_line) × (take n code ≡ postfix e)
 ProgramOf line code (Err why) = Unit {0}

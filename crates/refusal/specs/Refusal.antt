@@ -5,12 +5,13 @@
 --     Reply                 what an answer says: its number, 0 when the call completes, and the values that it carries
 --     reply o values        the reply of an outcome with the values of a completed call: a refused call carries none
 --     outcome_reply o       the reply of such a call
+--     value_reply v r       the reply of a call that hands back one value, as the number that v makes of it
 --     written o new old     what a lent slice holds afterwards: the result, or, refused, what it held before
 -- Theorems (proofs/Answers):
 --     number-range     the numbers are 1 to 13
 --     number_is        the number of a reply is that of its outcome
 -- Assumes nothing.
-use Rattle.std.specs.Prelude.{Result, Ok, Err, List, [], ℕ}
+use Rattle.std.specs.Prelude.{Result, Ok, Err, List, [], ◌∷◌, ℕ}
 use Rattle.refusal.specs.declared.Refusal.{Refusal}
 use Rattle.refusal.specs.declared.Refusal.TheVariants.{Count, Contents, Index, Length, LooseWord, Over, Backwards, Vanishes, AllZero, Misfit, NoInverse, Line, Nesting}
 
@@ -43,6 +44,10 @@ pub record Reply : Type 0 where
 abbrev pub reply : Outcome → List ℕ → Reply
 reply (Ok _) values = record { number = 0; values = values }
 reply (Err why) values = record { number = number why; values = [] }
+
+abbrev pub value_reply : {A : Type 0} → (A → ℕ) → Result A Refusal → Reply
+value_reply value (Ok x) = record { number = 0; values = value x ∷ [] }
+value_reply value (Err why) = record { number = number why; values = [] }
 
 abbrev pub outcome_reply : Outcome → Reply
 outcome_reply outcome = reply outcome []

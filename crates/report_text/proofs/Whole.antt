@@ -102,6 +102,6 @@ inside-so t a (Ok _) {c} {k} e z =
 inside-so t a (Err why) {c} {k} e z =
     absurd (let n = ap (λ v. length v.values) e in omega arith)
 
-pub text-inside : (t a : List ℕ) {c : List ℕ} {k : ℕ} {r : (Result ℕ Refusal)} → r ≡ Ok k → text_reply r ≡ reply (lowest (report_rows a)) (length t ∷ [])
+pub text-inside : (t a : List ℕ) {c : List ℕ} {k : ℕ} {r : Result ℕ Refusal} → r ≡ Ok k → text_reply r ≡ reply (lowest (report_rows a)) (length t ∷ [])
     → c ≡ written (lowest (report_rows a)) (padded max_text t) a → k ≤ length c
 text-inside t a i e z = inside-so t a (lowest (report_rows a)) (ap text_reply (sym i) ∙ e) z

@@ -9,7 +9,7 @@
 use Rattle.refusal.specs.declared.Refusal.{Refusal}
 use Rattle.std.specs.Prelude.{not, List, [], ◌∷◌, ℕ, ◌*◌, eqb, length, Ok, Err, Result}
 use Rattle.refusal.specs.Limits.{max_words}
-use Rattle.refusal.specs.Refusal.{Reply, number, reply, written}
+use Rattle.refusal.specs.Refusal.{Reply, number, reply, written, value_reply}
 use Rattle.refusal.specs.Lowest.{Condition, ◌given-when◌, lowest}
 use Rattle.refusal.specs.declared.Refusal.TheVariants.{Misfit}
 use Rattle.field.specs.Fields.{modulus, field_at}
@@ -28,6 +28,5 @@ report_answer k s out = reply (lowest (report_rows out)) (length (report_of (mod
 abbrev pub report_written : (k : ℕ) → (s out : List ℕ) → List ℕ
 report_written k s out = written (lowest (report_rows out)) (padded max_text (report_of (modulus k) (field_at k) s)) out
 
-abbrev pub text_reply : (Result ℕ Refusal) → Reply
-text_reply (Ok n) = record { number = 0; values = n ∷ [] }
-text_reply (Err why) = record { number = number why; values = [] }
+abbrev pub text_reply : Result ℕ Refusal → Reply
+text_reply = value_reply (λ size. size)

@@ -1,7 +1,7 @@
 -- What a call answers and leaves, by the answer of the engine's function. `found` is what the rows of the call give.
 -- Assumes nothing.
 use mathlib.Core.Path.{◌≡◌, refl, sym, ◌∙◌, ap}
-use mathlib.Core.Bool.{Bool, true, false, ◌||◌}
+use mathlib.Core.Bool.{Bool, true, false, cond, ◌||◌}
 use mathlib.Core.List.{List, [], ◌∷◌}
 use Prim.Native.Nat.{ℕ, ◌+◌, ◌≤◌, ◌<◌}
 use native.Mathlib.Decide.{dec_lt}
@@ -11,6 +11,7 @@ use Rattle.std.specs.Prelude.{Ok, Err}
 use Rattle.algebra.specs.PrimeField.{PrimeField}
 use Rattle.refusal.specs.Limits.{max_words}
 use Rattle.refusal.specs.Refusal.{number, outcome_number, written, Outcome}
+use Rattle.refusal.specs.declared.Refusal.{Refusal}
 use Rattle.refusal.specs.declared.Refusal.TheVariants.{Length}
 use Rattle.refusal.proofs.Answers.{kept}
 use Rattle.lists.specs.Degrees.{significant}
@@ -20,25 +21,18 @@ use Rattle.euclid_theory.proofs.Powers.{common_power-le}
 use Rattle.list_gcd.specs.Calls.{gcd_values, GreatestSo}
 use Rattle.lists.specs.Bytes.{bytes_of}
 
--- a list that is refused, or not, by its test
-pub first-bad : {r a : Bool} (b : Bool) → r ≡ a → r ≡ true → (a || b) ≡ true
-first-bad b e t = rw (sym e ∙ t)
+-- what the judge of the bytes tells: both lists pass, or the call is refused with 4 and keeps what it is lent
+pub good-lists : (a b : Bool) {told : Outcome} → told ≡ cond (a || b) (Err Length) (Ok tt) → told ≡ Ok tt → (a ≡ false) × (b ≡ false)
+good-lists true b e t = let z = ap outcome_number (sym e ∙ t) in absurd (omega arith)
+good-lists false true e t = let z = ap outcome_number (sym e ∙ t) in absurd (omega arith)
+good-lists false false e t = (refl, refl)
 
-pub second-bad : {r b : Bool} (a : Bool) → r ≡ b → r ≡ true → (a || b) ≡ true
-second-bad true e t = refl
-second-bad false e t = sym e ∙ t
-
-pub good : {r a : Bool} → r ≡ a → r ≡ false → a ≡ false
-good e t = sym e ∙ t
-
-pub bad-answer : {found : Outcome} {n : ℕ} → found ≡ Err Length → n ≡ number Length → (new old : List ℕ)
-    → (n ≡ outcome_number found) × (old ≡ written found new old)
-bad-answer e q new old = (q ∙ sym (ap outcome_number e), kept new old e)
-
-pub bad-answers : {found : Outcome} {n : ℕ} → found ≡ Err Length → n ≡ number Length → (new₁ old₁ new₂ old₂ : List ℕ)
-    → (n ≡ outcome_number found) × ((old₁ ≡ written found new₁ old₁) × (old₂ ≡ written found new₂ old₂))
-bad-answers e q new₁ old₁ new₂ old₂ =
-    ((bad-answer e q new₁ old₁).0, ((bad-answer e q new₁ old₁).1, (bad-answer e q new₂ old₂).1))
+pub bad-answer : (b : Bool) {told found : Outcome} {why : Refusal} → told ≡ cond b (Err Length) (Ok tt) → told ≡ Err why
+    → (b ≡ true → found ≡ Err Length) → (number why ≡ outcome_number found) × ((new old : List ℕ) → old ≡ written found new old)
+bad-answer true e t h =
+    let same = sym t ∙ e in
+    (ap outcome_number (same ∙ sym (h refl)), λ new old. kept new old (h refl))
+bad-answer false e t h = let z = sym t ∙ e in cc
 
 -- the engine's result, as bytes
 pub wrote : {found engine : Outcome} (new old part : List ℕ) {words bytes : List ℕ} → engine ≡ found → found ≡ Ok tt

@@ -1,6 +1,7 @@
 -- The three calls: f and g are the bytes of the lists, a and b their words, c and d the words handed to the engine's function for the
 -- results; primed, what stands there afterwards.
---     ProductCall, DivisionCall, GcdCall     what is known of a call once the engine's function answered
+--     ProductCall, DivisionCall, GcdCall               what is known of a call once the engine's function answered
+--     product-called, division-called, gcd-called      that, from what the calls of the code promise
 -- Assumes nothing.
 use mathlib.Core.Path.{◌≡◌, sym, ◌∙◌, ap, ap₂}
 use mathlib.Core.Bool.{false}
@@ -14,8 +15,6 @@ use Rattle.refusal.specs.Limits.{max_words}
 use Rattle.refusal.specs.Refusal.{number, outcome_number, reply, outcome_reply, written, Outcome}
 use Rattle.refusal.specs.Lowest.{lowest}
 use Rattle.refusal.specs.declared.Refusal.{Refusal}
-use Rattle.lists.specs.declared.NaiveDegree.{NaiveDegree}
-use Rattle.lists.specs.declared.Power.{Power}
 use Rattle.lists.specs.Degrees.{significant}
 use Rattle.lists.specs.Operations.{product}
 use Rattle.euclid_theory.specs.Division.{quotient_of, remainder_of}
@@ -24,10 +23,11 @@ use Rattle.lists.specs.Padded.{padded}
 use Rattle.list_product.specs.Calls as P
 use Rattle.list_division.specs.Calls as D
 use Rattle.list_gcd.specs.declared.Gcd.{Gcd}
-use Rattle.list_gcd.specs.declared.Rounds.{Rounds}
 use Rattle.list_gcd.specs.Calls as E
 use Rattle.list_gcd.specs.Calls.{gcd_reply, gcd_values, Greatest}
-use Rattle.lists.specs.Bytes.{words_of, bytes_of}
+use Rattle.lists.specs.Bytes.{word_count, words_of, bytes_of}
+use Rattle.words.specs.Transfer.{words_into}
+use Rattle.words.proofs.Transfer.{into-exact}
 use Rattle.list_bytes.specs.Calls.{host_product_rows, host_division_rows, host_gcd_rows}
 use Rattle.list_bytes.specs.Internal.{bad_list, room_of, gcd_room}
 use Rattle.list_bytes.proofs.Fits.{good-list, both}
@@ -60,6 +60,50 @@ module _ (most : ℕ) where
     pub words-g : b ≡ words_of g
     pub room : length c ≡ gcd_room most h answer
     pub says : gcd_reply found ≡ reply (lowest (E.gcd_rows p most a b c)) (gcd_values F a b)
+
+-- what is known of a call, from what both reads and the engine's function promise
+module _ {most p : ℕ} where
+  pub product-called : {f g out a b c : List ℕ} {n m : ℕ} {answer : Outcome} → (bad_list most f ≡ false) × (bad_list most g ≡ false)
+      → (n ≡ word_count f) × (m ≡ word_count g) × (length c ≡ room_of most 0 out) → a ≡ words_into n f → b ≡ words_into m g
+      → outcome_reply answer ≡ reply (lowest (P.product_rows p most a b c)) [] → ProductCall most p f g out a b c answer
+  product-called good sizes wf wg says =
+      record {
+        good-f = good.0;
+        good-g = good.1;
+        words-f = wf ∙ into-exact _ _ sizes.0;
+        words-g = wg ∙ into-exact _ _ sizes.1;
+        room = sizes.2;
+        says = says;
+      }
+
+  pub division-called : {g f q r a b c d : List ℕ} {n m : ℕ} {answer : Outcome} → (bad_list most g ≡ false) × (bad_list most f ≡ false)
+      → (n ≡ word_count g) × (m ≡ word_count f) × (length c ≡ room_of most 0 q) × (length d ≡ room_of most most r)
+      → a ≡ words_into n g → b ≡ words_into m f
+      → outcome_reply answer ≡ reply (lowest (D.divide_rows p most a b c d)) [] → DivisionCall most p g f q r a b c d answer
+  division-called good sizes wg wf says =
+      record {
+        good-g = good.0;
+        good-f = good.1;
+        words-g = wg ∙ into-exact _ _ sizes.0;
+        words-f = wf ∙ into-exact _ _ sizes.1;
+        room-q = sizes.2;
+        room-r = sizes.3;
+        says = says;
+      }
+
+  pub gcd-called : {F : PrimeField} {f g h answer a b c : List ℕ} {n m : ℕ} {found : Result Gcd Refusal}
+      → (bad_list most f ≡ false) × (bad_list most g ≡ false)
+      → (n ≡ word_count f) × (m ≡ word_count g) × (length c ≡ gcd_room most h answer) → a ≡ words_into n f → b ≡ words_into m g
+      → gcd_reply found ≡ reply (lowest (E.gcd_rows p most a b c)) (gcd_values F a b) → GcdCall most F p f g h answer a b c found
+  gcd-called good sizes wf wg says =
+      record {
+        good-f = good.0;
+        good-g = good.1;
+        words-f = wf ∙ into-exact _ _ sizes.0;
+        words-g = wg ∙ into-exact _ _ sizes.1;
+        room = sizes.2;
+        says = says;
+      }
 
 module _ {most : ℕ} where
   module _ {p : ℕ} {f g out a b c : List ℕ} {answer : Outcome} (call : ProductCall most p f g out a b c answer) where
@@ -138,9 +182,9 @@ module _ {most : ℕ} where
         ap₂ (λ x y. lowest (E.gcd_rows p most x y c)) call.words-f call.words-g
         ∙ gcd-rows most p f g h answer some c call.good-f call.good-g call.room
 
-    module _ {w : NaiveDegree} {power : Power} {rounds : Rounds} (d : found ≡ Ok (record { degree = w; power = power; rounds = rounds })) where
-      told : (lowest (E.gcd_rows p most a b c) ≡ Ok tt) × (w.0 ∷ power.0 ∷ rounds.0 ∷ [] ≡ gcd_values F a b)
-      told = done-reply (lowest (E.gcd_rows p most a b c)) (w.0 ∷ power.0 ∷ rounds.0 ∷ []) (gcd_values F a b) (sym (ap gcd_reply d) ∙ call.says)
+    module _ {gcd : Gcd} (d : found ≡ Ok gcd) where
+      told : (lowest (E.gcd_rows p most a b c) ≡ Ok tt) × (gcd.degree.0 ∷ gcd.power.0 ∷ gcd.rounds.0 ∷ [] ≡ gcd_values F a b)
+      told = done-reply (lowest (E.gcd_rows p most a b c)) (gcd.degree.0 ∷ gcd.power.0 ∷ gcd.rounds.0 ∷ []) (gcd_values F a b) (sym (ap gcd_reply d) ∙ call.says)
 
       gcd-completes : lowest (host_gcd_rows p most f g h answer) ≡ Ok tt
       gcd-completes = sym gcd-same ∙ told.0
@@ -153,14 +197,14 @@ module _ {most : ℕ} where
           (omega arith, omega arith, e.1)
 
       pub gcd-small : {c' : List ℕ} → c' ≡ written (lowest (E.gcd_rows p most a b c)) (padded most (gcd_of F a b)) c
-          → length c' ≡ length c → Greatest F a b c' found → Small w.0 power.0 rounds.0
+          → length c' ≡ length c → Greatest F a b c' found → Small gcd.degree.0 gcd.power.0 gcd.rounds.0
       gcd-small {c'} wc l k =
           small F most room a b c' (rw call.words-f (good-list most f call.good-f).1) (rw call.words-g (good-list most g call.good-g).1) (let s = gcd-fits in omega arith)
           (λ z. (gcd-whole most p f g h answer gcd-completes).2 (sym (ap₂ (λ x y. significant x + significant y) call.words-f call.words-g) ∙ z))
           (rw d at k) told.1
 
       pub gcd-done : {c' h' answer' : List ℕ} → c' ≡ written (lowest (E.gcd_rows p most a b c)) (padded most (gcd_of F a b)) c
-          → h' ≡ bytes_of c' → answer' ≡ bytes_of (w.0 ∷ power.0 ∷ rounds.0 ∷ [])
+          → h' ≡ bytes_of c' → answer' ≡ bytes_of (gcd.degree.0 ∷ gcd.power.0 ∷ gcd.rounds.0 ∷ [])
           → (0 ≡ outcome_number (lowest (host_gcd_rows p most f g h answer)))
           × ((h' ≡ written (lowest (host_gcd_rows p most f g h answer)) (bytes_of (padded most (gcd_of F (words_of f) (words_of g)))) h)
           × (answer' ≡ written (lowest (host_gcd_rows p most f g h answer)) (bytes_of (gcd_values F (words_of f) (words_of g))) answer))

@@ -7,11 +7,10 @@ use Prim.Native.Nat.{ℕ, ◌*◌, ◌/◌, ◌%◌, ◌≤◌, ◌<◌}
 use native.Mathlib.Nat.{div-add-mod, mod-lt}
 use native.Mathlib.Omega.{arith}
 use lib.Dec.{eqb, ltb, lit<}
-use lib.ListN.{length, take}
-use borrow.Author.Tests.{eqb-true, eqb-false, ltb-true, ltb-false, not-false, eq-eqb, ne_eqb, lt-ltb, le-ltb}
+use lib.ListN.{length}
+use borrow.Author.Tests.{eqb-true, eqb-false, ltb-true, ltb-false, not-false, eq-eqb, ne_eqb, le-ltb}
 use Rattle.refusal.proofs.First.{or-false}
 use Rattle.lists.specs.Refused.{wrong_length}
-use Rattle.lists.proofs.Parts.{prefix-length}
 use Rattle.lists.specs.Bytes.{odd_bytes, word_count, words_of}
 use Rattle.lists.proofs.Bytes.{length-words_of}
 use Rattle.list_bytes.specs.Calls.{misfit}
@@ -59,10 +58,6 @@ module _ (most : ℕ) where
   unfolding word_count
   good-half s e = let h = good-list s e in omega (arith, length-words_of s)
 
-  -- the words of a list, as a part of a buffer
-  pub list-part : (s buffer : List ℕ) → bad_list most s ≡ false → {n : ℕ} → length buffer ≡ n → most ≤ n → length (take (length s / 2) buffer) ≡ length s / 2
-  list-part s buffer e {n} size room = let h = good-half s e in prefix-length (length s / 2) n buffer size (omega arith)
-
   -- the room of a slice that fits
   pub room_whole : (never n : ℕ) (s : List ℕ) → n ≤ most → misfit n s ≡ false → length s ≡ 2 * room_of most never s
   unfolding room_of
@@ -92,11 +87,6 @@ module _ (most : ℕ) where
       go false true e = l
       go false false e = ltb-false _ _ e
 
-  -- the words of a result, as a part of a buffer of that many
-  pub room-part : (never : ℕ) (s buffer : List ℕ) → never ≤ most → {k : ℕ} → k ≡ room_of most never s → {n : ℕ} → length buffer ≡ n → most ≤ n
-      → length (take k buffer) ≡ k
-  room-part never s buffer l {k} e {n} size room = let h = room-short never s l e in prefix-length k n buffer size (omega arith)
-
   pub gcd-room-fits : 0 < most → (h answer : List ℕ) → not (eqb (gcd_room most h answer) most) ≡ (misfit most h || misfit 3 answer)
   unfolding gcd_room
   gcd-room-fits some h answer = rw (misfit-is most h, misfit-is 3 answer) (go (eqb (length h) (2 * most)) (eqb (length answer) 6))
@@ -115,41 +105,10 @@ module _ (most : ℕ) where
       go true = omega arith
       go false = omega arith
 
-  pub gcd-room-part : (h answer buffer : List ℕ) {k : ℕ} → k ≡ gcd_room most h answer → {n : ℕ} → length buffer ≡ n → most ≤ n → length (take k buffer) ≡ k
-  gcd-room-part h answer buffer {k} e {n} size room = let l = gcd-room-short h answer e in prefix-length k n buffer size (omega arith)
-
   -- the tests that the code makes
-  pub bad-odd : (s : List ℕ) → length s % 2 ≡ 1 → true ≡ bad_list most s
-  unfolding bad_list odd_bytes
-  bad-odd s e = sym (simp (eq-eqb (length s % 2) 1 e))
-
-  pub bad-empty : (s : List ℕ) → ¬ (length s % 2 ≡ 1) → length s / 2 ≡ 0 → true ≡ bad_list most s
+  pub bad_is : (s : List ℕ) → bad_list most s ≡ (eqb (length s % 2) 1 || (eqb (length s / 2) 0 || ltb most (length s / 2)))
   unfolding bad_list odd_bytes wrong_length word_count
-  bad-empty s e z = sym (simp (ne_eqb (length s % 2) 1 e, length-words_of s, eq-eqb (length s / 2) 0 z))
-
-  pub bad-long : (s : List ℕ) → ¬ (length s % 2 ≡ 1) → ¬ (length s / 2 ≡ 0) → ltb most (length s / 2) ≡ bad_list most s
-  unfolding bad_list odd_bytes wrong_length word_count
-  bad-long s e z = sym (simp (ne_eqb (length s % 2) 1 e, length-words_of s, ne_eqb (length s / 2) 0 z))
-
-  pub room-odd : (never : ℕ) (s : List ℕ) → length s % 2 ≡ 1 → never ≡ room_of most never s
-  unfolding room_of odd_bytes
-  room-odd never s e = sym (simp (eq-eqb (length s % 2) 1 e))
-
-  pub room-long : (never : ℕ) (s : List ℕ) → ¬ (length s % 2 ≡ 1) → most < length s / 2 → never ≡ room_of most never s
-  unfolding room_of odd_bytes word_count
-  room-long never s e l = sym (simp (ne_eqb (length s % 2) 1 e, lt-ltb most (length s / 2) l))
-
-  pub room-is : (never : ℕ) (s : List ℕ) → ¬ (length s % 2 ≡ 1) → length s / 2 ≤ most → length s / 2 ≡ room_of most never s
-  unfolding room_of odd_bytes word_count
-  room-is never s e l = sym (simp (ne_eqb (length s % 2) 1 e, le-ltb most (length s / 2) l))
-
-  pub no-h : (h answer : List ℕ) → ¬ (length h ≡ (2 * most)) → 0 ≡ gcd_room most h answer
-  unfolding gcd_room
-  no-h h answer e = sym (simp (ne_eqb (length h) (2 * most) e))
-
-  pub no_answer : (h answer : List ℕ) → length h ≡ (2 * most) → ¬ (length answer ≡ 6) → 0 ≡ gcd_room most h answer
-  unfolding gcd_room
-  no_answer h answer e l = sym (simp (eq-eqb (length h) (2 * most) e, ne_eqb (length answer) 6 l))
+  bad_is s = simp length-words_of
 
   pub both : (h answer : List ℕ) → length h ≡ (2 * most) → length answer ≡ 6 → most ≡ gcd_room most h answer
   unfolding gcd_room

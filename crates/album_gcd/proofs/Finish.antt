@@ -7,7 +7,7 @@ use native.Mathlib.Decide.{dec_lt}
 use native.Mathlib.Omega.{arith}
 use lib.ListN.{get_or, length, take, get_or-eq_default}
 use lib.Seq.{take_at}
-use Rattle.std.specs.Prelude.{Ok, Err}
+use Rattle.std.specs.Prelude.{Option, Ok, Err}
 use Rattle.algebra.specs.PrimeField.{PrimeField}
 use Rattle.refusal.specs.Refusal.{reply, written}
 use Rattle.refusal.specs.Lowest.{lowest}
@@ -62,7 +62,7 @@ module _ (F : PrimeField) (most : ℕ) (big : most ≤ F.p) (lists : List (List 
       cut : take (suc (naive_degree (album_gcd F lists).list)) (padded most (album_gcd F lists).list) ≡ (album_gcd F lists).list
       cut = unfold padded in take_at (album_gcd F lists).list _ _ long
 
-  module _ {x : List ℕ} {n k c : ℕ} (f : Folded F most lists x n k c) (e : c ≡ common_power lists) where
+  module _ {x : List ℕ} {n k c : ℕ} {a : Option ℕ} (f : Folded F most lists x n k a) (e : c ≡ common_power lists) where
     whole : album_gcd F lists ≡ fold_gcd F zero_start lists
     whole = fold-album F lists each one.index one.some
 
@@ -83,13 +83,13 @@ module _ (F : PrimeField) (most : ℕ) (big : most ≤ F.p) (lists : List (List 
 
 module _ (F : PrimeField) (most : ℕ) (big : most ≤ F.p) (s h : List ℕ)
     (listed : (i : ℕ) → i < length (lists_of s) → IsList F.p most (get_or (lists_of s) i [])) (one : Nonzero (lists_of s)) where
-  pub answered : {x : List ℕ} {n k c : ℕ} → Ok tt ≡ lowest (album_gcd_rows F.p most s h) → Folded F most (lists_of s) x n k c
+  pub answered : {x : List ℕ} {n k c : ℕ} {a : Option ℕ} → Ok tt ≡ lowest (album_gcd_rows F.p most s h) → Folded F most (lists_of s) x n k a
       → c ≡ common_power (lists_of s) → Answered F most s h x (Ok (record { degree = record { 0 = n - 1 }; power = record { 0 = c }; rounds = record { 0 = k } }))
-  answered {x} {n} {k} {c} e f ec =
-      let a = answer F most big (lists_of s) listed one f ec in
+  answered {x} {n} {k} {c} {a} e f ec =
+      let values = answer F most big (lists_of s) listed one f ec in
       let b = slice F most big (lists_of s) listed one f ec in
       record {
-        answer = a ∙ ap (λ o. reply o (album_gcd_values F (lists_of s))) e;
+        answer = values ∙ ap (λ o. reply o (album_gcd_values F (lists_of s))) e;
         writes = b ∙ ap (λ o. written o (padded most (album_gcd F (lists_of s)).list) h) e;
         greatest = rw (degree F most big (lists_of s) listed one f ec, ec, b) (promised F most big (lists_of s) listed one);
       }

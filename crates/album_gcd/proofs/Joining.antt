@@ -3,18 +3,16 @@
 use mathlib.Core.Path.{◌≡◌, refl, sym, ◌∙◌, ap, subst}
 use mathlib.Core.Bool.{false, not}
 use mathlib.Core.List.{List, [], ◌∷◌}
-use Prim.Native.Nat.{ℕ, suc, min, ◌+◌, ◌≤◌, ◌<◌}
+use Prim.Native.Nat.{ℕ, suc, ◌+◌, ◌≤◌, ◌<◌}
 use native.Mathlib.Omega.{arith}
 use lib.Dec.{eqb}
-use lib.ListN.{get_or, length}
+use lib.ListN.{get_or, length, take}
 use borrow.Author.Tests.{eq-eqb, ne_eqb, le-ltb, lt-leb}
-use Rattle.std.specs.Prelude.{Ok, Err}
+use Rattle.std.specs.Prelude.{Option, Some, Ok, Err}
 use Rattle.algebra.specs.PrimeField.{PrimeField}
 use Rattle.refusal.specs.Refusal.{reply, written}
 use Rattle.refusal.specs.Lowest.{lowest}
 use Rattle.refusal.specs.declared.Refusal.{Refusal}
-use Rattle.lists.specs.declared.NaiveDegree.{NaiveDegree}
-use Rattle.lists.specs.declared.Power.{Power}
 use Rattle.lists.specs.Degrees.{naive_degree, significant, power}
 use Rattle.lists.proofs.Extents.{significant-le}
 use Rattle.lists.specs.Lists.{Coefficients}
@@ -23,12 +21,12 @@ use Rattle.lists.proofs.Judged.{judged}
 use Rattle.euclid_theory.specs.Gcd.{gcd_of, rounds_of}
 use Rattle.lists.specs.Padded.{padded}
 use Rattle.euclid_theory.proofs.Gcd.{gcd-rounds}
-use Rattle.list_gcd.specs.declared.Rounds.{Rounds}
+use Rattle.list_gcd.specs.declared.Gcd.{Gcd}
 use Rattle.list_gcd.specs.Calls.{gcd_reply, gcd_values, gcd_rows}
 use Rattle.list_gcd.proofs.Ready.{judged-done}
 use Rattle.album_reader.specs.Internal.{Held}
 use Rattle.album_reader.proofs.Held.{held-length}
-use Rattle.album_gcd.specs.Internal.{Joined}
+use Rattle.album_gcd.specs.Internal.{least_of, with_list, Joined}
 use Rattle.album_gcd.proofs.Folds.{with-zero, with-nonzero, with-listed}
 use Rattle.album_gcd.proofs.Power.{least_zero, least-nonzero}
 
@@ -60,7 +58,7 @@ module _ (p most : ℕ) where
 module _ (F : PrimeField) (most : ℕ) (big : most ≤ F.p) where
   module _ {x : List ℕ} {n : ℕ} (f c : List ℕ) (h : Held F.p most x n f) where
     -- a zero list is passed over
-    pub join-over : (k a : ℕ) → significant c ≡ 0 → Joined F most f k a c x n k a
+    pub join-over : (k : ℕ) (a : Option ℕ) → significant c ≡ 0 → Joined F most f k a c x n k a
     join-over k a e =
         record {
           list = f;
@@ -70,68 +68,69 @@ module _ (F : PrimeField) (most : ℕ) (big : most ≤ F.p) where
           least = sym (least_zero a c e);
         }
 
-    module _ (lc : IsList F.p most c) (some : ¬ (significant c ≡ 0)) where
-      pass : lowest (gcd_rows F.p most f c x) ≡ Ok tt
-      pass = gcd-pass F.p most f c h.listed lc x some (held-length h)
+  -- x holds the result so far, and last is a copy of it
+  module _ {x last : List ℕ} {n : ℕ} (c : List ℕ) (h : Held F.p most x n (take n x)) (copied : last ≡ x) (lc : IsList F.p most c)
+      (some : ¬ (significant c ≡ 0)) where
+    abbrev f : List ℕ
+    f = take n last
 
-      pub join-never : (why : Refusal) → gcd_reply (Err why) ≡ reply (lowest (gcd_rows F.p most f c x)) (gcd_values F f c) → ⊥
+    held : Held F.p most x n f
+    held = rw copied h
+
+    pass : lowest (gcd_rows F.p most f c x) ≡ Ok tt
+    pass = gcd-pass F.p most f c held.listed lc x some (held-length held)
+
+    pub join-never : (why : Refusal) → gcd_reply (Err why) ≡ reply (lowest (gcd_rows F.p most f c x)) (gcd_values F f c) → ⊥
+    unfolding gcd_values
+    join-never why e = let z = ap (λ z. length z.values) (e ∙ ap (λ o. reply o (gcd_values F f c)) pass) in omega arith
+
+    module _ (gcd : Gcd) (e : gcd_reply (Ok gcd) ≡ reply (lowest (gcd_rows F.p most f c x)) (gcd_values F f c)) where
+      value : (i : ℕ) → get_or (gcd.degree.0 ∷ gcd.power.0 ∷ gcd.rounds.0 ∷ []) i 0 ≡ get_or (gcd_values F f c) i 0
+      value i = ap (λ z. get_or z.values i 0) (e ∙ ap (λ o. reply o (gcd_values F f c)) pass)
+
+      degree : gcd.degree.0 ≡ naive_degree (gcd_of F f c)
       unfolding gcd_values
-      join-never why e = let z = ap (λ z. length z.values) (e ∙ ap (λ o. reply o (gcd_values F f c)) pass) in omega arith
+      degree = value 0
 
-      module _ (w : NaiveDegree) (c' : Power) (k : Rounds)
-          (e : gcd_reply (Ok (record { degree = w; power = c'; rounds = k })) ≡ reply (lowest (gcd_rows F.p most f c x)) (gcd_values F f c)) where
-        value : (i : ℕ) → get_or (w.0 ∷ c'.0 ∷ k.0 ∷ []) i 0 ≡ get_or (gcd_values F f c) i 0
-        value i = ap (λ z. get_or z.values i 0) (e ∙ ap (λ o. reply o (gcd_values F f c)) pass)
+      count : gcd.rounds.0 ≡ rounds_of F f c
+      unfolding gcd_values
+      count = value 2
 
-        degree : w.0 ≡ naive_degree (gcd_of F f c)
-        unfolding gcd_values
-        degree = value 0
+      listed : IsList F.p most (gcd_of F f c)
+      listed =
+          subst (λ r. IsList F.p most r.list) (with-nonzero F (record { list = f; rounds = 0 }) c some)
+          (with-listed F most (record { list = f; rounds = 0 }) c big held.listed lc)
 
-        count : k.0 ≡ rounds_of F f c
-        unfolding gcd_values
-        count = value 2
+      coefficients : Coefficients F f
+      coefficients = record { short = let s = held.listed.short in omega arith; below = held.listed.words }
 
-        listed : IsList F.p most (gcd_of F f c)
-        listed =
-            subst (λ r. IsList F.p most r.list) (with-nonzero F (record { list = f; rounds = 0 }) c some)
-            (with-listed F most (record { list = f; rounds = 0 }) c big h.listed lc)
+      join-words : gcd.degree.0 + 1 ≡ length (gcd_of F f c)
+      unfolding naive_degree
+      join-words = let s = listed.some in let d = degree in omega arith
 
-        coefficients : Coefficients F f
-        coefficients = record { short = let s = h.listed.short in omega arith; below = h.listed.words }
+      pub join-few : gcd.rounds.0 ≤ most
+      join-few =
+          let rounds = gcd-rounds F f c coefficients in
+          let below = significant-le f in
+          let s = held.listed.short in
+          omega (arith, count)
 
-        join-words : w.0 + 1 ≡ length (gcd_of F f c)
-        unfolding naive_degree
-        join-words = let s = listed.some in let d = degree in omega arith
-
-        pub join-short : w.0 < most
-        join-short = let s = listed.short in let d = join-words in omega arith
-
-        pub join-few : k.0 ≤ most
-        join-few =
-            let rounds = gcd-rounds F f c coefficients in
-            let below = significant-le f in
-            let s = h.listed.short in
-            omega (arith, count)
-
-        -- the GCD with a list that is not zero
-        pub join-with : {x' : List ℕ} {j a a' : ℕ} → x' ≡ written (lowest (gcd_rows F.p most f c x)) (padded most (gcd_of F f c)) x
-            → a' ≡ min a (power c) → Joined F most f j a c x' (w.0 + 1) (j + k.0) a'
-        join-with {x'} {j} {a} {a'} v m =
-            record {
-              list = gcd_of F f c;
-              held =
-                  record {
-                    listed = listed;
-                    words = join-words;
-                    slice = v ∙ ap (λ o. written o (padded most (gcd_of F f c)) x) pass;
-                  };
-              is =
-                  with-nonzero F (record { list = f; rounds = j }) c some
-                  ∙ ap (λ i. record { list = gcd_of F f c; rounds = j + i }) (sym count);
-              few = let l = join-few in omega arith;
-              least = m ∙ sym (least-nonzero a c some);
-            }
-
-module _ (F : PrimeField) (most : ℕ) where
-  pub join-as : {f f' c x : List ℕ} {k a n k' a' : ℕ} → f ≡ f' → Joined F most f k a c x n k' a' → Joined F most f' k a c x n k' a'
-  join-as {f} {f'} {c} {x} {k} {a} {n} {k'} {a'} e = subst (λ g. Joined F most g k a c x n k' a') e
+      -- the GCD with a list that is not zero
+      pub join-with : {x' : List ℕ} {j : ℕ} {a a' : Option ℕ} → x' ≡ written (lowest (gcd_rows F.p most f c x)) (padded most (gcd_of F f c)) x
+          → a' ≡ Some (least_of a (power c)) → Joined F most (take n x) j a c x' (gcd.degree.0 + 1) (j + gcd.rounds.0) a'
+      join-with {x'} {j} {a} {a'} v m =
+          record {
+            list = gcd_of F f c;
+            held =
+                record {
+                  listed = listed;
+                  words = join-words;
+                  slice = v ∙ ap (λ o. written o (padded most (gcd_of F f c)) x) pass;
+                };
+            is =
+                ap (λ l. with_list F (record { list = take n l; rounds = j }) c) (sym copied)
+                ∙ with-nonzero F (record { list = f; rounds = j }) c some
+                ∙ ap (λ i. record { list = gcd_of F f c; rounds = j + i }) (sym count);
+            few = let l = join-few in omega arith;
+            least = m ∙ sym (least-nonzero a c some);
+          }

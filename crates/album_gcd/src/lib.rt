@@ -26,32 +26,15 @@ pub fn album_gcd_over(field: u8, album: &[u8], h: &mut [u16]) -> Result<Gcd, Ref
     gcd_into(field, album, h)
 }
 
-// The GCD of an album that passed: it lends arrays of zeros.
+// The GCD of an album that passed: it lends arrays of zeros, as much of them as the longest list takes.
 fn gcd_into(field: u8, album: &[u8], h: &mut [u16]) -> Result<Gcd, Refusal>
     requires { Passed (modulus field) album.now }
     ensures { Answered (field_at field) (longest field) album.now h.old h.new result }
 {
+    let n = field::longest_of(field);
     let mut list = [0u16; refusal::MAX_WORDS];
     let mut last = [0u16; refusal::MAX_WORDS];
-    let mut result = [0u16; refusal::MAX_WORDS];
-    gcd_between(field, album, &mut list, &mut last, &mut result, h)
-}
-
-// The same in as much of three arrays as the longest list takes; result comes as zeros.
-fn gcd_between(
-    field: u8,
-    album: &[u8],
-    list: &mut [u16],
-    last: &mut [u16],
-    res: &mut [u16],
-    h: &mut [u16],
-) -> Result<Gcd, Refusal>
-    requires passed { Passed (modulus field) album.now }
-    requires list_len { (length list.old ≡ max_words) × (length last.old ≡ max_words) × (length res.old ≡ max_words) }
-    requires by_index { (k : ℕ) → get_or res.old k 0 ≡ 0 }
-    ensures { Answered (field_at field) (longest field) album.now h.old h.new result }
-{
-    let n = field::longest_of(field);
+    let mut res = [0u16; refusal::MAX_WORDS];
     gcd_in(
         field,
         album,
@@ -63,7 +46,7 @@ fn gcd_between(
 }
 
 // The same by way of buffers. The result stands in one of its own, which comes as zeros, until nothing can be refused any more: a refused
-// call leaves h as it came. Where every list is zero no power is found, and the least is still the words of the longest list.
+// call leaves h as it came.
 fn gcd_in(
     field: u8,
     album: &[u8],
@@ -78,29 +61,27 @@ fn gcd_in(
     requires by_index { (k : ℕ) → get_or res.old k 0 ≡ 0 }
     ensures { Answered (field_at field) (longest field) album.now h.old h.new result }
 {
-    let n = field::longest_of(field);
     let found = join_lists(field, album, list, last, res);
-    if found.least == n {
+    let Some(least) = found.least else {
         return Err(Refusal::AllZero);
-    }
-    if h.len() != n {
+    };
+    if h.len() != field::longest_of(field) {
         return Err(Refusal::Misfit);
     }
-    words::copy(res, h);
+    h.copy_from_slice(res);
     Ok(Gcd {
         degree: NaiveDegree(found.words - 1),
-        power: Power(found.least),
+        power: Power(least),
         rounds: Rounds(found.rounds),
     })
 }
 
-// The result so far: the number of its words, the rounds that it took, and the least power of the lists that are not zero. The words of
-// the longest list stand for no power yet: every power is smaller.
+// The result so far: the number of its words, the rounds that it took, and the least power of the lists that are not zero, if there is one.
 #[derive(Clone, Copy)]
 struct SoFar {
     words: usize,
     rounds: usize,
-    least: usize,
+    least: Option<usize>,
 }
 
 // The result after all lists, each read once. It comes as zeros, the first of which is the zero list [0], where the joining starts.
@@ -112,61 +93,38 @@ fn join_lists(field: u8, album: &[u8], list: &mut [u16], last: &mut [u16], res: 
     ensures { Folded (field_at field) (longest field) (lists_of album.now)
         res.new result.words result.rounds result.least }
 {
-    let n = words::byte_at(album, 0);
-    let mut used = 1;
-    let mut rounds = 0;
-    let mut least = field::longest_of(field);
-    let mut k = 0;
-    while k < n {
-        let m = album_reader::read_at(album, k, list);
-        let next = join_list(field, &list[..m], last, res, used, rounds, least);
-        used = next.words;
-        rounds = next.rounds;
-        least = next.least;
-        k += 1;
+    let mut so_far = SoFar {
+        words: 1,
+        rounds: 0,
+        least: None,
+    };
+    for k in 0..words::byte_at(album, 0) {
+        let n = album_reader::read_at(album, k, list);
+        so_far = join_list(field, &list[..n], last, res, so_far);
     }
-    SoFar {
-        words: used,
-        rounds,
-        least,
-    }
+    so_far
 }
 
 // One more list: the result so far becomes the GCD of both, and stays where the list is zero. last is room for a copy of it.
-fn join_list(
-    field: u8,
-    list: &[u16],
-    last: &mut [u16],
-    res: &mut [u16],
-    used: usize,
-    rounds: usize,
-    least: usize,
-) -> SoFar
+fn join_list(field: u8, list: &[u16], last: &mut [u16], res: &mut [u16], so_far: SoFar) -> SoFar
     requires list { IsList (modulus field) (longest field) list.now }
-    requires held { Held (modulus field) (longest field) res.old used (take used res.old) }
-    requires last_len { (length last.old ≡ longest field) × (rounds ≤ max_words * max_lists) }
-    ensures { Joined (field_at field) (longest field) (take used res.old) rounds least list.now
+    requires held { Held (modulus field) (longest field) res.old so_far.words (take so_far.words res.old) }
+    requires last_len { (length last.old ≡ longest field) × (so_far.rounds ≤ max_words * max_lists) }
+    ensures { Joined (field_at field) (longest field) (take so_far.words res.old) so_far.rounds so_far.least list.now
         res.new result.words result.rounds result.least }
 {
     if lists::significant_words(list) == 0 {
-        return SoFar {
-            words: used,
-            rounds,
-            least,
-        };
+        return so_far;
     }
-    let power = lists::power_in(list);
-    words::copy(res, last);
-    match list_gcd::gcd_over(field, &last[..used], list, res) {
-        Ok(gcd) => SoFar {
-            words: gcd.degree.0 + 1,
-            rounds: rounds + gcd.rounds.0,
-            least: least.min(power.0),
-        },
-        Err(_) => SoFar {
-            words: used,
-            rounds,
-            least,
-        },
+    let power = lists::power_in(list).0;
+    last.copy_from_slice(res);
+    // Two lists of the album, one of which is not zero: nothing is refused.
+    let Ok(gcd) = list_gcd::gcd_over(field, &last[..so_far.words], list, res) else {
+        return so_far;
+    };
+    SoFar {
+        words: gcd.degree.0 + 1,
+        rounds: so_far.rounds + gcd.rounds.0,
+        least: Some(so_far.least.map_or(power, |least| least.min(power))),
     }
 }

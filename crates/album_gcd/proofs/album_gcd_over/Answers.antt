@@ -2,17 +2,18 @@
 -- Assumes nothing.
 use mathlib.Core.Path.{sym, ◌∙◌}
 use Rattle.field.specs.Fields.{field_at}
+use Rattle.std.proofs.lemmas.Result.{err_from_is_err_and}
 use Rattle.album_gcd.proofs.Judging.{judged-album}
 use Rattle.album_gcd.proofs.Finish.{refused}
 use Rattle.album_gcd.proofs.album_gcd_over.Goals as goal
 
-pub gcd_into-requires : goal.gcd_into-requires
-gcd_into-requires c = sym c.judge_album.ensures ∙ c.in-Ok.is
-
-pub returns-in-Err : goal.returns-in-Err
+pub returns-in_err-judge_album : goal.returns-in_err-judge_album
 unfolding field_at
-returns-in-Err c = let said = refused (field_at _) _ _ _ (sym (judged-album _ _ _ _ (sym c.judge_album.ensures ∙ c.in-Err.is))) in record { answer = said.answer; writes = said.writes; greatest = said.greatest }
+returns-in_err-judge_album c =
+    let p = err_from_is_err_and c.from_residual.result c.from_residual.ensures.1 in
+    let said = refused (field_at _) _ _ _ (sym (judged-album _ _ _ _ (sym c.judge_album.ensures ∙ c.in_err-judge_album.was))) in
+    rw (p.1, p.2) (record { answer = said.answer; writes = said.writes; greatest = said.greatest })
 
-pub returns-in-Ok : goal.returns-in-Ok
+pub returns : goal.returns
 unfolding field_at
-returns-in-Ok c = let said = c.gcd_into.ensures in record { answer = said.answer; writes = said.writes; greatest = said.greatest }
+returns c = let said = c.gcd_into.ensures in record { answer = said.answer; writes = said.writes; greatest = said.greatest }

@@ -1,69 +1,45 @@
 -- `album_gcd::join_list` meets its contract: a zero list is passed over, and the GCD of two lists that no call refuses is not refused.
 -- Assumes nothing.
 use mathlib.Core.Path.{◌≡◌, sym, ◌∙◌, ap}
-use Prim.Native.Nat.{min}
 use native.Mathlib.Omega.{arith}
-use lib.ListN.{take}
-use Rattle.field.specs.Fields.{modulus, field_at, longest}
+use Rattle.field.specs.Fields.{field_at}
 use Rattle.field.proofs.Fields.{longest-in, longest-room}
-use Rattle.lists.specs.Degrees.{significant}
-use Rattle.lists.specs.Refused.{IsList}
-use Rattle.words.proofs.Transfer.{copied-fit}
 use Rattle.list_gcd.specs.Calls.{gcd_reply}
-use Rattle.album_reader.specs.Internal.{Held}
 use Rattle.album_reader.proofs.Held.{held-length}
-use Rattle.album_gcd.proofs.Joining.{join-over, join-never, join-short, join-few, join-with, join-as}
+use Rattle.std.specs.Prelude.{Some}
+use Rattle.std.proofs.Common.{rules, tests}
+use Rattle.lists.specs.Degrees.{significant}
+use Rattle.album_gcd.specs.Internal.{least_of}
+use Rattle.album_gcd.proofs.Power.{least-is}
+use Rattle.album_gcd.proofs.Joining.{join-over, join-never, join-few, join-with}
 use Rattle.album_gcd.proofs.join_list.Goals as goal
 
 pub returns-then-significant_words-eq0 : goal.returns-then-significant_words-eq0
 unfolding field_at
 returns-then-significant_words-eq0 c = join-over (field_at _) _ (longest-in _) _ _ c.requires.held _ _ (sym c.significant_words.ensures ∙ c.if-significant_words-eq0.true)
 
-pub slice_bounds-gcd_over-end-2 : goal.slice_bounds-gcd_over-end-2
-slice_bounds-gcd_over-end-2 c =
-    let same : take c.args.used c.copy.new.to ≡ take c.args.used c.args.res.now = ap (take c.args.used) (c.copy.ensures ∙ copied-fit c.args.res.now c.args.last.now (held-length c.requires.held ∙ sym c.requires.last_len.0)) in
-    let held : Held (modulus c.args.field) (longest c.args.field) c.args.res.now c.args.used (take c.args.used c.copy.new.to) = rw same c.requires.held in
-    held.words
+pub copy_from_slice-requires : goal.copy_from_slice-requires
+copy_from_slice-requires c = c.requires.last_len.0 ∙ sym (held-length c.requires.held)
 
-pub overflow_add-result : goal.overflow_add-result
+pub returns-in_default : goal.returns-in_default
 unfolding field_at
-overflow_add-result c =
-    let listed : IsList (modulus c.args.field) (longest c.args.field) c.args.list.now = c.requires.list in
+returns-in_default c =
     let some : ¬ (significant c.args.list.now ≡ 0) = λ z. c.if-significant_words-eq0.false (c.significant_words.ensures ∙ z) in
-    let same : take c.args.used c.copy.new.to ≡ take c.args.used c.args.res.now = ap (take c.args.used) (c.copy.ensures ∙ copied-fit c.args.res.now c.args.last.now (held-length c.requires.held ∙ sym c.requires.last_len.0)) in
-    let held : Held (modulus c.args.field) (longest c.args.field) c.args.res.now c.args.used (take c.args.used c.copy.new.to) = rw same c.requires.held in
-    let says = ap gcd_reply (sym c.in-Ok.is) ∙ c.gcd_over.ensures.answer in
-    omega (arith, join-short (field_at _) _ (longest-in _) _ _ held listed some _ _ _ says, longest-room c.args.field)
+    absurd (join-never (field_at _) _ (longest-in _) _ c.requires.held c.copy_from_slice.ensures.after c.requires.list some c.in_default.field-0
+    (ap gcd_reply (sym c.in_default.is) ∙ c.gcd_over.ensures.answer))
 
-pub overflow_add-result-in-Ok : goal.overflow_add-result-in-Ok
+pub overflow_add-result-2 : goal.overflow_add-result-2
 unfolding field_at
-overflow_add-result-in-Ok c =
-    let listed : IsList (modulus c.args.field) (longest c.args.field) c.args.list.now = c.requires.list in
+overflow_add-result-2 c =
     let some : ¬ (significant c.args.list.now ≡ 0) = λ z. c.if-significant_words-eq0.false (c.significant_words.ensures ∙ z) in
-    let same : take c.args.used c.copy.new.to ≡ take c.args.used c.args.res.now = ap (take c.args.used) (c.copy.ensures ∙ copied-fit c.args.res.now c.args.last.now (held-length c.requires.held ∙ sym c.requires.last_len.0)) in
-    let held : Held (modulus c.args.field) (longest c.args.field) c.args.res.now c.args.used (take c.args.used c.copy.new.to) = rw same c.requires.held in
-    let says = ap gcd_reply (sym c.in-Ok.is) ∙ c.gcd_over.ensures.answer in
-    omega (arith, join-few (field_at _) _ (longest-in _) _ _ held listed some _ _ _ says, c.requires.last_len.1, longest-room c.args.field)
+    let few = join-few (field_at _) _ (longest-in _) _ c.requires.held c.copy_from_slice.ensures.after c.requires.list some _ (ap gcd_reply (sym c.in-Ok.is) ∙ c.gcd_over.ensures.answer) in
+    omega (arith, few, longest-room c.args.field)
 
-pub returns-in-Ok : goal.returns-in-Ok
+pub returns : goal.returns
 unfolding field_at
-returns-in-Ok c =
-    let same : take c.args.used c.copy.new.to ≡ take c.args.used c.args.res.now = ap (take c.args.used) (c.copy.ensures ∙ copied-fit c.args.res.now c.args.last.now (held-length c.requires.held ∙ sym c.requires.last_len.0)) in
-    let listed : IsList (modulus c.args.field) (longest c.args.field) c.args.list.now = c.requires.list in
+returns c =
     let some : ¬ (significant c.args.list.now ≡ 0) = λ z. c.if-significant_words-eq0.false (c.significant_words.ensures ∙ z) in
-    let held : Held (modulus c.args.field) (longest c.args.field) c.args.res.now c.args.used (take c.args.used c.copy.new.to) = rw same c.requires.held in
-    let found = c.gcd_over.ensures in
-    let says = ap gcd_reply (sym c.in-Ok.is) ∙ found.answer in
-    join-as (field_at _) _ same
-    (join-with (field_at _) _ (longest-in _) _ _ held listed some _ _ _ says found.writes
-    (c.smaller.ensures ∙ ap (min _) c.power_in-power.ensures))
-
-pub returns-in-Err : goal.returns-in-Err
-unfolding field_at
-returns-in-Err c =
-    let listed : IsList (modulus c.args.field) (longest c.args.field) c.args.list.now = c.requires.list in
-    let some : ¬ (significant c.args.list.now ≡ 0) = λ z. c.if-significant_words-eq0.false (c.significant_words.ensures ∙ z) in
-    let same : take c.args.used c.copy.new.to ≡ take c.args.used c.args.res.now = ap (take c.args.used) (c.copy.ensures ∙ copied-fit c.args.res.now c.args.last.now (held-length c.requires.held ∙ sym c.requires.last_len.0)) in
-    let held : Held (modulus c.args.field) (longest c.args.field) c.args.res.now c.args.used (take c.args.used c.copy.new.to) = rw same c.requires.held in
-    let says = ap gcd_reply (sym c.in-Err.is) ∙ c.gcd_over.ensures.answer in
-    absurd (join-never (field_at _) _ (longest-in _) _ _ held listed some c.in-Err.field-0 says)
+    let least = least-is c.args.so_far.least c.power_in-power.result.0 _ c.map_or.ensures (λ x k. search (rules, tests)) in
+    join-with (field_at _) _ (longest-in _) _ c.requires.held c.copy_from_slice.ensures.after c.requires.list some _ (ap gcd_reply (sym c.in-Ok.is) ∙ c.gcd_over.ensures.answer)
+    c.gcd_over.ensures.writes
+    (least ∙ ap (λ d. Some (least_of c.args.so_far.least d)) c.power_in-power.ensures)

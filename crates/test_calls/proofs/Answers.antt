@@ -1,6 +1,7 @@
 -- What a function returns and leaves in a lent slice, by the call's reply.
 --     counted                of a call that hands back no value
 --     told                   of a call whose values are offered to a slice
+--     told-value, told-gcd, told-extent      what `note` says of an answer is its call's reply
 --     noted                  the same by the answer, whose reply is known
 --     fitted_none            no values: the slice is as it came
 --     put_one, put_three     the values are written where they fit
@@ -13,9 +14,15 @@ use Prim.Native.Nat.{ℕ}
 use native.Mathlib.Omega.{arith}
 use lib.ListN.{length, set}
 use borrow.Author.Tests.{eq-eqb, ne_eqb}
-use Rattle.refusal.specs.Refusal.{outcome_number, Reply, outcome_reply, Outcome}
+use Rattle.std.specs.Prelude.{Result, Ok, Err, option_map, option_to_list}
+use Rattle.refusal.specs.declared.Refusal.{Refusal}
+use Rattle.refusal.specs.Refusal.{outcome_number, Reply, outcome_reply, value_reply, Outcome}
+use Rattle.list_gcd.specs.declared.Gcd.{Gcd}
+use Rattle.list_gcd.specs.Calls.{gcd_reply}
+use Rattle.list_extent.specs.declared.Search.{Search}
+use Rattle.list_extent.specs.Calls.{extent_reply}
 use Rattle.refusal.proofs.Answers.{number_is}
-use Rattle.test_calls.specs.Lent.{fitted}
+use Rattle.test_calls.specs.Lent.{fitted, told_reply}
 
 pub counted : (r : Outcome) {answer : Reply} {n : ℕ} → outcome_reply r ≡ answer → n ≡ outcome_number r → n ≡ answer.number
 counted r e a = a ∙ sym (number_is r [] refl) ∙ ap (λ x. x.number) e
@@ -27,6 +34,19 @@ fitted_none (x ∷ old) = simp (ne_eqb (length (x ∷ old)) 0 (λ e. omega arith
 pub told : (old : List ℕ) {answer r : Reply} {n : ℕ} {left : List ℕ} → r ≡ answer → n ≡ r.number → left ≡ fitted r.values old
     → (n ≡ answer.number) × (left ≡ fitted answer.values old)
 told old e a b = (a ∙ ap (λ x. x.number) e, b ∙ ap (λ x. fitted x.values old) e)
+
+-- a call that hands back one value
+pub told-value : {A : Type 0} (v : A → ℕ) (r : Result A Refusal) → told_reply (λ x. v x ∷ []) r ≡ value_reply v r
+told-value v (Ok x) = refl
+told-value v (Err why) = refl
+
+pub told-gcd : (r : Result Gcd Refusal) → told_reply (λ gcd. gcd.degree.0 ∷ gcd.power.0 ∷ gcd.rounds.0 ∷ []) r ≡ gcd_reply r
+told-gcd (Ok gcd) = refl
+told-gcd (Err why) = refl
+
+pub told-extent : (r : Result Search Refusal) → told_reply (λ search. option_to_list (option_map (λ e. e.0) search.extent)) r ≡ extent_reply r
+told-extent (Ok search) = refl
+told-extent (Err why) = refl
 
 pub noted : {A : Type 0} (reply_of : A → Reply) (x y : A) (old : List ℕ) {n : ℕ} {left : List ℕ} → x ≡ y → n ≡ (reply_of y).number → left ≡ fitted (reply_of y).values old
     → (n ≡ (reply_of x).number) × (left ≡ fitted (reply_of x).values old)

@@ -1,36 +1,35 @@
 // Every public call as a C function on words in place, for the second implementation (tests/host) and the bench: no part of the engine's
 // calls, and none of what it offers to a C host (crates/bernstein). Each function is the call that it names and returns the refusal's number, 0
-// when the call completes; `note_...` write the answer's values, if it has any, to a lent slice of exactly as many numbers, and leave a slice
+// when the call completes; `note` writes the answer's values, if it has any, to a lent slice of exactly as many numbers, and leaves a slice
 // of another length as it came. tests/calls.h declares them.
 #![tactic(auto)]
 
-ghost use Rattle.std.specs.Prelude.{◌≡◌, [], ◌∷◌, length};
-ghost use Rattle.field.specs.Field.{word_reply};
+ghost use Rattle.std.specs.Prelude.{◌≡◌, List, [], ◌∷◌, ℕ, option_map, option_to_list, length};
 ghost use Rattle.field.specs.Calls.{word_sum_answer, word_difference_answer, word_product_answer};
 ghost use Rattle.field_inverse.specs.Calls.{inverse_answer};
 ghost use Rattle.list_product.specs.Calls.{product_answer, product_written, raise_answer, raise_written};
 ghost use Rattle.list_sum.specs.Calls.{sum_answer, sum_written, difference_written};
-ghost use Rattle.list_extent.specs.Calls.{extent_reply, searched_reply, extent_answer, searched_answer, trim_answer, trim_written};
+ghost use Rattle.list_extent.specs.Calls.{searched_reply, extent_answer, searched_answer, trim_answer, trim_written};
 ghost use Rattle.list_derivative.specs.Calls.{derivative_answer, derivative_written};
 ghost use Rattle.list_value.specs.Calls.{evaluate_answer};
 ghost use Rattle.list_division.specs.Calls.{divide_answer, quotient_written, remainder_written};
 ghost use Rattle.list_powers.specs.Powers.{degree_found};
 ghost use Rattle.list_ordinary_division.specs.Calls.{ordinary_answer, ordinary_quotient_written, ordinary_remainder_written};
-ghost use Rattle.list_gcd.specs.Calls.{gcd_reply, gcd_answer, gcd_written};
+ghost use Rattle.list_gcd.specs.Calls.{gcd_answer, gcd_written};
 ghost use Rattle.list_cofactors.specs.Calls.{cofactor_answer, cofactor_gcd, cofactors_written_a, cofactors_written_b};
 ghost use Rattle.album_layout.specs.Calls.{check_answer, body_of};
-ghost use Rattle.album_reader.specs.Calls.{listed_reply, read_answer, read_written};
-ghost use Rattle.album_writer.specs.Calls.{written_reply, write_answer, write_written};
+ghost use Rattle.album_reader.specs.Calls.{read_answer, read_written};
+ghost use Rattle.album_writer.specs.Calls.{write_answer, write_written};
 ghost use Rattle.album_contents.specs.Calls.{contents_answer, contents_written};
 ghost use Rattle.album_gcd.specs.Calls.{album_gcd_answer, album_gcd_written};
 ghost use Rattle.line_values.specs.Calls.{line_answer, line_written};
-ghost use Rattle.test_calls.specs.Lent.{fitted};
+ghost use Rattle.test_calls.specs.Lent.{fitted, told_reply};
 
-use refusal::Refusal;
 use album_contents::Entry;
 use list_extent::Search;
 use list_gcd::Gcd;
 use lists::NaiveDegree;
+use refusal::Refusal;
 
 // What a function returns whose call completes.
 const COMPLETED: u8 = 0;
@@ -41,7 +40,7 @@ pub extern "C" fn test_field_sum(a: u16, b: u16, answer: &mut [usize]) -> u8
     ensures number { result ≡ (word_sum_answer 0 a b).number }
     ensures values { answer.new ≡ fitted (word_sum_answer 0 a b).values answer.old }
 {
-    note_word(field_calls::sum(a, b), answer)
+    note(field_calls::sum(a, b), answer)
 }
 
 // The difference of two coefficients.
@@ -50,7 +49,7 @@ pub extern "C" fn test_field_difference(a: u16, b: u16, answer: &mut [usize]) ->
     ensures number { result ≡ (word_difference_answer 0 a b).number }
     ensures values { answer.new ≡ fitted (word_difference_answer 0 a b).values answer.old }
 {
-    note_word(field_calls::difference(a, b), answer)
+    note(field_calls::difference(a, b), answer)
 }
 
 // The product of two coefficients.
@@ -59,7 +58,7 @@ pub extern "C" fn test_field_product(a: u16, b: u16, answer: &mut [usize]) -> u8
     ensures number { result ≡ (word_product_answer 0 a b).number }
     ensures values { answer.new ≡ fitted (word_product_answer 0 a b).values answer.old }
 {
-    note_word(field_calls::product(a, b), answer)
+    note(field_calls::product(a, b), answer)
 }
 
 // The inverse of a coefficient.
@@ -68,7 +67,7 @@ pub extern "C" fn test_inverse(a: u16, answer: &mut [usize]) -> u8
     ensures number { result ≡ (inverse_answer 0 a).number }
     ensures values { answer.new ≡ fitted (inverse_answer 0 a).values answer.old }
 {
-    note_word(field_calls::inverse(a), answer)
+    note(field_calls::inverse(a), answer)
 }
 
 // The product of two lists.
@@ -113,7 +112,7 @@ pub extern "C" fn test_find_extent(f: &[u16], answer: &mut [usize]) -> u8
     ensures number { result ≡ (extent_answer 0 f.now).number }
     ensures values { answer.new ≡ fitted (extent_answer 0 f.now).values answer.old }
 {
-    note_found(list_calls::find_extent(f), answer)
+    note(list_calls::find_extent(f), answer)
 }
 
 // The same call, and how many words its search read.
@@ -122,7 +121,7 @@ pub extern "C" fn test_searched(f: &[u16], answer: &mut [usize]) -> u8
     ensures number { result ≡ (searched_answer 0 f.now).number }
     ensures values { answer.new ≡ fitted (searched_answer 0 f.now).values answer.old }
 {
-    note_searched(list_calls::find_extent(f), answer)
+    note_read(list_calls::find_extent(f), answer)
 }
 
 // A list less its top zeros.
@@ -149,7 +148,7 @@ pub extern "C" fn test_evaluate(f: &[u16], x: u16, answer: &mut [usize]) -> u8
     ensures number { result ≡ (evaluate_answer 0 f.now x).number }
     ensures values { answer.new ≡ fitted (evaluate_answer 0 f.now x).values answer.old }
 {
-    note_word(list_calls::evaluate(f, x), answer)
+    note(list_calls::evaluate(f, x), answer)
 }
 
 // g divided by f.
@@ -187,7 +186,7 @@ pub extern "C" fn test_gcd(f: &[u16], g: &[u16], h: &mut [u16], answer: &mut [us
     ensures writes { h.new ≡ gcd_written 0 f.now g.now h.old }
     ensures values { answer.new ≡ fitted (gcd_answer 0 f.now g.now h.old).values answer.old }
 {
-    note_gcd(list_calls::gcd_of(f, g, h), answer)
+    note(list_calls::gcd_of(f, g, h), answer)
 }
 
 // The GCD of two lists with its cofactors; the answer is w, c and rounds.
@@ -206,7 +205,7 @@ pub extern "C" fn test_cofactors(
     ensures cofactor_b { b.new ≡ cofactors_written_b 0 f.now g.now h.old a.old b.old }
     ensures values { answer.new ≡ fitted (cofactor_answer 0 f.now g.now h.old a.old b.old).values answer.old }
 {
-    note_gcd(list_calls::find_cofactors(f, g, h, a, b), answer)
+    note(list_calls::find_cofactors(f, g, h, a, b), answer)
 }
 
 // The check of an album with an index.
@@ -225,7 +224,7 @@ pub extern "C" fn test_body(album: &[u8], i: usize, out: &mut [u8]) -> usize
 {
     let part = album_calls::body(album, i);
     if out.len() == part.len() {
-        copy(part, out);
+        out.copy_from_slice(part);
     }
     part.len()
 }
@@ -242,7 +241,7 @@ pub extern "C" fn test_read_list(
     ensures writes { out.new ≡ read_written 0 album.now i out.old }
     ensures values { answer.new ≡ fitted (read_answer 0 album.now i out.old).values answer.old }
 {
-    note_listed(album_calls::read_list(album, i, out), answer)
+    note(album_calls::read_list(album, i, out), answer)
 }
 
 // The value of a line of algebra over an album; the answer is its naive degree.
@@ -257,7 +256,7 @@ pub extern "C" fn test_line_value(
     ensures writes { out.new ≡ line_written 0 album.now line.now out.old }
     ensures values { answer.new ≡ fitted (line_answer 0 album.now line.now out.old).values answer.old }
 {
-    note_listed(album_calls::line_value(album, line, out), answer)
+    note(album_calls::line_value(album, line, out), answer)
 }
 
 // The album of some lists; the answer is the number of its bytes.
@@ -272,7 +271,7 @@ pub extern "C" fn test_write_album(
     ensures writes { out.new ≡ write_written 0 words.now degrees.now out.old }
     ensures values { answer.new ≡ fitted (write_answer 0 words.now degrees.now out.old).values answer.old }
 {
-    note_written(album_calls::write_album(words, degrees, out), answer)
+    note(album_calls::write_album(words, degrees, out), answer)
 }
 
 // The contents of an album as records.
@@ -291,90 +290,65 @@ pub extern "C" fn test_gcd_of_album(album: &[u8], h: &mut [u16], answer: &mut [u
     ensures writes { h.new ≡ album_gcd_written 0 album.now h.old }
     ensures values { answer.new ≡ fitted (album_gcd_answer 0 album.now h.old).values answer.old }
 {
-    note_gcd(album_calls::gcd_of_album(album, h), answer)
+    note(album_calls::gcd_of_album(album, h), answer)
 }
 
-fn note_word(found: Result<u16, Refusal>, answer: &mut [usize]) -> u8
-    ensures number { result ≡ (word_reply found).number }
-    ensures values { answer.new ≡ fitted (word_reply found).values answer.old }
-{
-    match found {
-        Ok(word) => {
-            note_one(word as usize, answer);
-            COMPLETED
-        }
-        Err(why) => u8::from(why),
+// What an answer hands back, as numbers.
+trait Told: Copy {
+    ghost told: { Self → List ℕ };
+
+    // Offers the numbers to a slice.
+    fn offer(self, answer: &mut [usize])
+        ensures { answer.new ≡ fitted (told self) answer.old };
+}
+
+impl Told for usize {
+    ghost told = { λ n. n ∷ [] };
+
+    fn offer(self, answer: &mut [usize]) {
+        offer_one(self, answer);
     }
 }
 
-fn note_found(found: Result<Search, Refusal>, answer: &mut [usize]) -> u8
-    ensures number { result ≡ (extent_reply found).number }
-    ensures values { answer.new ≡ fitted (extent_reply found).values answer.old }
-{
-    match found {
-        Ok(search) => {
-            if let Some(extent) = search.extent {
-                note_one(extent.0, answer);
-            }
-            COMPLETED
-        }
-        Err(why) => u8::from(why),
+impl Told for u16 {
+    ghost told = { λ n. n ∷ [] };
+
+    fn offer(self, answer: &mut [usize]) {
+        offer_one(usize::from(self), answer);
     }
 }
 
-fn note_searched(found: Result<Search, Refusal>, answer: &mut [usize]) -> u8
-    ensures number { result ≡ (searched_reply found).number }
-    ensures values { answer.new ≡ fitted (searched_reply found).values answer.old }
-{
-    match found {
-        Ok(search) => {
-            note_one(search.read.0, answer);
-            COMPLETED
-        }
-        Err(why) => u8::from(why),
+impl Told for NaiveDegree {
+    ghost told = { λ degree. degree.0 ∷ [] };
+
+    fn offer(self, answer: &mut [usize]) {
+        offer_one(self.0, answer);
     }
 }
 
-fn note_listed(found: Result<NaiveDegree, Refusal>, answer: &mut [usize]) -> u8
-    ensures number { result ≡ (listed_reply found).number }
-    ensures values { answer.new ≡ fitted (listed_reply found).values answer.old }
-{
-    match found {
-        Ok(degree) => {
-            note_one(degree.0, answer);
-            COMPLETED
+impl Told for Search {
+    ghost told = { λ search. option_to_list (option_map (λ e. e.0) search.extent) };
+
+    fn offer(self, answer: &mut [usize]) {
+        if let Some(extent) = self.extent {
+            offer_one(extent.0, answer);
         }
-        Err(why) => u8::from(why),
     }
 }
 
-fn note_written(found: Result<usize, Refusal>, answer: &mut [usize]) -> u8
-    ensures number { result ≡ (written_reply found).number }
-    ensures values { answer.new ≡ fitted (written_reply found).values answer.old }
-{
-    match found {
-        Ok(size) => {
-            note_one(size, answer);
-            COMPLETED
+impl Told for Gcd {
+    ghost told = { λ gcd. gcd.degree.0 ∷ gcd.power.0 ∷ gcd.rounds.0 ∷ [] };
+
+    fn offer(self, answer: &mut [usize]) {
+        if answer.len() == 3 {
+            answer[0] = self.degree.0;
+            answer[1] = self.power.0;
+            answer[2] = self.rounds.0;
         }
-        Err(why) => u8::from(why),
     }
 }
 
-fn note_gcd(found: Result<Gcd, Refusal>, answer: &mut [usize]) -> u8
-    ensures number { result ≡ (gcd_reply found).number }
-    ensures values { answer.new ≡ fitted (gcd_reply found).values answer.old }
-{
-    match found {
-        Ok(gcd) => {
-            note_three(gcd.degree.0, gcd.power.0, gcd.rounds.0, answer);
-            COMPLETED
-        }
-        Err(why) => u8::from(why),
-    }
-}
-
-fn note_one(value: usize, answer: &mut [usize])
+fn offer_one(value: usize, answer: &mut [usize])
     ensures { answer.new ≡ fitted (value ∷ []) answer.old }
 {
     if answer.len() == 1 {
@@ -382,23 +356,30 @@ fn note_one(value: usize, answer: &mut [usize])
     }
 }
 
-fn note_three(w: usize, c: usize, rounds: usize, answer: &mut [usize])
-    ensures { answer.new ≡ fitted (w ∷ c ∷ rounds ∷ []) answer.old }
+// The number of an answer; what it hands back is offered to a slice.
+fn note<T: Told>(found: Result<T, Refusal>, answer: &mut [usize]) -> u8
+    ensures number { result ≡ (told_reply T.told found).number }
+    ensures values { answer.new ≡ fitted (told_reply T.told found).values answer.old }
 {
-    if answer.len() == 3 {
-        answer[0] = w;
-        answer[1] = c;
-        answer[2] = rounds;
+    match found {
+        Ok(told) => {
+            told.offer(answer);
+            COMPLETED
+        }
+        Err(why) => u8::from(why),
     }
 }
 
-fn copy(from: &[u8], to: &mut [u8])
-    requires { length from.now ≡ length to.old }
-    ensures { to.new ≡ from.now }
+// The same of a search for an extent, and how many words it read.
+fn note_read(found: Result<Search, Refusal>, answer: &mut [usize]) -> u8
+    ensures number { result ≡ (searched_reply found).number }
+    ensures values { answer.new ≡ fitted (searched_reply found).values answer.old }
 {
-    let mut i = 0;
-    while i < to.len() {
-        to[i] = from[i];
-        i += 1;
+    match found {
+        Ok(search) => {
+            offer_one(search.read.0, answer);
+            COMPLETED
+        }
+        Err(why) => u8::from(why),
     }
 }

@@ -1,8 +1,9 @@
 -- `test_calls::test_evaluate` meets its contract: what the call ensures, with the number in place of the answer.
 -- Assumes nothing.
-use Rattle.test_calls.proofs.Answers.{told}
+use mathlib.Core.Path.{◌∙◌}
+use Rattle.test_calls.proofs.Answers.{told, told-value}
 use Rattle.refusal.proofs.Clauses.{number_and_values}
 use Rattle.test_calls.proofs.test_evaluate.Goals as goal
 
 pub returns : goal.returns
-returns c = let note = c.note_word.ensures in number_and_values (told c.args.answer.now c.evaluate.ensures.answer note.number note.values)
+returns c = let note = c.note.ensures in number_and_values (told c.args.answer.now (told-value (λ n. n) c.evaluate.result ∙ c.evaluate.ensures.answer) note.number note.values)

@@ -5,4 +5,4 @@ use Rattle.refusal.proofs.Clauses.{number_and_values}
 use Rattle.test_calls.proofs.test_searched.Goals as goal
 
 pub returns : goal.returns
-returns c = let note = c.note_searched.ensures in number_and_values (told c.args.answer.now c.find_extent.ensures.read note.number note.values)
+returns c = let note = c.note_read.ensures in number_and_values (told c.args.answer.now c.find_extent.ensures.read note.number note.values)

@@ -1,4 +1,5 @@
-// The fields on words of 16 bits: sum, difference and product, and the constants of each field.
+// The fields on words of 16 bits: sum, difference and product, and the constants of each field. A field goes by its number, as a caller hands
+// it over: every byte is answered for (from 2 on it is field 2), and the definitions are over numbers; an enum would ask more of callers.
 #![tactic(auto)]
 
 ghost use Rattle.std.specs.Prelude.{◌≡◌, ◌+◌, ◌-◌, ◌*◌, ◌%◌};

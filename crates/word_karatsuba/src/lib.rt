@@ -2,14 +2,14 @@
 // words of the factors, a1 and b1 the rest. Factors that are not cut go to crate `word_product`.
 #![tactic(auto)]
 
-ghost use Rattle.std.specs.Prelude.{◌≡◌, ◌||◌, ◌+◌, ◌-◌, ◌*◌, ◌%◌, ◌≤◌, ◌<◌, eqb, ltb, length};
+ghost use Rattle.std.specs.Prelude.{IfSome, ◌≡◌, ◌||◌, ◌+◌, ◌-◌, ◌*◌, ◌%◌, ◌≤◌, ◌<◌, eqb, ltb, length};
 ghost use Rattle.refusal.specs.Limits.{max_words};
 ghost use Rattle.field.specs.Fields.{modulus, field_at};
 ghost use Rattle.lists.specs.Words.{ZeroFrom, Tight};
 ghost use Rattle.word_product.specs.Convolution.{convolved_into, convolution};
 ghost use Rattle.word_row.specs.Rows.{row};
 ghost use Rattle.word_division.specs.Reduction.{negated};
-ghost use Rattle.word_karatsuba.specs.Halves.{Cut, Halving, Apart, halves_added, products_joined};
+ghost use Rattle.word_karatsuba.specs.Halves.{Cut, Apart, halves_added, products_joined};
 
 // Two factors of at most so many words together are not cut: `word_product` is about as quick with the whole as with the parts.
 const SHORT: usize = 400;
@@ -21,22 +21,22 @@ const SECOND: usize = refusal::MAX_WORDS / 2 + 1;
 
 const MIDDLE: usize = refusal::MAX_WORDS;
 
-// How many words a0 and b0 have, where the factors are cut: they are long, and the second has about as many words as the first. Else 0.
-fn halving(n: usize, m: usize) -> usize
+// How many words a0 and b0 have, where the factors are cut: they are long, and the second has about as many words as the first.
+fn halving(n: usize, m: usize) -> Option<usize>
     requires { (n ≤ max_words) × (m ≤ max_words) }
-    ensures { Halving n m result }
+    ensures { IfSome result (Cut n m) }
 {
     let h = (n + 1) / 2;
     if n + m <= SHORT {
-        return 0;
+        return None;
     }
     if 2 * h + 1 < m {
-        return 0;
+        return None;
     }
     if 2 * m < 3 * h {
-        return 0;
+        return None;
     }
-    h
+    Some(h)
 }
 
 // a plus b modulo p, as a row has it. b need not be below p.
@@ -133,11 +133,10 @@ fn convolve_fitting(field: u8, a: &[u16], b: &[u16], out: &mut [u16])
     requires { (length a.now ≤ max_words) × (length b.now ≤ max_words) × (length out.old + 1 ≡ length a.now + length b.now) }
     ensures { out.new ≡ convolution (field_at field) a.now b.now }
 {
-    let h = halving(a.len(), b.len());
-    if h == 0 {
+    let Some(h) = halving(a.len(), b.len()) else {
         word_product::convolve(field, a, b, out);
         return;
-    }
+    };
     let k = h + 1;
     let n = 2 * h;
     let mut x = [0u16; FIRST];

@@ -6,18 +6,19 @@ use Rattle.field.specs.Fields.{field_at}
 use Rattle.field.proofs.Fields.{p-at, modulus-some}
 use Rattle.lists.proofs.Parts.{prefix-length}
 use Rattle.lists.proofs.Words.{zero-part, zeros-are}
+use Rattle.word_karatsuba.specs.Halves.{Cut}
 use Rattle.word_karatsuba.proofs.Karatsuba.{tight-parts, tight-product, karatsuba-is}
 use Rattle.word_karatsuba.proofs.Words.{tight-zero}
 use Rattle.word_product.proofs.Convolution.{convolve-is}
 use Rattle.word_karatsuba.proofs.+convolve_fitting_convolve_in_convolve_parts.Goals as goal
 
-pub convolve_fitting-returns-then-h-eq0 : goal.convolve_fitting-returns-then-h-eq0
-convolve_fitting-returns-then-h-eq0 t c = convolve-is (field_at _) max_words _ _ c.args.out.now (omega arith) (omega arith) (omega arith) c.convolve.ensures
+pub convolve_fitting-returns-in_default : goal.convolve_fitting-returns-in_default
+convolve_fitting-returns-in_default t c = convolve-is (field_at _) max_words _ _ c.args.out.now (omega arith) (omega arith) (omega arith) c.convolve.ensures
 
 pub convolve_fitting-convolve_in-requires : goal.convolve_fitting-convolve_in-requires
 convolve_fitting-convolve_in-requires t c =
-    let h = c.halving-h.result in
-    let cut = c.halving-h.ensures.fits (omega arith) in (
+    let h = c.in-Some.h in
+    let cut : Cut (length c.args.a.now) (length c.args.b.now) h = c.in-Some.ensures in (
       omega arith,
       (
         cut,

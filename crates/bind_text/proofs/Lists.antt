@@ -1,7 +1,8 @@
 -- The lines of a text and the numbers of a line.
 --     lines_at, lines_whole       the first line ends at the first line end; where there is none, it is the whole text
+--     lines_none, lines-short     an empty text has no lines; there are no more lines than bytes
 --     fields-yielded              `split` and `filter` give the fields of a line
---     length-lists                as many lists as lines
+--     length-lists, length-list   as many lists as lines, and as many words as fields
 --     wrong-any                   the search for a list of a wrong length
 --     right-length, each_right    lists of no wrong length have words, and no more than the limit
 -- Assumes nothing.

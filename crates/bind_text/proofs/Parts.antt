@@ -1,4 +1,5 @@
 -- The parts of some bytes.
+--     parts-short               there are no more parts than bytes
 --     parts_at, parts_whole     the first part ends at the first b; where there is none, it is all of the bytes
 --     filled-split              the parts that are not empty are those that `split` and `filter` give
 -- Assumes nothing.

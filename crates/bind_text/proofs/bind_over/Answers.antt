@@ -16,14 +16,9 @@ use Rattle.refusal.proofs.Clauses.{answer_and_writes}
 use borrow.Author.Rules.{rules}
 use Rattle.bind_text.proofs.bind_over.Goals as goal
 
-pub returns-in-Err : goal.returns-in-Err
-returns-in-Err c =
-    let args = c.args in
-    let refused = sym c.judge_text.ensures ∙ c.in-Err.is in answer_and_writes (bind-refused (modulus args.field) args.text.now args.out.now refused)
-
 pub read_lines-n-requires : goal.read_lines-n-requires
 read_lines-n-requires c =
-    let fine : lowest (text_refusals c.args.text.now) ≡ Ok tt = sym c.judge_text.ensures ∙ c.in_default.is in
+    let fine : lowest (text_refusals c.args.text.now) ≡ Ok tt = sym c.judge_text.ensures ∙ c.in_ok-judge_text.was in
     record { sound = text-sound _ fine; words_len = (search rules, search rules) }
 
 pub slice_bounds-words-end : goal.slice_bounds-words-end
@@ -42,7 +37,7 @@ slice_bounds-write_album_over-end-2 c =
 
 pub returns : goal.returns
 returns c =
-    let fine : lowest (text_refusals c.args.text.now) ≡ Ok tt = sym c.judge_text.ensures ∙ c.in_default.is in
+    let fine : lowest (text_refusals c.args.text.now) ≡ Ok tt = sym c.judge_text.ensures ∙ c.in_ok-judge_text.was in
     let args = c.args in
     let small : modulus args.field ≤ 65535 = omega (arith, modulus-high args.field) in
     let loaded = c.read_lines-n.ensures in

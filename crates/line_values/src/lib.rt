@@ -80,6 +80,7 @@ fn judge(
 }
 
 // Whether a byte of a program is an operand that an album of so many lists lacks.
+#[tactic(auto, unfolding(crate::specs::Internal::lacks_one))]
 fn lacks(lists: usize, x: u8) -> bool
     ensures { result ≡ lacks_one lists x }
 {

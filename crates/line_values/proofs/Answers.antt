@@ -18,9 +18,8 @@ use Rattle.lists.proofs.Scaled.{length-naive}
 use Rattle.album_layout.specs.Layout.{lists_of}
 use Rattle.lines.specs.Grammar.{Tree}
 use Rattle.lines.specs.Program.{postfix, Small}
-use Rattle.line_values.specs.declared.Sized.TheVariants as sized
 use Rattle.line_values.specs.Values.{Valued, value, refused, value_of}
-use Rattle.line_values.specs.Internal.{Stack, State, stack, halted, stuck, onto, run, packed, Lists, RunSo, ValueSo}
+use Rattle.line_values.specs.Internal.{Stack, State, stack, halted, stuck, onto, run, packed, Lists, Left, ValueSo}
 use Rattle.line_values.proofs.Machine.{run-program}
 
 -- of a state: its stack, or that it has none
@@ -64,16 +63,15 @@ module _ (k : ℕ) (s code : List ℕ) (e : Tree) (is : code ≡ postfix e) (sma
   value-onto : run (field_at k) (longest k) (lists_of s) code [] ≡ onto (value_of (field_at k) (longest k) (lists_of s) e) []
   value-onto = ap (λ c. run (field_at k) (longest k) (lists_of s) c []) is ∙ run-program (field_at k) (longest k) (lists_of s) e small
 
-  pub ended : (words : List ℕ) (n : ℕ) → RunSo (modulus k) (longest k) (run (field_at k) (longest k) (lists_of s) code []) words (sized.Words n)
-      → Ended k s e words n
+  pub ended : (words : List ℕ) (n : ℕ) → Left (run (field_at k) (longest k) (lists_of s) code []) k n words → Ended k s e words n
   ended words n r =
-      let one = alone (value_of (field_at k) (longest k) (lists_of s) e) r.0 (sym value-onto ∙ r.1) in
-      let listed = subst (Lists (modulus k) (longest k)) one.2 r.4 in
+      let one = alone (value_of (field_at k) (longest k) (lists_of s) e) r.st (sym value-onto ∙ r.is) in
+      let listed = subst (Lists (modulus k) (longest k)) one.2 r.lists in
       record {
         list = one.0;
         value-is = one.1;
-        size = r.2 ∙ ap (λ st. length (packed st)) one.2;
-        front = r.3 ∙ ap packed one.2;
+        size = r.size ∙ ap (λ st. length (packed st)) one.2;
+        front = r.held ∙ ap packed one.2;
         listed = listed.0;
       }
 
@@ -93,7 +91,7 @@ ended-numbers k s e words n d =
 
 module _ (k : ℕ) (s code old : List ℕ) (fits : length old ≡ longest k) where
   pub value-done : (words : List ℕ) (n : ℕ) {out : List ℕ}
-      → RunSo (modulus k) (longest k) (run (field_at k) (longest k) (lists_of s) code []) words (sized.Words n)
+      → Left (run (field_at k) (longest k) (lists_of s) code []) k n words
       → out ≡ padded (length old) (take n words) → ValueSo k s code old out (record { number = 0; values = (n - 1) ∷ [] })
   value-done words n r q e is small =
       let d = ended k s code e is small words n r in

@@ -4,7 +4,7 @@
 --     Accepted, accepted, accepted-passed     what is known where no row applies
 --     valued, line-listed     a value that is not refused: a list that no call refuses
 --     accepted-runs    where no row applies, the program can be run
---     answered, refused-early     what the call then answers and writes, and where it is refused
+--     answered    what the call then answers and writes
 -- Assumes nothing.
 use mathlib.Core.Path.{◌≡◌, refl, sym, ◌∙◌, ap, ap₂}
 use mathlib.Core.Bool.{Bool, true, false, not}
@@ -46,7 +46,7 @@ use Rattle.line_values.proofs.Values.{value-listed}
 use Rattle.line_values.proofs.Programs.{lacks-program, lacks-tokens}
 
 -- an outcome is one or the other
-never : {why : Refusal} → Ok tt ≡ Err why → ⊥
+never : {why : Refusal} → ◌≡◌ {A = Outcome} (Ok tt) (Err why) → ⊥
 never {why} e = let n : 0 ≡ number why = ap outcome_number e in omega (arith, number-range why)
 
 -- two tests, and what comes behind them
@@ -199,7 +199,3 @@ module _ (s line code : List ℕ) {n : ℕ} (g : ProgramOf line code (Ok n)) whe
           h.0 ∙ ap₂ (λ o u. reply o (naive_degree (list_in u) ∷ [])) outcome same,
           h.1 ∙ ap₂ (λ o u. written o (padded (longest k) (list_in u)) out) outcome same,
         )
-
-pub refused-early : (k : ℕ) (s line out : List ℕ) {why : Refusal} → Err why ≡ lowest (line_rows (modulus k) (longest k) s line out)
-    → (record { number = number why; values = [] } ≡ line_answer k s line out) × (out ≡ line_written k s line out)
-refused-early k s line out d = rw (sym d) (refl, refl)

@@ -1,5 +1,5 @@
 -- The operations on lists that no call refuses: none of the calls refuses, but a product of too many words.
---     operation-add, -subtract, -multiply                the operation of a byte
+--     operation-add, -subtract, -multiply                the operation of an operator's byte
 --     came-sum, came-difference, came-product, over      what is then in front of the buffer
 --     came-derivative                                    the same of a derivative
 -- Assumes nothing.
@@ -9,8 +9,8 @@ use Prim.Native.Nat.{ℕ, suc, ◌+◌, ◌-◌, ◌≤◌, ◌<◌, max}
 use native.Mathlib.Omega.{arith}
 use lib.ListN.{length, take, drop}
 use lib.Seq.{take_at}
-use borrow.Author.Tests.{eq-eqb, ne_eqb, lt-ltb, le-ltb}
-use Rattle.std.specs.Prelude.{Ok}
+use borrow.Author.Tests.{lt-ltb, le-ltb}
+use Rattle.std.specs.Prelude.{Ok, Err}
 use Rattle.algebra.specs.PrimeField.{PrimeField}
 use Rattle.refusal.specs.Limits.{max_words}
 use Rattle.refusal.specs.Lowest.{lowest}
@@ -34,25 +34,29 @@ use Rattle.list_product.proofs.Judged.{product-done}
 use Rattle.list_derivative.specs.Calls.{derivative_words, derivative_written}
 use Rattle.list_derivative.proofs.Judged.{derivative-done}
 use Rattle.list_derivative.proofs.Derived.{derivative-length}
-use Rattle.lines.specs.Program.{add_byte, subtract_byte}
-use Rattle.line_values.specs.declared.Sized.TheVariants as sized
+use Rattle.lines.specs.declared.Operator.{Operator}
+use Rattle.lines.specs.declared.Operator.TheVariants.{Add, Subtract, Multiply, Derive}
+use Rattle.lines.specs.Program.{byte_of}
 use Rattle.line_values.specs.Values.{added, subtracted, multiplied, derived}
 use Rattle.line_values.specs.Internal.{operation, Came}
 use Rattle.line_values.proofs.Values.{larger-is, sum-listed, difference-listed, product-listed, derivative-listed}
 
-module _ (F : PrimeField) (most x : ℕ) (a b : List ℕ) where
-  pub operation-add : x ≡ add_byte → operation F most x a b ≡ added F most a b
+module _ (F : PrimeField) (most : ℕ) (o : Operator) (a b : List ℕ) where
+  pub operation-add : o ≡ Add → operation F most (byte_of o) a b ≡ added F most a b
   unfolding operation
-  operation-add e = rw (eq-eqb x add_byte e)
+  operation-add e = rw e refl
 
-  module _ (not-add : x ≡ add_byte → ⊥) where
-    pub operation-subtract : x ≡ subtract_byte → operation F most x a b ≡ subtracted F most a b
-    unfolding operation
-    operation-subtract e = rw (ne_eqb x add_byte not-add, eq-eqb x subtract_byte e)
+  pub operation-subtract : o ≡ Subtract → operation F most (byte_of o) a b ≡ subtracted F most a b
+  unfolding operation
+  operation-subtract e = rw e refl
 
-    pub operation-multiply : (x ≡ subtract_byte → ⊥) → operation F most x a b ≡ multiplied F most a b
-    unfolding operation
-    operation-multiply f = rw (ne_eqb x add_byte not-add, ne_eqb x subtract_byte f)
+pub operation-multiply : (F : PrimeField) (most : ℕ) (o : Operator) (a b : List ℕ) → (o ≡ Add → ⊥) → (o ≡ Subtract → ⊥)
+    → operation F most (byte_of o) a b ≡ multiplied F most a b
+unfolding operation
+operation-multiply F most Add a b f g = absurd (f refl)
+operation-multiply F most Subtract a b f g = absurd (g refl)
+operation-multiply F most Multiply a b f g = refl
+operation-multiply F most Derive a b f g = refl
 
 -- a result in front of a buffer
 in-front : (o : Outcome) (c old rest : List ℕ) {part : List ℕ} (n : ℕ) → o ≡ Ok tt → part ≡ written o c old → n ≡ length c → take n (part ++ rest) ≡ c
@@ -78,14 +82,14 @@ module _ (k : ℕ) where
       done = sym (sum_done (modulus k) (longest k) (modulus-some k) a b (take n room) passes (prefix-length n max_words room full short ∙ e))
 
       pub came-sum : {part : List ℕ} → part ≡ sum_written k a b (take n room)
-          → Came (modulus k) (longest k) (added (field_at k) (longest k) a b) (part ++ drop n room) (sized.Words n)
+          → Came (modulus k) (longest k) (added (field_at k) (longest k) a b) (part ++ drop n room) (Ok n)
       unfolding field_at
       came-sum f =
           let size : n ≡ length (of.sum_of (field_at k) a b) = e ∙ sym (length-sum (field_at k) a b ∙ larger-is (field_at k) (longest k) (longest-in k) a b l m) in
           (_, refl, size, in-front _ _ (take n room) (drop n room) n done f size, sum-listed (field_at k) (longest k) (longest-in k) a b l m)
 
       pub came-difference : {part : List ℕ} → part ≡ difference_written k a b (take n room)
-          → Came (modulus k) (longest k) (subtracted (field_at k) (longest k) a b) (part ++ drop n room) (sized.Words n)
+          → Came (modulus k) (longest k) (subtracted (field_at k) (longest k) a b) (part ++ drop n room) (Ok n)
       unfolding field_at
       came-difference f =
           let size : n ≡ length (of.difference_of (field_at k) a b) = e ∙ sym (length-difference (field_at k) a b ∙ larger-is (field_at k) (longest k) (longest-in k) a b l m) in
@@ -95,7 +99,7 @@ module _ (k : ℕ) where
       degrees : n ≡ suc (naive_degree a + naive_degree b)
       degrees = omega (arith, length-naive a l.some, length-naive b m.some)
 
-      pub over : longest k < n → Came (modulus k) (longest k) (multiplied (field_at k) (longest k) a b) room (sized.Refused Over)
+      pub over : longest k < n → Came (modulus k) (longest k) (multiplied (field_at k) (longest k) a b) room (Err Over)
       over h = rw (lt-ltb (longest k) (suc (naive_degree a + naive_degree b)) (omega (arith, degrees)))
 
       module _ (h : n ≤ longest k) where
@@ -103,7 +107,7 @@ module _ (k : ℕ) where
         product-fits-room = omega (arith, longest-room k)
 
         pub came-product : {part : List ℕ} → part ≡ product_written k a b (take n room)
-            → Came (modulus k) (longest k) (multiplied (field_at k) (longest k) a b) (part ++ drop n room) (sized.Words n)
+            → Came (modulus k) (longest k) (multiplied (field_at k) (longest k) a b) (part ++ drop n room) (Ok n)
         unfolding field_at
         came-product f =
             let some = l.some in
@@ -120,7 +124,7 @@ module _ (k : ℕ) where
     derivative-fits = omega (arith, l.short, longest-room k)
 
     pub came-derivative : {part : List ℕ} → part ≡ derivative_written k a (take n room)
-        → Came (modulus k) (longest k) (derived (field_at k) (longest k) a) (part ++ drop n room) (sized.Words n)
+        → Came (modulus k) (longest k) (derived (field_at k) (longest k) a) (part ++ drop n room) (Ok n)
     unfolding field_at
     came-derivative f =
         let words : length (of.derivative (field_at k) a) ≡ max (naive_degree a) 1 = unfold derivative_words in derivative-length (field_at k) a in

@@ -3,17 +3,18 @@
 --     lacks-program     of a tree and its program
 --     lacks-not         a program that lacks none: each of its operands is the number of a list
 --     one-operand, one-operator             the tests of one byte
---     lacks-here, lacks-on, lacks-none      the search, one byte on
+--     any-lacks                             the search for an operand that the album lacks
+--     bytes-known                           no byte of a program is higher than the operators
 -- Assumes nothing.
-use mathlib.Core.Path.{◌≡◌, refl, sym, ap, ap₂, ◌∙◌}
+use mathlib.Core.Path.{◌≡◌, refl, sym, ap, ap₂, ◌∙◌, subst}
 use mathlib.Core.Bool.{Bool, true, false, ◌||◌}
 use mathlib.Core.List.{List, [], ◌∷◌, ◌++◌}
-use Prim.Native.Nat.{ℕ, zero, suc, ◌+◌, ◌≤◌, ◌<◌}
-use native.Mathlib.Numerals.{add-one}
+use Prim.Native.Nat.{ℕ, zero, suc, ◌≤◌, ◌<◌}
 use native.Mathlib.Omega.{arith}
 use lib.Dec.{leb}
-use lib.ListN.{length, get_or, drop, drop_of_length-le}
-use lib.Seq.{drop-cons}
+use lib.ListN.{length, get_or}
+use Rattle.std.specs.List.{All, list_any}
+use Rattle.std.proofs.lemmas.List.Elements.{All-append, All-get_or}
 use borrow.Author.Tests.{lt-ltb, le-ltb, leb-false}
 use Rattle.refusal.proofs.First.{or-false}
 use Rattle.lines.specs.declared.Token.{Token}
@@ -73,21 +74,33 @@ module _ (n : ℕ) where
   lacks-not (x ∷ code) e zero l h = leb-false n x (sym (one-operand n x h) ∙ (or-false (lacks_one n x) (lacks_byte n code) e).0)
   lacks-not (x ∷ code) e (suc i) l h = lacks-not code (or-false (lacks_one n x) (lacks_byte n code) e).1 i (omega arith) h
 
-  -- the search, one byte on
-  module _ (code : List ℕ) (i : ℕ) where
-    lacks-next : i < length code → lacks_byte n (drop i code) ≡ (lacks_one n (get_or code i 0) || lacks_byte n (drop (i + 1) code))
-    unfolding lacks_byte
-    lacks-next l = ap (lacks_byte n) (drop-cons code i 0 l) ∙ ap (λ j. lacks_one n (get_or code i 0) || lacks_byte n (drop j code)) (sym (add-one i))
+  -- whether some byte is such an operand
+  pub any-lacks : (code : List ℕ) → list_any (lacks_one n) code ≡ lacks_byte n code
+  unfolding lacks_byte
+  any-lacks [] = refl
+  any-lacks (x ∷ code) = ap (λ b. lacks_one n x || b) (any-lacks code)
 
-    pub lacks-here : i < length code → lacks_one n (get_or code i 0) ≡ true → lacks_byte n (drop i code) ≡ true
-    lacks-here l e = lacks-next l ∙ simp e
+-- one byte, and two programs and an operator
+one-known : (x : ℕ) → x ≤ derive_byte → All (λ x. x ≤ derive_byte) (x ∷ [])
+one-known x l zero d h = l
+one-known x l (suc k) d h = absurd (omega arith)
 
-    pub lacks-on : i < length code → lacks_one n (get_or code i 0) ≡ false → lacks_byte n (drop i code) ≡ lacks_byte n (drop (i + 1) code)
-    lacks-on l e = lacks-next l ∙ simp e
+two-known : (a b : Tree) (x : ℕ) → x ≤ derive_byte → All (λ x. x ≤ derive_byte) (postfix a) → All (λ x. x ≤ derive_byte) (postfix b)
+    → All (λ x. x ≤ derive_byte) (postfix a ++ postfix b ++ (x ∷ []))
+two-known a b x l f g =
+    All-append (λ x. x ≤ derive_byte) (postfix a ++ postfix b) (x ∷ []) (All-append (λ x. x ≤ derive_byte) (postfix a) (postfix b) f g) (one-known x l)
 
-    pub lacks-none : length code ≤ i → lacks_byte n (drop i code) ≡ false
-    unfolding lacks_byte
-    lacks-none l = ap (lacks_byte n) (drop_of_length-le code l)
+-- no byte of a program is higher than the operators
+all-known : (e : Tree) → Small e → All (λ x. x ≤ derive_byte) (postfix e)
+unfolding postfix
+all-known (list k) h = one-known k (omega arith)
+all-known (sum a b) h = two-known a b add_byte (omega arith) (all-known a h.0) (all-known b h.1)
+all-known (difference a b) h = two-known a b subtract_byte (omega arith) (all-known a h.0) (all-known b h.1)
+all-known (product a b) h = two-known a b multiply_byte (omega arith) (all-known a h.0) (all-known b h.1)
+all-known (derivative a) h = All-append (λ x. x ≤ derive_byte) (postfix a) (derive_byte ∷ []) (all-known a h) (one-known derive_byte (omega arith))
+
+pub bytes-known : (e : Tree) → Small e → (code : List ℕ) → code ≡ postfix e → (i : ℕ) → i < length code → get_or code i 0 ≤ derive_byte
+bytes-known e h code is i l = All-get_or (λ x. x ≤ derive_byte) code i 0 l (subst (All (λ x. x ≤ derive_byte)) (sym is) (all-known e h))
 
 -- the tokens that read as a tree
 module _ (n : ℕ) where

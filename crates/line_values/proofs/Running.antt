@@ -14,7 +14,7 @@ use Prim.Native.Nat.{ℕ, suc, ◌+◌, ◌-◌, ◌*◌, ◌≤◌, ◌<◌}
 use native.Mathlib.Numerals.{add-one}
 use native.Mathlib.Omega.{arith}
 use lib.Dec.{eqb, ltb}
-use lib.ListN.{length, get_or, drop, drop_of_length-le}
+use lib.ListN.{length, get_or, take, drop, drop_of_length-le}
 use lib.Seq.{drop-cons}
 use Rattle.algebra.specs.PrimeField.{PrimeField}
 use Rattle.refusal.specs.Limits.{max_words}
@@ -25,12 +25,12 @@ use Rattle.album_layout.specs.Internal.{Passed}
 use Rattle.lines.specs.Program.{derive_byte, first_operator}
 use Rattle.lines.specs.Height.{height_behind, peak}
 use Rattle.lines.proofs.Peak.{peak-least, peak-program}
-use Rattle.line_values.specs.declared.Sized.TheVariants as sized
-use Rattle.line_values.specs.declared.Stepped.TheVariants as stepped
+use Rattle.line_values.specs.declared.Stack as held
 use Rattle.line_values.specs.Values.{Valued, value, refused, derived}
-use Rattle.line_values.specs.Internal.{max_height, Stack, State, stack, halted, stuck, onto, unary, binary, then, operation, operate, step, run, Stacked, Ready, Made, RunSo, Runs}
+use Rattle.line_values.specs.Internal.{max_height, Stack, State, stack, halted, stuck, onto, unary, binary, then, operation, operate, step, run, StackedIn, Empty, Ready, Stepped, Left, Runs}
 use Rattle.line_values.proofs.Machine.{enough}
-use Rattle.line_values.proofs.Programs.{lacks-not}
+use Rattle.line_values.proofs.Programs.{lacks-not, bytes-known}
+use Rattle.std.specs.Prelude.{Ok}
 
 -- the height of a state's stack
 abbrev height_of : State → ℕ
@@ -83,69 +83,103 @@ peak-next : (h x : ℕ) (code : List ℕ) → (h ≤ peak h (x ∷ code)) × (pe
 unfolding peak
 peak-next h x code = (omega arith, omega arith)
 
-pub record Running (k : ℕ) (s code words sizes : List ℕ) (top filled i : ℕ) : Type 0 where
+pub record Running (s code : List ℕ) (begun m : held.Stack) (i : ℕ) : Type 0 where
+  pub field : m.field ≡ begun.field
+  pub words-room : length m.words.now ≡ max_height * max_words
+  pub sizes_room : length m.sizes.now ≡ max_height
   pub st : Stack
-  pub stacked : Stacked (modulus k) (longest k) words sizes top filled st
-  pub same : run (field_at k) (longest k) (lists_of s) (drop i code) st ≡ run (field_at k) (longest k) (lists_of s) code []
-  pub high : peak top (drop i code) ≤ max_height
+  pub stacked : StackedIn m st
+  pub same : run (field_at m.field) (longest m.field) (lists_of s) (drop i code) st ≡ run (field_at m.field) (longest m.field) (lists_of s) code []
+  pub high : peak m.top (drop i code) ≤ max_height
 
 module _ {s code : List ℕ} (runs : Runs s code) where
-  pub run-start : (k : ℕ) (words sizes : List ℕ) → Running k s code words sizes 0 0 0
-  run-start k words sizes =
+  pub run-start : (m : held.Stack) → Empty m → Running s code m m 0
+  run-start m empty =
       record {
+        field = refl;
+        words-room = empty.words-room;
+        sizes_room = empty.sizes_room;
         st = [];
-        stacked = record { height = refl; size = refl; held = refl; lengths = refl; lists = tt };
+        stacked = record {
+          height = empty.no-list;
+          size = empty.no-word;
+          held = ap (λ n. take n m.words.now) empty.no-word;
+          lengths = ap (λ n. take n m.sizes.now) empty.no-list;
+          lists = tt;
+        };
         same = refl;
-        high = omega (arith, runs.low, ap (peak 0) runs.is, peak-program runs.tree runs.small);
+        high = omega (arith, runs.low, ap (peak 0) runs.is, peak-program runs.tree runs.small, ap (λ h. peak h code) empty.no-list);
       }
 
-  module _ {k : ℕ} {words sizes : List ℕ} {top filled i : ℕ} (r : Running k s code words sizes top filled i) where
+  module _ {begun m : held.Stack} {i : ℕ} (r : Running s code begun m i) where
     module _ (l : i < length code) where
       next : drop i code ≡ get_or code i 0 ∷ drop (i + 1) code
       next = drop-cons code i 0 l ∙ ap (λ j. get_or code i 0 ∷ drop j code) (sym (add-one i))
 
-      high-next : (top ≤ max_height) × (peak (height_behind top (get_or code i 0)) (drop (i + 1) code) ≤ max_height)
+      high-next : (m.top ≤ max_height) × (peak (height_behind m.top (get_or code i 0)) (drop (i + 1) code) ≤ max_height)
       high-next =
-          let p = peak-next top (get_or code i 0) (drop (i + 1) code) in
-          let q = ap (peak top) next in
+          let p = peak-next m.top (get_or code i 0) (drop (i + 1) code) in
+          let q = ap (peak m.top) next in
           let h = r.high in
           (omega (arith, p.0), omega (arith, p.1))
 
-      same_next : run (field_at k) (longest k) (lists_of s) (get_or code i 0 ∷ drop (i + 1) code) r.st ≡ run (field_at k) (longest k) (lists_of s) code []
-      same_next = ap (λ c. run (field_at k) (longest k) (lists_of s) c r.st) (sym next) ∙ r.same
+      same_next : run (field_at m.field) (longest m.field) (lists_of s) (get_or code i 0 ∷ drop (i + 1) code) r.st
+          ≡ run (field_at m.field) (longest m.field) (lists_of s) code []
+      same_next = ap (λ c. run (field_at m.field) (longest m.field) (lists_of s) c r.st) (sym next) ∙ r.same
 
-      pub run-ready : (room : List ℕ) → Passed (modulus k) s → length words ≡ max_height * max_words → length sizes ≡ max_height → length room ≡ max_words
-          → Ready (modulus k) (longest k) s (get_or code i 0) words sizes top filled room
-      run-ready room passed a b c =
-          let needs = enough (field_at k) (longest k) (lists_of s) runs.tree runs.small (get_or code i 0) (drop (i + 1) code) r.st
-          (same_next ∙ ap (λ c. run (field_at k) (longest k) (lists_of s) c []) runs.is) in
+      pub run-ready : Passed (modulus begun.field) s → Ready s (get_or code i 0) m
+      run-ready passed =
+          let needs = enough (field_at m.field) (longest m.field) (lists_of s) runs.tree runs.small (get_or code i 0) (drop (i + 1) code) r.st
+          (same_next ∙ ap (λ c. run (field_at m.field) (longest m.field) (lists_of s) c []) runs.is) in
           record {
-            passed = passed;
+            passed = subst (λ k. Passed (modulus k) s) (sym r.field) passed;
             there = lacks-not (count s) code runs.has i l;
-            lying = record { st = r.st; stacked = r.stacked; low = high-next.0; words-room = a; sizes_room = b; out_room = c };
+            known = bytes-known runs.tree runs.small code runs.is i l;
+            lying = record {
+              st = r.st;
+              stacked = r.stacked;
+              low = high-next.0;
+              words-room = r.words-room;
+              sizes_room = r.sizes_room;
+            };
             enough = omega (arith, r.stacked.height);
-            high = omega (arith, high-next.1, peak-least (height_behind top (get_or code i 0)) (drop (i + 1) code));
+            high = omega (arith, high-next.1, peak-least (height_behind m.top (get_or code i 0)) (drop (i + 1) code));
           }
 
-      pub run-next : {words' sizes' : List ℕ} {top' filled' : ℕ}
-          → Made (modulus k) (longest k) (step (field_at k) (longest k) (lists_of s) (get_or code i 0) r.st) words' sizes' (stepped.To top' filled')
-          → Running k s code words' sizes' top' filled' (i + 1)
-      run-next m =
-          let height = m.2.height ∙ step-height (field_at k) (longest k) (lists_of s) (get_or code i 0) r.st m.0 m.1
+      pub run-next : {m' : held.Stack} → Stepped (step (field_at m.field) (longest m.field) (lists_of s) (get_or code i 0)) m m' (Ok tt)
+          → Running s code begun m' (i + 1)
+      run-next {m'} made =
+          let kept = made.0 in
+          let on = made.1 r.st r.stacked in
+          let height = on.2.height ∙ step-height (field_at m.field) (longest m.field) (lists_of s) (get_or code i 0) r.st on.0 on.1
           ∙ ap (λ h. height_behind h (get_or code i 0)) (sym r.stacked.height) in
+          let all = sym (run-stack (field_at m.field) (longest m.field) (lists_of s) (get_or code i 0) (drop (i + 1) code) r.st on.0 on.1) ∙ same_next in
           record {
-            st = m.0;
-            stacked = m.2;
-            same = sym (run-stack (field_at k) (longest k) (lists_of s) (get_or code i 0) (drop (i + 1) code) r.st m.0 m.1) ∙ same_next;
+            field = kept.field ∙ r.field;
+            words-room = kept.words ∙ r.words-room;
+            sizes_room = kept.sizes ∙ r.sizes_room;
+            st = on.0;
+            stacked = on.2;
+            same = subst (λ k. run (field_at k) (longest k) (lists_of s) (drop (i + 1) code) on.0 ≡ run (field_at k) (longest k) (lists_of s) code []) (sym kept.field) all;
             high = subst (λ h. peak h (drop (i + 1) code) ≤ max_height) (sym height) high-next.1;
           }
 
-      pub run-halts : {why : Refusal} → step (field_at k) (longest k) (lists_of s) (get_or code i 0) r.st ≡ halted why
-          → run (field_at k) (longest k) (lists_of s) code [] ≡ halted why
-      run-halts e = sym same_next ∙ run-halted (field_at k) (longest k) (lists_of s) (get_or code i 0) (drop (i + 1) code) r.st e
+      pub run-halts : {why : Refusal} → step (field_at m.field) (longest m.field) (lists_of s) (get_or code i 0) r.st ≡ halted why
+          → run (field_at begun.field) (longest begun.field) (lists_of s) code [] ≡ halted why
+      run-halts {why} e =
+          subst (λ k. run (field_at k) (longest k) (lists_of s) code [] ≡ halted why) r.field
+          (sym same_next ∙ run-halted (field_at m.field) (longest m.field) (lists_of s) (get_or code i 0) (drop (i + 1) code) r.st e)
 
-    pub run_end : length code ≤ i → RunSo (modulus k) (longest k) (run (field_at k) (longest k) (lists_of s) code []) words (sized.Words filled)
+    pub run_end : length code ≤ i
+        → Left (run (field_at begun.field) (longest begun.field) (lists_of s) code []) begun.field m.filled m.words.now
     unfolding run
     run_end l =
         let h = r.stacked in
-        (r.st, sym r.same ∙ ap (λ c. run (field_at k) (longest k) (lists_of s) c r.st) (drop_of_length-le code l), h.size, h.held, h.lists)
+        subst (λ k. Left (run (field_at k) (longest k) (lists_of s) code []) k m.filled m.words.now) r.field
+        (record {
+          st = r.st;
+          is = sym r.same ∙ ap (λ c. run (field_at m.field) (longest m.field) (lists_of s) c r.st) (drop_of_length-le code l);
+          size = h.size;
+          held = h.held;
+          lists = h.lists;
+        })

@@ -4,7 +4,7 @@
 --     top-words           the last words are those of the list on top
 --     taken               the stack without the list on top
 --     put_on              the stack with a list more, whose words were put behind it
---     recount, reword     the same stack by other numbers and words
+--     reword              the same stack by other words
 --     Tops, tops          what is known of the numbers where the stack has a list
 --     Twos, twos          and where it has two
 -- Assumes nothing.
@@ -89,12 +89,7 @@ module _ {p most : ℕ} {words sizes : List ℕ} {top filled : ℕ} where
         lists = (l, h.lists);
       }
 
--- the same stack by other numbers and words
-pub recount : {p most : ℕ} {words sizes : List ℕ} {top filled top' filled' : ℕ} {s : Stack} → top ≡ top' → filled ≡ filled'
-    → Stacked p most words sizes top filled s → Stacked p most words sizes top' filled' s
-recount {p} {most} {words} {sizes} {top} {filled} {top'} {filled'} {s} e f h =
-    subst (λ a. Stacked p most words sizes a filled' s) e (subst (λ a. Stacked p most words sizes top a s) f h)
-
+-- the same stack by other words
 pub reword : {p most : ℕ} {words words' sizes : List ℕ} {top filled : ℕ} {s : Stack} → words ≡ words'
     → Stacked p most words sizes top filled s → Stacked p most words' sizes top filled s
 reword {p} {most} {words} {words'} {sizes} {top} {filled} {s} e h = subst (λ w. Stacked p most w sizes top filled s) e h

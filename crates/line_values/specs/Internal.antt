@@ -7,9 +7,11 @@
 --     packed, sizes_of           the words of the lists, the lowest list first, and their numbers of words
 --     Stacked                    the stack as it lies in two slices: `top` lists, whose `filled` words stand one behind the other
 --     operands_needed            how many lists a byte of the program takes off the stack
---     Lying, Ready               what the functions need that work on a stack, and what a step needs
+--     StackedIn                  the same of the slices of a stack of the program
+--     Lying, Empty, Ready        what the methods need that work on a stack, what the run needs, and a step
 --     Came                       what an operation comes to, in a slice
---     StepSo, RunSo              what a step and the run leave
+--     popped, Pushed             the stack without the list on top, and with one more
+--     Same, Stepped, Left, Ran   what a step leaves, and the run
 --     lacks_one, lacks_byte      a byte of a program is an operand that an album of so many lists lacks; the program has one
 --     ValueSo                    what the program's tree comes to, in a slice of as many words as the longest list has
 --     Runs                       a program that can be run: that of a tree whose lists the album has, and for which the stack is high enough
@@ -17,12 +19,12 @@
 --     run-program              the program of a tree leaves the tree's value
 --     lacks-program            a tree lacks a list exactly where its program does
 -- Assumes nothing.
-use Rattle.std.specs.Prelude.{◌≡◌, Bool, false, cond, ◌&&◌, ◌||◌, List, [], ◌∷◌, ◌++◌, ℕ, ◌+◌, ◌*◌, ◌≤◌, ◌<◌, eqb, leb, ltb, length, get_or, take}
+use Rattle.std.specs.Prelude.{◌≡◌, Bool, false, cond, ◌&&◌, ◌||◌, List, [], ◌∷◌, ◌++◌, ℕ, ◌+◌, ◌*◌, ◌≤◌, ◌<◌, eqb, leb, ltb, length, get_or, take, drop, set, ◌-◌, Result, Ok, Err}
 use Rattle.algebra.specs.PrimeField.{PrimeField}
 use Rattle.refusal.specs.Limits.{max_open, max_words}
 use Rattle.refusal.specs.Refusal.{Reply, reply, written}
 use Rattle.refusal.specs.declared.Refusal.{Refusal}
-use Rattle.field.specs.Fields.{field_at, longest}
+use Rattle.field.specs.Fields.{modulus, field_at, longest}
 use Rattle.lists.specs.Degrees.{naive_degree}
 use Rattle.lists.specs.Padded.{padded}
 use Rattle.lists.specs.Refused.{IsList}
@@ -33,10 +35,7 @@ use Rattle.lines.specs.Program.{add_byte, subtract_byte, derive_byte, first_oper
 use Rattle.lines.specs.Height.{needed, height_behind}
 use Rattle.line_values.specs.Values.{Valued, value, refused, added, subtracted, multiplied, derived, value_of}
 use Rattle.line_values.specs.Calls.{late_of, list_in}
-use Rattle.line_values.specs.declared.Sized.{Sized}
-use Rattle.line_values.specs.declared.Sized.TheVariants as sized
-use Rattle.line_values.specs.declared.Stepped.{Stepped}
-use Rattle.line_values.specs.declared.Stepped.TheVariants as stepped
+use Rattle.line_values.specs.declared.Stack as held
 
 abbrev pub max_height : ℕ
 max_height = 2 * max_open + 3
@@ -105,42 +104,72 @@ pub record Stacked (p most : ℕ) (words sizes : List ℕ) (top filled : ℕ) (s
 unfoldable pub operands_needed : ℕ → ℕ
 operands_needed x = cond (ltb x first_operator) 0 (cond (eqb x derive_byte) 1 2)
 
--- some stack lies in the slices
-pub record Lying (p most : ℕ) (words sizes : List ℕ) (top filled : ℕ) (room : List ℕ) : Type 0 where
-  pub st : Stack
-  pub stacked : Stacked p most words sizes top filled st
-  pub low : top ≤ max_height
-  pub words-room : length words ≡ max_height * max_words
-  pub sizes_room : length sizes ≡ max_height
-  pub out_room : length room ≡ max_words
+-- the same of the slices of a stack of the program
+abbrev pub StackedIn : held.Stack → Stack → Type 0
+StackedIn m s = Stacked (modulus m.field) (longest m.field) m.words.now m.sizes.now m.top m.filled s
 
-pub record Ready (p most : ℕ) (s : List ℕ) (x : ℕ) (words sizes : List ℕ) (top filled : ℕ) (room : List ℕ) : Type 0 where
-  pub passed : Passed p s
+-- some stack lies in the slices
+pub record Lying (m : held.Stack) : Type 0 where
+  pub st : Stack
+  pub stacked : StackedIn m st
+  pub low : m.top ≤ max_height
+  pub words-room : length m.words.now ≡ max_height * max_words
+  pub sizes_room : length m.sizes.now ≡ max_height
+
+pub record Empty (m : held.Stack) : Type 0 where
+  pub no-list : m.top ≡ 0
+  pub no-word : m.filled ≡ 0
+  pub words-room : length m.words.now ≡ max_height * max_words
+  pub sizes_room : length m.sizes.now ≡ max_height
+
+pub record Ready (s : List ℕ) (x : ℕ) (m : held.Stack) : Type 0 where
+  pub passed : Passed (modulus m.field) s
   pub there : x < first_operator → x < count s
-  pub lying : Lying p most words sizes top filled room
-  pub enough : operands_needed x ≤ top
-  pub high : height_behind top x ≤ max_height
+  pub known : x ≤ derive_byte
+  pub lying : Lying m
+  pub enough : operands_needed x ≤ m.top
+  pub high : height_behind m.top x ≤ max_height
 
 -- v is what an operation comes to, and the slice holds its list in front
-abbrev pub Came : (p most : ℕ) → Valued → (out : List ℕ) → Sized → Type 0
-Came p most v out (sized.Words n) = (c : List ℕ) × (v ≡ value c) × (n ≡ length c) × (take n out ≡ c) × IsList p most c
-Came p most v out (sized.Refused why) = v ≡ refused why
+abbrev pub Came : (p most : ℕ) → Valued → (out : List ℕ) → Result ℕ Refusal → Type 0
+Came p most v out (Ok n) = (c : List ℕ) × (v ≡ value c) × (n ≡ length c) × (take n out ≡ c) × IsList p most c
+Came p most v out (Err why) = v ≡ refused why
 
--- what a byte of the program makes of the stack
-abbrev pub Made : (p most : ℕ) → State → (words sizes : List ℕ) → Stepped → Type 0
-Made p most next words sizes (stepped.To top filled) = (st : Stack) × (next ≡ stack st) × Stacked p most words sizes top filled st
-Made p most next words sizes (stepped.Refused why) = next ≡ halted why
+-- the field, and the room there is
+pub record Same (old new : held.Stack) : Type 0 where
+  pub field : new.field ≡ old.field
+  pub words : length new.words.now ≡ length old.words.now
+  pub sizes : length new.sizes.now ≡ length old.sizes.now
 
--- of every stack that lies in the slices
-abbrev pub StepSo : (p most : ℕ) → (Stack → State) → (words sizes : List ℕ) → (top filled : ℕ) → (words' sizes' : List ℕ) → Stepped → Type 0
-StepSo p most does words sizes top filled words' sizes' r =
-    (st : Stack) → Stacked p most words sizes top filled st → Made p most (does st) words' sizes' r
+-- without the list on top
+abbrev pub popped : held.Stack → held.Stack
+popped m = record m { top = m.top - 1; filled = m.filled - get_or m.sizes.now (m.top - 1) 0 }
+
+pub record Pushed (list : List ℕ) (old new : held.Stack) : Type 0 where
+  pub same : Same old new
+  pub words : new.words.now ≡ take old.filled old.words.now ++ (list ++ drop (old.filled + length list) old.words.now)
+  pub sizes : new.sizes.now ≡ set old.sizes.now old.top (length list)
+  pub top : new.top ≡ old.top + 1
+  pub filled : new.filled ≡ old.filled + length list
+
+-- what is made of the stack, whichever it is
+abbrev pub Stepped : (Stack → State) → (old new : held.Stack) → Result (Unit {0}) Refusal → Type 0
+Stepped does old new (Ok done) =
+    Same old new × ((st : Stack) → StackedIn old st → (st' : Stack) × (does st ≡ stack st') × StackedIn new st')
+Stepped does old new (Err why) = (st : Stack) → StackedIn old st → does st ≡ halted why
 
 -- what the whole run leaves
-abbrev pub RunSo : (p most : ℕ) → State → (words : List ℕ) → Sized → Type 0
-RunSo p most end words (sized.Words n) =
-    (st : Stack) × (end ≡ stack st) × (n ≡ length (packed st)) × (take n words ≡ packed st) × Lists p most st
-RunSo p most end words (sized.Refused why) = end ≡ halted why
+pub record Left (end : State) (k n : ℕ) (words : List ℕ) : Type 0 where
+  pub st : Stack
+  pub is : end ≡ stack st
+  pub size : n ≡ length (packed st)
+  pub held : take n words ≡ packed st
+  pub lists : Lists (modulus k) (longest k) st
+
+abbrev pub Ran : (s code : List ℕ) → (old new : held.Stack) → Result (Unit {0}) Refusal → Type 0
+Ran s code old new (Ok done) =
+    Left (run (field_at old.field) (longest old.field) (lists_of s) code []) old.field new.filled new.words.now
+Ran s code old new (Err why) = run (field_at old.field) (longest old.field) (lists_of s) code [] ≡ halted why
 
 unfoldable pub lacks_one : ℕ → ℕ → Bool
 lacks_one lists x = ltb x first_operator && leb lists x

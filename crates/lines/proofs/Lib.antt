@@ -1,6 +1,7 @@
 pub mod Readings
 pub mod Lines
 pub mod Operands
+pub mod Operators
 pub mod Height
 pub mod Peak
 pub mod Examples

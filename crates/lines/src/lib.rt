@@ -70,7 +70,8 @@ pub enum Token {
     Wrong,
 }
 
-// A line that is read from a place on, and its program, of which so many bytes are written.
+// A line that is read from a place on, and its program, of which so many bytes are written. That there is room for what is still to be read is
+// required by the methods, and no ghost field: each of their writes would have to show it again.
 #[derive(Drop)]
 struct Parser<'a> {
     line: &'a [u8],
@@ -117,20 +118,16 @@ fn read_into(line: &[u8], code: &mut [u8]) -> Result<usize, Refusal>
 }
 
 // How many parentheses are open behind a byte, of so many open before it.
+#[tactic(auto, unfolding(crate::specs::Grammar::open_behind))]
 fn open_behind(before: usize, b: u8) -> usize
     requires { before < max_line }
     ensures { result ≡ open_behind before b }
 {
-    if b == b'(' {
-        return before + 1;
+    match b {
+        b'(' => before + 1,
+        b')' => before.saturating_sub(1),
+        _ => before,
     }
-    if b == b')' {
-        if before == 0 {
-            return 0;
-        }
-        return before - 1;
-    }
-    before
 }
 
 // The most parentheses that are open together.
@@ -148,6 +145,7 @@ fn nesting(line: &[u8]) -> usize
 }
 
 // The token of a byte that is no digit and no space.
+#[tactic(auto, unfolding(crate::specs::Grammar::sign_of))]
 fn sign_of(b: u8) -> Token
     ensures { result ≡ sign_of b }
 {

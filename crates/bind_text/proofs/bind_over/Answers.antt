@@ -6,6 +6,7 @@ use Prim.Native.Nat.{◌≤◌}
 use native.Mathlib.Omega.{arith}
 use lib.Seq.{length-take-le}
 use Rattle.std.specs.Prelude.{Ok}
+use Rattle.std.proofs.lemmas.Result.{err_from_is_err_and}
 use Rattle.refusal.specs.Lowest.{lowest}
 use Rattle.field.specs.Fields.{modulus}
 use Rattle.field.proofs.Fields.{modulus-high}
@@ -15,6 +16,12 @@ use Rattle.bind_text.proofs.Judged.{text-sound, bind-refused, given-loaded, bind
 use Rattle.refusal.proofs.Clauses.{answer_and_writes}
 use borrow.Author.Rules.{rules}
 use Rattle.bind_text.proofs.bind_over.Goals as goal
+
+pub returns-in_err-judge_text : goal.returns-in_err-judge_text
+returns-in_err-judge_text c =
+    let args = c.args in
+    let p = err_from_is_err_and c.from_residual.result c.from_residual.ensures.1 in
+    rw (p.1, p.2) (answer_and_writes (bind-refused (modulus args.field) args.text.now args.out.now (sym c.judge_text.ensures ∙ c.in_err-judge_text.was)))
 
 pub read_lines-n-requires : goal.read_lines-n-requires
 read_lines-n-requires c =

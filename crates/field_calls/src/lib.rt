@@ -46,5 +46,5 @@ pub fn inverse(a: u16) -> Result<u16, Refusal>
     ensures demand2 { InverseSo F65521 a (word_reply result) }
 {
     let inverses = field_tables::inverses(0);
-    field_inverse::inverse_over(0, &inverses, a)
+    field_inverse::inverse_over(0, inverses, a)
 }

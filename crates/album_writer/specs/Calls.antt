@@ -9,9 +9,9 @@
 --     written_reply        what the answer says: the number of bytes
 -- Assumes nothing.
 use Rattle.refusal.specs.declared.Refusal.{Refusal}
-use Rattle.std.specs.Prelude.{Bool, false, not, ◌||◌, List, [], ◌∷◌, ◌++◌, ℕ, eqb, ltb, length, drop, Ok, Err, Result}
+use Rattle.std.specs.Prelude.{Bool, false, not, ◌||◌, List, [], ◌∷◌, ◌++◌, ℕ, eqb, ltb, length, drop, Result}
 use Rattle.refusal.specs.Limits.{max_degree, max_lists, max_bytes}
-use Rattle.refusal.specs.Refusal.{Reply, number, reply, written, value_reply}
+use Rattle.refusal.specs.Refusal.{Reply, reply, written, value_reply}
 use Rattle.refusal.specs.Lowest.{Condition, ◌given-when◌, lowest}
 use Rattle.refusal.specs.declared.Refusal.TheVariants.{Count, Contents, Length, LooseWord, Misfit}
 use Rattle.field.specs.Fields.{modulus}

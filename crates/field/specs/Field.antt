@@ -18,9 +18,9 @@
 --     has-inverse                                                           so none but 0 is refused for lack of one
 -- Assumes nothing.
 use Rattle.refusal.specs.declared.Refusal.{Refusal}
-use Rattle.std.specs.Prelude.{◌≡◌, Bool, false, cond, not, ◌&&◌, ◌||◌, List, [], ◌∷◌, ℕ, zero, suc, ◌+◌, ◌-◌, ◌*◌, ◌%◌, ◌≤◌, ◌<◌, leb, ltb, eqb, Ok, Err, Result}
+use Rattle.std.specs.Prelude.{◌≡◌, Bool, false, cond, not, ◌&&◌, ◌||◌, List, [], ◌∷◌, ℕ, zero, suc, ◌+◌, ◌-◌, ◌*◌, ◌%◌, ◌≤◌, ◌<◌, leb, ltb, eqb, Result}
 use Rattle.algebra.specs.PrimeField.{PrimeField, residue, value, inverse}
-use Rattle.refusal.specs.Refusal.{Reply, number, value_reply}
+use Rattle.refusal.specs.Refusal.{Reply, value_reply}
 use Rattle.refusal.specs.Lowest.{Condition, ◌given-when◌}
 use Rattle.refusal.specs.declared.Refusal.TheVariants.{LooseWord, AllZero, NoInverse}
 

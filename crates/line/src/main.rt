@@ -2,7 +2,6 @@
 // arguments: given any, it says how it is run. Messages go to standard error, so that nothing but a text is on standard output.
 #![tactic(auto)]
 
-
 // One byte more than the longest line, the byte 0A after it and the largest album have: a longer album is read as longer, and so refused.
 const ROOM: usize = refusal::MAX_LINE + 1 + refusal::MAX_BYTES + 1;
 

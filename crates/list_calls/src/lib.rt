@@ -138,7 +138,13 @@ pub fn gcd_of(f: &[u16], g: &[u16], h: &mut [u16]) -> Result<Gcd, Refusal>
 }
 
 // The GCD of f and g with its cofactors: a·f + b·g = (1-t)^(m-w)·h.
-pub fn find_cofactors(f: &[u16], g: &[u16], h: &mut [u16], a: &mut [u16], b: &mut [u16]) -> Result<Gcd, Refusal>
+pub fn find_cofactors(
+    f: &[u16],
+    g: &[u16],
+    h: &mut [u16],
+    a: &mut [u16],
+    b: &mut [u16],
+) -> Result<Gcd, Refusal>
     ensures answer { gcd_reply result ≡ cofactor_answer 0 f.now g.now h.old a.old b.old }
     ensures gcd { h.new ≡ cofactor_gcd 0 f.now g.now h.old a.old b.old }
     ensures cofactor_a { a.new ≡ cofactors_written_a 0 f.now g.now h.old a.old b.old }

@@ -2,7 +2,6 @@
 // run. Messages go to standard error, so that nothing but a report is on standard output.
 #![tactic(auto)]
 
-
 // One byte more than the largest album has: a longer input is read as longer, and so refused.
 const ROOM: usize = refusal::MAX_BYTES + 1;
 

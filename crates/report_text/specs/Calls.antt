@@ -7,9 +7,9 @@
 --     text_reply           what the answer says: the number of bytes of the text
 -- Assumes nothing.
 use Rattle.refusal.specs.declared.Refusal.{Refusal}
-use Rattle.std.specs.Prelude.{not, List, [], ◌∷◌, ℕ, ◌*◌, eqb, length, Ok, Err, Result}
+use Rattle.std.specs.Prelude.{not, List, [], ◌∷◌, ℕ, ◌*◌, eqb, length, Result}
 use Rattle.refusal.specs.Limits.{max_words}
-use Rattle.refusal.specs.Refusal.{Reply, number, reply, written, value_reply}
+use Rattle.refusal.specs.Refusal.{Reply, reply, written, value_reply}
 use Rattle.refusal.specs.Lowest.{Condition, ◌given-when◌, lowest}
 use Rattle.refusal.specs.declared.Refusal.TheVariants.{Misfit}
 use Rattle.field.specs.Fields.{modulus, field_at}

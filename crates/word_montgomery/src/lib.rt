@@ -22,11 +22,7 @@ pub fn sub_below(a: u16, b: u16, p: u16) -> u16
     ensures { result ≡ (a + (p - b)) % p }
 {
     let d = a.wrapping_sub(b);
-    if a < b {
-        d.wrapping_add(p)
-    } else {
-        d
-    }
+    if a < b { d.wrapping_add(p) } else { d }
 }
 
 // A word modulo p, where p is at least half of 2^16.

@@ -22,8 +22,10 @@ pub fn line_text_over(field: u8, input: &[u8], out: &mut [u8]) -> Result<usize, 
     }
     let mut page = Page::new();
     put_text(field, input, &mut page);
-    out.copy_from_slice(&page.bytes);
-    Ok(page.used)
+    let n = page.used;
+    out[..n].copy_from_slice(&page.bytes[..n]);
+    report_text::clear(n, out);
+    Ok(n)
 }
 
 // The text: the input is cut into the line and the album. Without a byte 0A no album is left.

@@ -3,26 +3,29 @@
 -- Assumes nothing.
 use mathlib.Core.Path.{◌≡◌, refl, sym, ◌∙◌, ap, subst}
 use mathlib.Core.List.{List, [], ◌∷◌, ◌++◌, append_assoc, append-nil}
-use Prim.Native.Nat.{ℕ, ◌+◌, ◌≤◌, ◌<◌}
+use Prim.Native.Nat.{ℕ, ◌+◌, ◌<◌}
 use native.Mathlib.Numerals.{add-one}
 use native.Mathlib.Decide.{dec_lt}
 use native.Mathlib.Omega.{arith}
 use lib.ListN.{length, get_or, take, set, replicate, length-append, length-set, length-replicate, get_or-replicate, get_or-eq_default}
 use lib.Seq.{take-suc-set}
-use Rattle.std.proofs.lemmas.List.{get_or-take}
-use Rattle.lists.specs.Padded.{padded}
+use Rattle.std.proofs.lemmas.List.{get_or-set_other}
 use Rattle.lists.specs.Words.{ZeroFrom}
-use Rattle.lists.proofs.Padded.{padded-is}
 use Rattle.report_text.specs.Internal.{Room, Put}
 
 -- nothing
 pub put-none : (at : ℕ) (a : List ℕ) → Put [] at a a at
-put-none at a = record { same = refl; next = omega arith; bytes = sym (append-nil (take at a)) }
+put-none at a = record { same = refl; next = omega arith; bytes = sym (append-nil (take at a)); after = λ k l. refl }
 
 -- one byte stored
 pub put_byte : (v at : ℕ) (a : List ℕ) → at < length a → Put (v ∷ []) at a (set a at v) (at + 1)
 put_byte v at a l =
-    record { same = length-set a at v; next = omega arith; bytes = rw add-one (take-suc-set a at v l) }
+    record {
+      same = length-set a at v;
+      next = omega arith;
+      bytes = rw add-one (take-suc-set a at v l);
+      after = λ k m. get_or-set_other a at k v 0 (λ e. omega arith);
+    }
 
 module _ {t u : List ℕ} {at k : ℕ} {a b : List ℕ} where
   pub put_then : {r : ℕ} {c : List ℕ} → Put t at a b k → Put u k b c r → Put (t ++ u) at a c r
@@ -31,6 +34,7 @@ module _ {t u : List ℕ} {at k : ℕ} {a b : List ℕ} where
         same = y.same ∙ x.same;
         next = omega (arith, x.next, y.next, length-append t u);
         bytes = y.bytes ∙ ap (λ l. l ++ u) x.bytes ∙ append_assoc (take at a) t u;
+        after = λ j l. y.after j l ∙ x.after j (omega (arith, y.next));
       }
 
   -- the room that is left after the first of two texts
@@ -45,6 +49,10 @@ room-first t u w = record { fits = omega (arith, w.fits, length-append t u) }
 pub put_is : {t u : List ℕ} {at r k : ℕ} {a b : List ℕ} → t ≡ u → r ≡ k → Put t at a b r → Put u at a b k
 put_is {t} {u} {at} {r} {k} {a} {b} e q x = subst (λ l. Put l at a b k) e (subst (λ n. Put t at a b n) q x)
 
+-- the bytes after a text stay 0
+pub zeros-stay : {t : List ℕ} {at r : ℕ} {a b : List ℕ} → Put t at a b r → ZeroFrom at a → ZeroFrom r b
+zeros-stay x z = record { at = λ k l. x.after k l ∙ z.at k (omega (arith, x.next)) }
+
 -- the bytes of a page with no text
 abbrev zeros : ℕ → List ℕ
 zeros n = replicate n 0
@@ -55,17 +63,6 @@ zero-at n k (no l) = get_or-eq_default (zeros n) 0 (omega (arith, length-replica
 
 pub all-zero : (n : ℕ) → ZeroFrom 0 (replicate n 0)
 all-zero n = record { at = λ k l. zero-at n k (dec_lt k n) }
-
--- the bytes of a page are its text, zeros after it
-pub page-is : {t a b : List ℕ} {r : ℕ} → Put t 0 a b r → r ≤ length b → ZeroFrom r b → b ≡ padded (length b) t
-page-is {t} {a} {b} {r} x l z =
-    let text : take r b ≡ t = x.bytes in
-    let size : length t ≡ r = omega (arith, x.next) in
-    padded-is (length b) t b (omega (arith, l)) refl (λ i j. same text size i (dec_lt i r))
-  where
-    same : take r b ≡ t → length t ≡ r → (k : ℕ) → Dec (k < r) → get_or b k 0 ≡ get_or t k 0
-    same e n k (yes h) = sym (get_or-take r b k 0 h) ∙ ap (λ l. get_or l k 0) e
-    same e n k (no h) = z.at k (omega arith) ∙ sym (get_or-eq_default t 0 (omega arith))
 
 -- the same room, written otherwise
 pub room-is : {t u : List ℕ} {at : ℕ} {a : List ℕ} → t ≡ u → Room t at a → Room u at a

@@ -1,10 +1,11 @@
 -- The whole report: the room of its parts, and what the call answers.
 -- Assumes nothing.
-use mathlib.Core.Path.{◌≡◌, refl, sym, ◌∙◌, ap}
+use mathlib.Core.Path.{◌≡◌, refl, sym, ◌∙◌, ap, ap₂}
 use mathlib.Core.List.{List, [], ◌∷◌, ◌++◌}
 use Prim.Native.Nat.{ℕ, ◌+◌, ◌*◌, ◌≤◌}
 use native.Mathlib.Omega.{arith}
-use lib.ListN.{length, get_or}
+use lib.ListN.{length, get_or, take, drop, length-append, length-drop}
+use lib.Seq.{take-append_seam}
 use borrow.Author.Tests.{eq-eqb, ne_eqb}
 use Rattle.std.specs.Prelude.{Ok, Err, Result}
 use Rattle.algebra.specs.PrimeField.{PrimeField}
@@ -13,7 +14,6 @@ use Rattle.refusal.specs.Refusal.{reply, written, Outcome}
 use Rattle.refusal.specs.Lowest.{lower, lowest}
 use Rattle.refusal.specs.declared.Refusal.{Refusal}
 use Rattle.refusal.specs.declared.Refusal.TheVariants.{Misfit}
-use Rattle.lists.specs.Words.{ZeroFrom}
 use Rattle.lists.specs.Padded.{padded}
 use Rattle.lists.proofs.Padded.{padded-inside}
 use Rattle.album_layout.specs.Layout.{count, lists_of}
@@ -25,7 +25,7 @@ use Rattle.report_text.specs.Text.{decimal, line}
 use Rattle.report_text.specs.Report.{⟨lists⟩, list_lines, refused_line, sound_report, report_of}
 use Rattle.report_text.specs.Calls.{max_text, report_rows, text_reply}
 use Rattle.report_text.specs.Internal.{Room, Put, max_answer, answer_lines}
-use Rattle.report_text.proofs.Puts.{put_is, put_then, page-is}
+use Rattle.report_text.proofs.Puts.{put_is, put_then}
 use Rattle.report_text.proofs.Fits.{named-fits, lines_fit}
 use Rattle.report_text.proofs.Sound.{sound-lines}
 
@@ -86,12 +86,17 @@ pub misfit : (t a : List ℕ) → ¬ (length a ≡ max_text)
     → (text_reply (Err Misfit) ≡ reply (lowest (report_rows a)) (length t ∷ [])) × (a ≡ written (lowest (report_rows a)) (padded max_text t) a)
 misfit t a f = rw (report-misfit a f) (refl, refl)
 
--- and where the slice is a page with the text t
-pub paged : (a : List ℕ) {t b c d : List ℕ} {r : ℕ} → length a ≡ max_text → Put t 0 b c r → length c ≡ max_text → r ≤ max_text → ZeroFrom r c → d ≡ c
-    → (text_reply (Ok r) ≡ reply (lowest (report_rows a)) (length t ∷ [])) × (d ≡ written (lowest (report_rows a)) (padded max_text t) a)
-paged a {t} {b} {c} {d} {r} q x w l z e =
+-- and where the text t of a page is copied to the front, and zeros follow it
+pub shown : (a : List ℕ) {t b c d e : List ℕ} {r : ℕ} → length a ≡ max_text → Put t 0 b c r → r ≤ max_text → d ≡ take r c
+    → e ≡ padded (length (d ++ drop r a)) (take r (d ++ drop r a))
+    → (text_reply (Ok r) ≡ reply (lowest (report_rows a)) (length t ∷ [])) × (e ≡ written (lowest (report_rows a)) (padded max_text t) a)
+shown a {t} {b} {c} {d} {e} {r} q x l f g =
     let n : r ≡ length t = omega (arith, x.next) in
-    rw (report-done a q) (ap (λ k. text_reply (Ok k)) n, e ∙ page-is x (omega (arith, w)) z ∙ ap (λ m. padded m t) w)
+    let text : d ≡ t = f ∙ x.bytes in
+    let front : take r (d ++ drop r a) ≡ t =
+    ap (λ k. take k (d ++ drop r a)) (n ∙ ap length (sym text)) ∙ take-append_seam d (drop r a) ∙ text in
+    let size : length (d ++ drop r a) ≡ max_text = simp (length-append, length-drop) (omega (arith, ap length text)) in
+    rw (report-done a q) (ap (λ k. text_reply (Ok k)) n, g ∙ ap₂ padded size front)
 
 -- for a caller: the text that an answer names lies in the slice
 inside-so : (t a : List ℕ) (o : Outcome) {c : List ℕ} {k : ℕ} → text_reply (Ok k) ≡ reply o (length t ∷ [])

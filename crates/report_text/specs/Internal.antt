@@ -1,11 +1,11 @@
 -- What the functions behind the report need and do.
 --     Room             a text fits into a slice from a place on
---     Put              a slice after a text is put at a place: the bytes before it stay, and r is the place after it
+--     Put              a slice after a text is put at a place: the bytes before it and after it stay, and r is the place after it
 --     line_end         a list's line after its naive degree: a space, then the extent and the power, or `-` for each
 --     answer_lines     the report's lines after those of the lists
 --     max_answer       a bound on their bytes: `gcd` and two numbers, then at most max_words words, each of at most five digits
 -- Assumes nothing.
-use Rattle.std.specs.Prelude.{◌≡◌, cond, List, [], ◌∷◌, ◌++◌, ℕ, ◌+◌, ◌*◌, ◌≤◌, eqb, length, take}
+use Rattle.std.specs.Prelude.{◌≡◌, cond, List, [], ◌∷◌, ◌++◌, ℕ, ◌+◌, ◌*◌, ◌≤◌, eqb, length, get_or, take}
 use Rattle.algebra.specs.PrimeField.{PrimeField}
 use Rattle.refusal.specs.Limits.{max_words}
 use Rattle.refusal.specs.declared.Refusal.TheVariants.{AllZero}
@@ -23,6 +23,7 @@ pub record Put (text : List ℕ) (at : ℕ) (old new : List ℕ) (r : ℕ) : Typ
   pub same : length new ≡ length old
   pub next : r ≡ at + length text
   pub bytes : take r new ≡ take at old ++ text
+  pub after : (k : ℕ) → r ≤ k → get_or new k 0 ≡ get_or old k 0
 
 unfoldable pub line_end : List ℕ → List ℕ
 line_end c = 32 ∷ line (cond (eqb (significant c) 0) (⟨-⟩ ∷ ⟨-⟩ ∷ []) (decimal (extent c) ∷ decimal (power c) ∷ []))

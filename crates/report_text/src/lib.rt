@@ -13,11 +13,13 @@ ghost use Rattle.report_text.specs.Calls.{max_text, report_answer, report_writte
 ghost use Rattle.report_text.specs.Internal.{Room, Put, line_end, max_answer, answer_lines};
 
 mod page;
+mod slice;
 
 use list_gcd::Gcd;
 use lists::Power;
 pub use page::Page;
 use refusal::Refusal;
+pub use slice::{clear, put_refused, put_words};
 
 // The bytes of the result slice, eight for each word of the longest list: a word of h takes at most six, five digits and a space, and the
 // other lines take less than two for each word.
@@ -33,8 +35,10 @@ pub fn report_over(field: u8, album: &[u8], out: &mut [u8]) -> Result<usize, Ref
     }
     let mut page = Page::new();
     put_report(field, album, &mut page);
-    out.copy_from_slice(&page.bytes);
-    Ok(page.used)
+    let n = page.used;
+    out[..n].copy_from_slice(&page.bytes[..n]);
+    clear(n, out);
+    Ok(n)
 }
 
 // The report, which may be that the album is refused.

@@ -6,7 +6,7 @@ ghost use Rattle.report_text.specs.Report.{refused_line};
 ghost use Rattle.report_text.specs.Calls.{max_text};
 ghost use Rattle.report_text.specs.Internal.{Room, Put};
 
-use crate::MAX_TEXT;
+use crate::{MAX_TEXT, slice};
 use refusal::Refusal;
 
 #[derive(Drop)]
@@ -35,8 +35,7 @@ impl Page {
         requires { Room (byte ∷ []) self.old.used self.old.bytes }
         ensures { Put (byte ∷ []) self.old.used self.old.bytes self.new.bytes self.new.used }
     {
-        self.bytes[self.used] = byte;
-        self.used += 1;
+        self.used = slice::put(byte, self.used, &mut self.bytes);
     }
 
     // Some bytes more.
@@ -44,9 +43,7 @@ impl Page {
         requires { Room bytes.now self.old.used self.old.bytes }
         ensures { Put bytes.now self.old.used self.old.bytes self.new.bytes self.new.used }
     {
-        for &byte in bytes {
-            self.put(byte);
-        }
+        self.used = slice::put_bytes(bytes, self.used, &mut self.bytes);
     }
 
     // A number in decimal digits.
@@ -54,10 +51,7 @@ impl Page {
         requires { Room (decimal n) self.old.used self.old.bytes }
         ensures { Put (decimal n) self.old.used self.old.bytes self.new.bytes self.new.used }
     {
-        if n >= 10 {
-            self.put_number(n / 10);
-        }
-        self.put(b'0' + (n % 10) as u8);
+        self.used = slice::put_number(n, self.used, &mut self.bytes);
     }
 
     // A space and a number.
@@ -65,8 +59,7 @@ impl Page {
         requires { Room (32 ∷ decimal n) self.old.used self.old.bytes }
         ensures { Put (32 ∷ decimal n) self.old.used self.old.bytes self.new.bytes self.new.used }
     {
-        self.put(b' ');
-        self.put_number(n);
+        self.used = slice::put_field(n, self.used, &mut self.bytes);
     }
 
     // A line of a name and a number.
@@ -74,9 +67,7 @@ impl Page {
         requires { Room (line (name.now ∷ decimal n ∷ [])) self.old.used self.old.bytes }
         ensures { Put (line (name.now ∷ decimal n ∷ [])) self.old.used self.old.bytes self.new.bytes self.new.used }
     {
-        self.put_bytes(name);
-        self.put_field(n);
-        self.put(b'\n');
+        self.used = slice::put_named(name, n, self.used, &mut self.bytes);
     }
 
     // The line of a refusal.
@@ -84,7 +75,7 @@ impl Page {
         requires { Room (refused_line why) self.old.used self.old.bytes }
         ensures { Put (refused_line why) self.old.used self.old.bytes self.new.bytes self.new.used }
     {
-        self.put_named(b"refused", u8::from(why) as usize);
+        self.used = slice::put_refused(why, self.used, &mut self.bytes);
     }
 
     // The words of a list on a line, one space between them.
@@ -92,10 +83,6 @@ impl Page {
         requires { (0 < length words.now) × (Room (line (map decimal words.now)) self.old.used self.old.bytes) }
         ensures { Put (line (map decimal words.now)) self.old.used self.old.bytes self.new.bytes self.new.used }
     {
-        self.put_number(words[0] as usize);
-        for k in 1..words.len() {
-            self.put_field(words[k] as usize);
-        }
-        self.put(b'\n');
+        self.used = slice::put_words(words, self.used, &mut self.bytes);
     }
 }

@@ -1,6 +1,6 @@
--- `report_text::report_over` meets its contract: the page's bytes are the report and zeros after it.
+-- `report_text::report_over` meets its contract: the page's text is copied to the front, and zeros follow it.
 -- Assumes nothing.
-use Rattle.report_text.proofs.Whole.{misfit, paged}
+use Rattle.report_text.proofs.Whole.{misfit, shown}
 use Rattle.refusal.proofs.Clauses.{answer_and_writes}
 use Rattle.report_text.proofs.report_over.Goals as goal
 
@@ -10,4 +10,6 @@ returns-then-out-ne-MAX_TEXT c = answer_and_writes (misfit _ _ c.if-out-ne-MAX_T
 pub returns : goal.returns
 returns c =
     let page = c.put_report.new.page in
-    answer_and_writes (paged c.args.out.now c.if-out-ne-MAX_TEXT.false (rw c.new-page.ensures.used at c.put_report.ensures) page.whole page.inside page.rest c.copy_from_slice.ensures.after)
+    answer_and_writes
+    (shown c.args.out.now c.if-out-ne-MAX_TEXT.false (rw c.new-page.ensures.used at c.put_report.ensures) page.inside c.copy_from_slice.ensures.after
+    c.clear.ensures)

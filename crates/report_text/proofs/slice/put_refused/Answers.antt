@@ -1,11 +1,11 @@
--- `report_text::Page::put_refused` meets its contract.
+-- `report_text::put_refused` meets its contract.
 -- Assumes nothing.
 use mathlib.Core.Path.{◌≡◌, refl, sym, ap}
 use mathlib.Core.List.{[], ◌∷◌}
 use Rattle.report_text.specs.Text.{decimal, line}
 use Rattle.report_text.specs.Report.{⟨refused⟩, refused_line}
 use Rattle.report_text.proofs.Puts.{put_is, room-is}
-use Rattle.report_text.proofs.page.Page.put_refused.Goals as goal
+use Rattle.report_text.proofs.slice.put_refused.Goals as goal
 
 pub put_named-requires : goal.put_named-requires
 unfolding refused_line

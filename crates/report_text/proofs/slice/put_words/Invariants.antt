@@ -1,12 +1,12 @@
--- `report_text::Page::put_words` meets its contract. The loop's invariant: word 0 is put, and after it the words below k.
+-- `report_text::put_words` meets its contract. The loop's invariant: word 0 is put, and after it the words below k.
 -- Assumes nothing.
 use mathlib.Core.List.{[], ◌∷◌, ◌++◌}
 use lib.ListN.{drop}
 use Rattle.report_text.proofs.Puts.{Left}
 use Rattle.report_text.proofs.Lines.{fields}
-use Rattle.report_text.proofs.page.Page.put_words.Given as goal
+use Rattle.report_text.proofs.slice.put_words.Given as goal
 
 abbrev pub invariant-loop-k : goal.invariant-loop-k
 invariant-loop-k l =
     Left (fields (drop 1 l.words) ++ (10 ∷ [])) (fields (drop l.k l.words) ++ (10 ∷ []))
-    l.initial.self.used l.initial.self.bytes l.self.bytes l.self.used
+    l.initial.place l.initial.out l.out l.place

@@ -224,9 +224,20 @@ pub extern "C" fn test_body(album: &[u8], i: usize, out: &mut [u8]) -> usize
 {
     let part = album_calls::body(album, i);
     if out.len() == part.len() {
-        out.copy_from_slice(part);
+        copy(part, out);
     }
     part.len()
+}
+
+// The bytes of one slice in another, which is as long. A loop of its own: LLVM makes memcpy of it, where it makes memmove of
+// `copy_from_slice` between what a caller lends, and the archive is to ask for no more names than the engine does.
+fn copy(from: &[u8], to: &mut [u8])
+    requires { length from.now ≡ length to.old }
+    ensures { to.new ≡ from.now }
+{
+    for (k, byte) in from.iter().enumerate() {
+        to[k] = *byte;
+    }
 }
 
 // List i of an album; the answer is its naive degree.

@@ -68,7 +68,7 @@ fn gcd_in(
     if h.len() != field::longest_of(field) {
         return Err(Refusal::Misfit);
     }
-    h.copy_from_slice(res);
+    words::copy(res, h);
     Ok(Gcd {
         degree: NaiveDegree(found.words - 1),
         power: Power(least),
@@ -117,7 +117,7 @@ fn join_list(field: u8, list: &[u16], last: &mut [u16], res: &mut [u16], so_far:
         return so_far;
     }
     let power = lists::power_in(list).0;
-    last.copy_from_slice(res);
+    words::copy(res, last);
     // Two lists of the album, one of which is not zero: nothing is refused.
     let Ok(gcd) = list_gcd::gcd_over(field, &last[..so_far.words], list, res) else {
         return so_far;

@@ -7,19 +7,18 @@
 use mathlib.Core.Path.{◌≡◌, refl, sym, ◌∙◌, ap, ap₂}
 use mathlib.Core.Bool.{◌||◌}
 use mathlib.Core.List.{List, [], ◌∷◌, ◌++◌, append_assoc, append-nil}
-use Prim.Native.Nat.{ℕ, suc, ◌+◌, ◌-◌, ◌*◌, ◌<◌, ◌≤◌}
+use Prim.Native.Nat.{ℕ, suc, ◌+◌, ◌-◌, ◌*◌, ◌/◌, ◌%◌, ◌<◌, ◌≤◌}
 use native.Mathlib.Numerals.{add-one}
 use native.Mathlib.Omega.{arith}
 use lib.Dec.{ltb}
 use lib.ListN.{length, get_or, set, take, drop, length-take, length-drop, drop_of_length-le}
 use lib.Seq.{drop-cons, drop-length, take_all, take_at, drop-drop}
 use borrow.Rule.Slice.PartMut.{put_mid}
-use Rattle.std.specs.Int.{w16, to_le_bytes}
 use Rattle.std.specs.List.{list_any, sum_by}
 use Rattle.std.proofs.lemmas.Slice.{take-put_mid}
 use Rattle.std.proofs.lemmas.List.Recursion.{same_from_clauses, is_sum_by}
 use Rattle.refusal.specs.Limits.{entry_bytes}
-use Rattle.lists.specs.Bytes.{bytes_of}
+use Rattle.lists.specs.Bytes.{byte_values, bytes_of}
 use Rattle.album_layout.specs.Layout.{entry_at}
 use Rattle.album_writer.specs.Cut.{words_for}
 use Rattle.album_writer.specs.Calls.{has_high}
@@ -36,9 +35,10 @@ unfolding words_for
 words-sum = is_sum_by words_for (λ d. d + 1) refl (λ _ _. refl)
 
 -- ---- the entries
-two-bytes : (w : ℕ) → w < 65536 → to_le_bytes w16 w ≡ bytes_of (w ∷ [])
+-- the low and the high byte of a word
+pub two-bytes : (w : ℕ) {l h : ℕ} → l ≡ w % byte_values → h ≡ w / byte_values → l ∷ h ∷ [] ≡ bytes_of (w ∷ [])
 unfolding bytes_of
-two-bytes w l = ap₂ (λ a b. a ∷ b ∷ []) (omega arith) (omega arith)
+two-bytes w el eh = ap₂ (λ a b. a ∷ b ∷ []) el eh
 
 -- two halves of two bytes, written one after the other to a part of four bytes
 halves : (b c part : List ℕ) → length b ≡ 2 → length part ≡ 4 → put_mid 2 (length (b ++ drop 2 part) - 2) (b ++ drop 2 part) c ≡ b ++ c
@@ -51,13 +51,13 @@ module _ (degrees out : List ℕ) (k place : ℕ) where
   abbrev part : List ℕ
   part = take (entry_bytes * (k + 1) - entry_bytes * k) (drop (entry_bytes * k) out)
 
-  pub entries_next : {next : ℕ} {b c : List ℕ} → k < length degrees → length out ≡ entry_bytes * length degrees → get_or degrees k 0 < 65536 → place < 65536
-      → b ≡ to_le_bytes w16 (get_or degrees k 0) → c ≡ to_le_bytes w16 place → next ≡ place + 2 * (get_or degrees k 0 + 1)
+  pub entries_next : {next : ℕ} {b c : List ℕ} → k < length degrees → length out ≡ entry_bytes * length degrees → b ≡ bytes_of (get_or degrees k 0 ∷ [])
+      → c ≡ bytes_of (place ∷ []) → next ≡ place + 2 * (get_or degrees k 0 + 1)
       → take (entry_bytes * (k + 1)) (put_mid (entry_bytes * k) (entry_bytes * (k + 1) - entry_bytes * k) out (put_mid 2 (length (b ++ drop 2 part) - 2) (b ++ drop 2 part) c))
       ++ bytes_of (entries_by next (drop (k + 1) degrees))
       ≡ take (entry_bytes * k) out ++ bytes_of (entries_by place (drop k degrees))
   unfolding entries_by bytes_of
-  entries_next {next} {b} {c} l size ld lp eb ec ex =
+  entries_next {next} {b} {c} l size eb ec ex =
       ap (λ r. r ++ left) (take-put_mid (entry_bytes * k) (entry_bytes * (k + 1) - entry_bytes * k) out _ (entry_bytes * (k + 1)) (omega (arith, ap length four)) (omega arith))
       ∙ append_assoc (take (entry_bytes * k) out) _ left
       ∙ ap (λ r. take (entry_bytes * k) out ++ r) rest
@@ -68,7 +68,7 @@ module _ (degrees out : List ℕ) (k place : ℕ) where
       four : put_mid 2 (length (b ++ drop 2 part) - 2) (b ++ drop 2 part) c ≡ bytes_of (get_or degrees k 0 ∷ place ∷ [])
       four =
           halves b c part (ap length eb) (simp (length-take, length-drop) (omega arith))
-          ∙ ap₂ ◌++◌ (eb ∙ two-bytes (get_or degrees k 0) ld) (ec ∙ two-bytes place lp)
+          ∙ ap₂ ◌++◌ eb ec
 
       rest : put_mid 2 (length (b ++ drop 2 part) - 2) (b ++ drop 2 part) c ++ left ≡ bytes_of (entries_by place (drop k degrees))
       rest =

@@ -94,8 +94,9 @@ fn write_entries(degrees: &[u16], first: usize, out: &mut [u8])
     let mut place = first;
     for (k, &degree) in degrees.iter().enumerate() {
         let entry = &mut out[refusal::ENTRY_BYTES * k..refusal::ENTRY_BYTES * (k + 1)];
-        entry[..2].copy_from_slice(&degree.to_le_bytes());
-        entry[2..].copy_from_slice(&(place as u16).to_le_bytes());
+        entry[..2].copy_from_slice(&[words::low(degree), words::high(degree)]);
+        let at = place as u16;
+        entry[2..].copy_from_slice(&[words::low(at), words::high(at)]);
         place += 2 * (usize::from(degree) + 1);
     }
 }

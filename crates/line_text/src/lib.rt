@@ -34,7 +34,7 @@ fn put_text(field: u8, input: &[u8], page: &mut Page)
     ensures { Put (line_text field input.now) page.old.used page.old.bytes page.new.bytes page.new.used }
 {
     let end = line_end(input);
-    let start = (end + 1).min(input.len());
+    let start = words::smaller(end + 1, input.len());
     let line = &input[..end];
     let album = &input[start..];
     put_value(field, album, line, page);

@@ -223,7 +223,7 @@ impl Stack<'_> {
     {
         let k = self.sizes[self.top - 1];
         let from = self.filled - k;
-        let n = (k - 1).max(1);
+        let n = words::larger(k - 1, 1);
         // No call refuses a list of the stack.
         let _ = list_derivative::derivative_over(
             self.field,
@@ -263,7 +263,7 @@ fn operate(
     requires { (IsList (modulus field) (longest field) a.now) × (IsList (modulus field) (longest field) b.now) × (length room.old ≡ max_words) }
     ensures { Came (modulus field) (longest field) (operation (field_at field) (longest field) (byte_of operator) a.now b.now) room.new result }
 {
-    let n = a.len().max(b.len());
+    let n = words::larger(a.len(), b.len());
     match operator {
         Operator::Add => {
             let _ = list_sum::sum_over(field, a, b, &mut room[..n]);

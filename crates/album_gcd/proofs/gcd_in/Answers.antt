@@ -6,6 +6,7 @@ use Rattle.field.specs.Fields.{field_at}
 use Rattle.field.proofs.Fields.{longest-in, longest-full}
 use Rattle.album_layout.specs.Layout.{lists_of}
 use Rattle.album_layout.proofs.Passed.{passed-each}
+use Rattle.words.proofs.Transfer.{copied-fit}
 use Rattle.album_gcd.specs.Internal.{IsLeast}
 use Rattle.album_gcd.proofs.Judging.{judged-zero, judged-misfit, judged-done}
 use Rattle.album_gcd.proofs.Zeros.{nonzero}
@@ -30,7 +31,7 @@ returns c =
     let s = c.args.album.now in
     let found = c.join_lists-found.ensures in
     let some = subst (IsLeast (lists_of s)) c.in-Some.is found.least in
-    rw c.copy_from_slice.ensures.after
+    rw (c.copy.ensures ∙ copied-fit _ _ (omega (arith, c.requires.list_len, c.if-h-longest_of.false, c.longest_of.ensures)))
     (answered (field_at _) _ (longest-in _) s c.args.h.now
     (passed-each _ s c.requires.passed _ (omega (arith, longest-full c.args.field))) (nonzero (lists_of s) some.0)
     (judged-done _ _ s _ c.requires.passed some.0 (c.if-h-longest_of.false ∙ c.longest_of.ensures)) found some.1)

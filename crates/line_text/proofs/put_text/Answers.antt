@@ -19,4 +19,4 @@ slice_bounds-line-end c =
     sym (length-take-le _ _ inside)
 
 pub returns : goal.returns
-returns c = put_is (parts-text c.args.field c.args.input.now c.line_end-end.ensures c.min-start.ensures) refl c.put_value.ensures
+returns c = put_is (parts-text c.args.field c.args.input.now c.line_end-end.ensures c.smaller-start.ensures) refl c.put_value.ensures

@@ -26,18 +26,18 @@ pub slice_bounds-derivative_over-end-2 : goal.slice_bounds-derivative_over-end-2
 slice_bounds-derivative_over-end-2 c =
     let y = c.requires.lying.0 in
     let t = tops (longest-room c.args.self.now.field) y.st y.stacked c.requires.lying.1 in
-    omega (arith, c.requires.room_len, c.max-n.ensures, longest-room c.args.self.now.field)
+    omega (arith, c.requires.room_len, c.larger-n.ensures, longest-room c.args.self.now.field)
 
 pub slice_bounds-derivative_over-end-3 : goal.slice_bounds-derivative_over-end-3
 slice_bounds-derivative_over-end-3 c =
     let y = c.requires.lying.0 in
     let t = tops (longest-room c.args.self.now.field) y.st y.stacked c.requires.lying.1 in
-    simp length-take (omega (arith, c.requires.room_len, c.max-n.ensures, longest-room c.args.self.now.field))
+    simp length-take (omega (arith, c.requires.room_len, c.larger-n.ensures, longest-room c.args.self.now.field))
 
 pub returns : goal.returns
 returns c = λ a s h.
     let m = c.args.self.now in
     let room = c.args.room.now in
     came-derivative m.field a (h.lists.0) room c.requires.room_len
-    (c.max-n.ensures ∙ ap (λ k. max (k - 1) 1) (top-size a s h))
-    (c.derivative_over.ensures.writes ∙ ap (λ l. derivative_written m.field l (take c.max-n.result room)) (top-words a s h refl refl))
+    (c.larger-n.ensures ∙ ap (λ k. max (k - 1) 1) (top-size a s h))
+    (c.derivative_over.ensures.writes ∙ ap (λ l. derivative_written m.field l (take c.larger-n.result room)) (top-words a s h refl refl))

@@ -10,12 +10,47 @@ ghost use Rattle.lists.specs.Words.{ZeroFrom};
 ghost use Rattle.word_product.specs.Convolution.{convolved_into, convolution};
 ghost use Rattle.word_product.specs.Sums.{word_sum, Ready};
 
-// Two factors of at most so many words together take the smaller buffers, as there is less to fill with zeros.
+// Two factors of at most so many words together take the smaller buffers, as there is less to fill with zeros; any two take the largest.
 const FEW: usize = 48;
 
 const MORE: usize = 272;
 
 const MANY: usize = 704;
+
+const ANY: usize = refusal::MAX_WORDS;
+
+// The words of the buffers: for the first factor, for the second, for its pairs, and for each sum. A const argument has to be a name.
+const FEW_FIRST: usize = FEW + 16;
+
+const FEW_SECOND: usize = FEW + 48;
+
+const FEW_PAIRS: usize = 2 * FEW + 96;
+
+const FEW_SUMS: usize = FEW + 32;
+
+const MORE_FIRST: usize = MORE + 16;
+
+const MORE_SECOND: usize = MORE + 48;
+
+const MORE_PAIRS: usize = 2 * MORE + 96;
+
+const MORE_SUMS: usize = MORE + 32;
+
+const MANY_FIRST: usize = MANY + 16;
+
+const MANY_SECOND: usize = MANY + 48;
+
+const MANY_PAIRS: usize = 2 * MANY + 96;
+
+const MANY_SUMS: usize = MANY + 32;
+
+const ANY_FIRST: usize = ANY + 16;
+
+const ANY_SECOND: usize = ANY + 48;
+
+const ANY_PAIRS: usize = 2 * ANY + 96;
+
+const ANY_SUMS: usize = 2 * ANY + 32;
 
 // A product of two words.
 fn times(a: u16, b: u16) -> u64
@@ -133,7 +168,7 @@ fn tiny(n: usize) -> usize
     if n <= 4 { 24 } else { 20 }
 }
 
-// The product, where the lengths fit, with buffers of the sizes that it needs: multiples of 16 words.
+// The product, where the lengths fit, with buffers of the sizes that it needs.
 fn convolve_fitting(field: u8, a: &[u16], b: &[u16], out: &mut [u16])
     requires { (length a.now ≤ max_words) × (length b.now ≤ max_words) × (length out.old + 1 ≡ length a.now + length b.now) }
     ensures { out.new ≡ convolution (field_at field) a.now b.now }
@@ -144,18 +179,24 @@ fn convolve_fitting(field: u8, a: &[u16], b: &[u16], out: &mut [u16])
         return;
     }
     if together <= FEW {
-        convolve_sized::<64, 96, 192, 80>(field, a, b, out);
+        convolve_sized::<{ FEW_FIRST }, { FEW_SECOND }, { FEW_PAIRS }, { FEW_SUMS }>(
+            field, a, b, out,
+        );
         return;
     }
     if together <= MORE {
-        convolve_sized::<288, 320, 640, 304>(field, a, b, out);
+        convolve_sized::<{ MORE_FIRST }, { MORE_SECOND }, { MORE_PAIRS }, { MORE_SUMS }>(
+            field, a, b, out,
+        );
         return;
     }
     if together <= MANY {
-        convolve_sized::<720, 752, 1504, 736>(field, a, b, out);
+        convolve_sized::<{ MANY_FIRST }, { MANY_SECOND }, { MANY_PAIRS }, { MANY_SUMS }>(
+            field, a, b, out,
+        );
         return;
     }
-    convolve_sized::<1040, 1072, 2144, 2080>(field, a, b, out);
+    convolve_sized::<{ ANY_FIRST }, { ANY_SECOND }, { ANY_PAIRS }, { ANY_SUMS }>(field, a, b, out);
 }
 
 // The words of the product of two scaled forms.

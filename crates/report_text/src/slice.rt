@@ -76,13 +76,13 @@ pub fn put_refused(why: Refusal, at: usize, out: &mut [u8]) -> usize
 }
 
 // The words of a list on a line, one space between them.
-pub fn put_words(words: &[u16], at: usize, out: &mut [u8]) -> usize
-    requires { (0 < length words.now) × (Room (line (map decimal words.now)) at out.old) }
-    ensures { Put (line (map decimal words.now)) at out.old out.new result }
+pub fn put_words(h: &[u16], at: usize, out: &mut [u8]) -> usize
+    requires { (0 < length h.now) × (Room (line (map decimal h.now)) at out.old) }
+    ensures { Put (line (map decimal h.now)) at out.old out.new result }
 {
-    let mut place = put_number(words[0] as usize, at, out);
-    for k in 1..words.len() {
-        place = put_field(words[k] as usize, place, out);
+    let mut place = put_number(h[0] as usize, at, out);
+    for k in 1..h.len() {
+        place = put_field(h[k] as usize, place, out);
     }
     put(b'\n', place, out)
 }

@@ -8,5 +8,5 @@ use Rattle.report_text.proofs.slice.put_words.Given as goal
 
 abbrev pub invariant-loop-k : goal.invariant-loop-k
 invariant-loop-k l =
-    Left (fields (drop 1 l.words) ++ (10 ∷ [])) (fields (drop l.k l.words) ++ (10 ∷ []))
+    Left (fields (drop 1 l.h) ++ (10 ∷ [])) (fields (drop l.k l.h) ++ (10 ∷ []))
     l.initial.place l.initial.out l.out l.place

@@ -1,5 +1,5 @@
 -- Numbers read digit by digit, and cut off at the largest word.
---     number-next, number-end     one digit more, and all of them
+--     next, fold-value            one digit more, and all of them
 --     loose-capped                a number that is cut off is as loose as it was
 --     tight-capped                where none is loose, none is cut off
 -- Assumes nothing.
@@ -30,18 +30,15 @@ capped-from n digits = go (dec_le n 65535)
     go (yes l) = let e : capped n ≡ n = omega arith in ap (λ m. capped (value_from m digits)) e
     go (no l) = omega (arith, grows (capped n) digits, grows n digits)
 
--- one digit more, where both the product and the sum are cut off
+-- one digit more, cut off
 abbrev pub next : ℕ → ℕ → ℕ
-next n x = capped (capped (n * 10) + (x - ⟨0⟩))
+next n x = capped (10 * n + (x - ⟨0⟩))
 
 fold-from : (n : ℕ) (digits : List ℕ) → n ≤ 65535 → fold next n digits ≡ capped (value_from n digits)
 unfolding value_from
 fold-from n [] l = omega arith
 fold-from n (x ∷ digits) l =
-    let e : next n x ≡ capped (10 * n + (x - ⟨0⟩)) = omega arith in
-    fold-from (next n x) digits (omega arith)
-    ∙ ap (λ m. capped (value_from m digits)) e
-    ∙ capped-from (10 * n + (x - ⟨0⟩)) digits
+    fold-from (next n x) digits (omega arith) ∙ capped-from (10 * n + (x - ⟨0⟩)) digits
 
 pub fold-value : (digits : List ℕ) → fold next 0 digits ≡ capped (value_of digits)
 unfolding value_of

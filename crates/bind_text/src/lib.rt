@@ -9,7 +9,7 @@ ghost use Rattle.lists.specs.Refused.{wrong_length, any_of};
 ghost use Rattle.album_writer.specs.Calls.{written_reply};
 ghost use Rattle.bind_text.specs.Text.{lines_of, list_of, lists_in, value_of, is_other, has_other};
 ghost use Rattle.bind_text.specs.Calls.{text_refusals, bind_answer, bind_written};
-ghost use Rattle.bind_text.specs.Internal.{lines_left, capped, Sound, Loaded};
+ghost use Rattle.bind_text.specs.Internal.{lines_left, words_left, capped, Sound, Loaded};
 
 use refusal::Refusal;
 
@@ -22,6 +22,9 @@ const ALL_WORDS: usize = refusal::MAX_LISTS * refusal::MAX_WORDS;
 const LINE_END: u8 = b'\n';
 
 const SPACE: u8 = b' ';
+
+// The largest word.
+const MOST_WORD: usize = 65535;
 
 // The album of the lists that a text says, at the front of the target; the program's is that over field 0.
 pub fn bind_over(field: u8, text: &[u8], out: &mut [u8]) -> Result<usize, Refusal>
@@ -56,12 +59,12 @@ fn judge_text(text: &[u8]) -> Result<(), Refusal>
     Ok(())
 }
 
-// Whether no text has such a byte.
+// Whether no text has such a byte. Most bytes are digits, so these are tried first.
 #[tactic(auto, unfolding(crate::specs::Text::is_other))]
 fn is_other(x: u8) -> bool
     ensures { result ≡ is_other x }
 {
-    !matches!(x, LINE_END | SPACE | b'0'..=b'9')
+    !(x.is_ascii_digit() || x == SPACE || x == LINE_END)
 }
 
 // Whether some byte is such.
@@ -101,20 +104,51 @@ impl<'a> Iterator for Lines<'a> {
     }
 }
 
-// The number of lines.
+// The numbers that are left of a line, each as its digits.
+#[derive(Drop)]
+struct Words<'a>(&'a [u8]);
+
+impl<'a> Iterator for Words<'a> {
+    type Item = &'a [u8];
+
+    ghost next_gives = { YieldsFirstRef words_left };
+
+    ghost remaining = { item_count words_left };
+
+    fn next(&mut self) -> Option<&'a [u8]> {
+        let line = self.0;
+        let start = line.iter().position(|&x| x != SPACE)?;
+        let word = &line[start..];
+        match word.iter().position(|&x| x == SPACE) {
+            Some(end) => {
+                self.0 = &word[end + 1..];
+                Some(&word[..end])
+            }
+            None => {
+                self.0 = &[];
+                Some(word)
+            }
+        }
+    }
+}
+
+// The number of lines: one ends at each line end, and one more with the text where no line end comes last. Unlike a walk over
+// `Lines` the sum has no early way out, so it can be done on many bytes at once.
 fn count_lines(text: &[u8]) -> usize
     ensures { result ≡ length (lines_of text.now) }
 {
-    Lines(text).count()
+    let ends: usize = text.iter().map(|&x| usize::from(x == LINE_END)).sum();
+    match text.last() {
+        Some(&x) if x != LINE_END => ends + 1,
+        _ => ends,
+    }
 }
 
 // The number of words that a line says.
 fn words_in(line: &[u8]) -> usize
     ensures { result ≡ length (list_of line.now) }
 {
-    line.split(|&x| x == SPACE)
-        .filter(|part| !part.is_empty())
-        .count()
+    Words(line).count()
 }
 
 // Whether a line has no words, or more than a list may have.
@@ -134,10 +168,10 @@ fn has_wrong_line(text: &[u8]) -> bool
 }
 
 // What a digit stands for.
-fn digit(x: u8) -> u16
+fn digit(x: u8) -> usize
     ensures { (result ≡ x - 48) × (result < 256) }
 {
-    u16::from(x.saturating_sub(b'0'))
+    usize::from(x).saturating_sub(usize::from(b'0'))
 }
 
 // The number that digits say; the largest word where it is larger.
@@ -145,7 +179,7 @@ fn number(digits: &[u8]) -> u16
     ensures { result ≡ capped (value_of digits.now) }
 {
     digits.iter().fold(0, |value: u16, &x| {
-        value.saturating_mul(10).saturating_add(digit(x))
+        (10 * usize::from(value) + digit(x)).min(MOST_WORD) as u16
     })
 }
 
@@ -154,8 +188,7 @@ fn read_line(line: &[u8], out: &mut [u16])
     requires { length out.old ≡ length (list_of line.now) }
     ensures { out.new ≡ map capped (list_of line.now) }
 {
-    let words = line.split(|&x| x == SPACE).filter(|part| !part.is_empty());
-    for (n, digits) in words.enumerate() {
+    for (n, digits) in Words(line).enumerate() {
         out[n] = number(digits);
     }
 }

@@ -3,12 +3,11 @@
 use mathlib.Core.Path.{◌≡◌, sym, ◌∙◌}
 use mathlib.Core.Bool.{not}
 use mathlib.Core.List.{List, [], ◌∷◌}
-use Prim.Native.Nat.{ℕ, ◌-◌, ◌≤◌, ◌<◌}
-use native.Mathlib.Omega.{arith}
+use Prim.Native.Nat.{ℕ, ◌-◌, ◌<◌}
 use lib.Dec.{eqb}
 use lib.ListN.{length}
 use borrow.Author.Tests.{eqb-true, not-false, eq-eqb, ne_eqb}
-use Rattle.std.specs.Prelude.{Option, Some, None, Result, Ok, Err, SomeIff, MatchOption, IsSomeAnd}
+use Rattle.std.specs.Prelude.{Some, None, Result, Ok, Err}
 use Rattle.refusal.specs.Refusal.{reply}
 use Rattle.refusal.specs.Lowest.{lowest}
 use Rattle.refusal.specs.declared.Refusal.{Refusal}
@@ -16,7 +15,6 @@ use Rattle.refusal.specs.declared.Refusal.TheVariants.{AllZero, Misfit}
 use Rattle.refusal.proofs.First.{refuse, or_else, first_then, refuse-done, or-else-done}
 use Rattle.lists.specs.Degrees.{significant, extent, searched}
 use Rattle.lists.specs.Refused.{list_refusals}
-use Rattle.lists.specs.declared.Extent.{Extent}
 use Rattle.lists.proofs.Judged.{one-listed}
 use Rattle.list_extent.specs.Calls.{extent_reply, searched_reply, extent_values, extent_rows, trim_rows}
 use Rattle.list_extent.specs.Internal.{TrimFits}
@@ -41,15 +39,6 @@ module _ (p most : ℕ) (f : List ℕ) where
     pub extent-found : ¬ (n ≡ 0) → Answers (Ok (record { extent = Some (record { 0 = n - 1 }); read = record { 0 = r } }))
     unfolding extent_rows extent_values extent
     extent-found h = (simp (e, ne_eqb (significant f) 0 (λ z. h (w ∙ z)), w), simp (e, s))
-
-    -- the extent is n less 1, where that is a number
-    pub extent-searched : (top : Option ℕ) (found : Option Extent) → SomeIff top (1 ≤ n) (n - 1)
-        → MatchOption top (found ≡ None) (λ x. IsSomeAnd found (λ y. y.0 ≡ x))
-        → Answers (Ok (record { extent = found; read = record { 0 = r } }))
-    extent-searched None None t h = extent-zero (omega arith)
-    extent-searched None (Some y) t h = absurd (cc)
-    extent-searched (Some x) None t h = absurd h
-    extent-searched (Some x) (Some y) t h = rw (h ∙ t.1) (extent-found (λ z. absurd (omega arith)))
 
 module _ (p most : ℕ) (f out : List ℕ) where
   trim-judged : lowest (trim_rows p most f out)

@@ -31,10 +31,14 @@ pub fn extent_over(field: u8, f: &[u16]) -> Result<Search, Refusal>
 {
     lists::judge_list(field, f)?;
     let search = lists::search_from_top(f);
-    Ok(Search {
-        extent: search.words.checked_sub(1).map(Extent),
-        read: Searched(search.read),
-    })
+    let read = Searched(search.read);
+    match search.words.checked_sub(1) {
+        Some(top) => Ok(Search {
+            extent: Some(Extent(top)),
+            read,
+        }),
+        None => Ok(Search { extent: None, read }),
+    }
 }
 
 // The trim over a field.

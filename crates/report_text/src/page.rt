@@ -1,4 +1,5 @@
-// A text that grows: bytes, and how many of them are used; the others are 0.
+// A text that grows: bytes, and how many of them are used; the others are 0. Each method puts its text as the function of that name for any
+// slice does, after the text that the page has.
 ghost use Rattle.std.specs.Prelude.{◌≡◌, [], ◌∷◌, map, ◌≤◌, ◌<◌, length, replicate};
 ghost use Rattle.lists.specs.Words.{ZeroFrom};
 ghost use Rattle.report_text.specs.Text.{decimal, line};

@@ -35,10 +35,6 @@ pub decimal-one : (n : ℕ) → n < 10 → decimal n ≡ digit n ∷ []
 unfolding decimal
 decimal-one n l = in_one n n l
 
--- the same with the last digit as the code has it
-pub decimal-below : (n : ℕ) → n < 10 → decimal n ≡ digit (n % 10) ∷ []
-decimal-below n l = let e : n ≡ n % 10 = omega arith in decimal-one n l ∙ ap (λ m. digit m ∷ []) e
-
 pub decimal-more : (n : ℕ) → 10 ≤ n → decimal n ≡ decimal (n / 10) ++ (digit (n % 10) ∷ [])
 unfolding decimal
 decimal-more zero l = absurd (omega arith)

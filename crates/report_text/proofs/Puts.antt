@@ -49,10 +49,6 @@ room-first t u w = record { fits = omega (arith, w.fits, length-append t u) }
 pub put_is : {t u : List ℕ} {at r k : ℕ} {a b : List ℕ} → t ≡ u → r ≡ k → Put t at a b r → Put u at a b k
 put_is {t} {u} {at} {r} {k} {a} {b} e q x = subst (λ l. Put l at a b k) e (subst (λ n. Put t at a b n) q x)
 
--- the bytes after a text stay 0
-pub zeros-stay : {t : List ℕ} {at r : ℕ} {a b : List ℕ} → Put t at a b r → ZeroFrom at a → ZeroFrom r b
-zeros-stay x z = record { at = λ k l. x.after k l ∙ z.at k (omega (arith, x.next)) }
-
 -- the bytes of a page with no text
 abbrev zeros : ℕ → List ℕ
 zeros n = replicate n 0
